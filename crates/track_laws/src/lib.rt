@@ -1,0 +1,5 @@
+// A search over the keys of doubles replies with a key, or with none.
+pub enum Next {
+    At(u64),
+    Nothing,
+}
