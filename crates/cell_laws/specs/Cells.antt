@@ -11,10 +11,13 @@ use lib.ListN.{getElem?}
 use lib.Ieee.{Float, le}
 use Rattle.gf.specs.Lerp.{Inside}
 use Rattle.definitions.specs.declared.StageTime.{StageTime}
-use Rattle.definitions.specs.ClipSet.{Activation, ClipSet, stage, clip}
+use Rattle.definitions.specs.declared.Start.{Start}
+use Rattle.definitions.specs.ClipSet.{ClipSet, stage, clip}
 use Rattle.definitions.specs.Timing.{lastAtMost, activePosition, mapTime, mapStageToClip}
 use Rattle.definitions.specs.Samples.{Samples, clipTimes, heldPlace}
-use Rattle.definitions.specs.Value.{Source, sample, absent, sampleOf, readClip, contributes, manifestDefault, gapSource, _orElse_, sourceAt, directSource, valueSource}
+use Rattle.definitions.specs.declared.Source.{Source}
+use Rattle.definitions.specs.declared.Source.the-variants.{Sample as sample, Absent as absent}
+use Rattle.definitions.specs.Value.{sampleOf, readClip, contributes, manifestDefault, gapSource, _orElse_, sourceAt, directSource, valueSource}
 use Rattle.cell_laws.specs.Places.{Fits, place-mono}
 use Rattle.cell_laws.specs.Knots.{Line, lineOf, along, map-along, line-same, map-fits, map-turns}
 use Rattle.cell_laws.specs.Direct.{SoundSet, SoundSamples, clip-fit}
@@ -41,7 +44,7 @@ anySample [] = false
 anySample (x ∷ xs) = true
 
 -- the cell of the direct reading at t
-abbrev entryCell : ClipSet → Samples → Float → ℕ → Option Activation → Cell
+abbrev entryCell : ClipSet → Samples → Float → ℕ → Option Start → Cell
 entryCell set s t p none = constant absent
 entryCell set s t p (some a) =
     cond (contributes set a && anySample (clipTimes s (a .clip))) (reading (a .clip) (lineOf (set .knots) t))
@@ -68,7 +71,7 @@ read-through s (reading c line) j k e = ap (sample c) e
 -- ---- the direct reading by its cell
 
 module _ (set : ClipSet) (s : Samples) where
-  entry-reads : (t : Float) (p : ℕ) (o : Option Activation) → sourceAt set s (stage t) p o ≡ readCell s (entryCell set s t p o) t
+  entry-reads : (t : Float) (p : ℕ) (o : Option Start) → sourceAt set s (stage t) p o ≡ readCell s (entryCell set s t p o) t
   unfolding readCell readClip mapStageToClip heldPlace
   entry-reads t p none = refl
   entry-reads t p (some a) = go (contributes set a) (clipTimes s (a .clip)) refl
@@ -87,7 +90,7 @@ module _ (set : ClipSet) (s : Samples) where
   unfolding directSource directCell
   direct-reads t = entry-reads t (activePosition (set .active) (stage t)) (getElem? (set .active) (activePosition (set .active) (stage t)))
 
-  entry-line : (j t : Float) (p : ℕ) (o : Option Activation) → lineOf (set .knots) j ≡ lineOf (set .knots) t → entryCell set s j p o ≡ entryCell set s t p o
+  entry-line : (j t : Float) (p : ℕ) (o : Option Start) → lineOf (set .knots) j ≡ lineOf (set .knots) t → entryCell set s j p o ≡ entryCell set s t p o
   entry-line j t p none e = refl
   entry-line j t p (some a) e = rw e
 
@@ -151,7 +154,7 @@ module _ (set : ClipSet) (s : Samples) (S : SoundSet set) (A : SoundSamples s) (
       p : ℕ
       p = activePosition (set .active) (stage t)
 
-      entry : (o : Option Activation) → CellRises s (entryCell set s t p o) t u ⊎ CellFalls s (entryCell set s t p o) t u
+      entry : (o : Option Start) → CellRises s (entryCell set s t p o) t u ⊎ CellFalls s (entryCell set s t p o) t u
       entry none = constant-turns absent
       entry (some a) = go (contributes set a && anySample (clipTimes s (a .clip)))
         where

@@ -15,11 +15,14 @@ use Rattle.definitions.specs.declared.ClipTime.{ClipTime}
 use Rattle.definitions.specs.Doubles.{FiniteDouble, ascending}
 use Rattle.gf.specs.Exactly.{within, within-finite}
 use Rattle.definitions.specs.declared.Knot.{Knot}
-use Rattle.definitions.specs.ClipSet.{Activation, ClipSet, activeTimes, knotTimes, anyUnstorable, stage, clip}
+use Rattle.definitions.specs.declared.Start.{Start}
+use Rattle.definitions.specs.ClipSet.{ClipSet, activeTimes, knotTimes, anyUnstorable, stage, clip}
 use Rattle.definitions.specs.Timing.{lastAtMost, activePosition, mapTime, mapStageToClip}
 use Rattle.definitions.specs.Samples.{Samples, clipBegin, clipEnd, clipTimes, heldPlace}
-use Rattle.definitions.specs.Value.{Source, sampleOf, readClip, manifestDefault, gapSource, _orElse_, contributes, sourceAt, directSource}
-use Rattle.cell_laws.specs.Every.{Every, every-unless, every-map, every-zip, every-take, every-drop}
+use Rattle.definitions.specs.declared.Source.{Source}
+use Rattle.definitions.specs.Value.{sampleOf, readClip, manifestDefault, gapSource, _orElse_, contributes, sourceAt, directSource}
+use Rattle.set_laws.specs.Every.{Every}
+use Rattle.cell_laws.specs.Every.{every-unless, every-map, every-zip, every-take, every-drop}
 use Rattle.cell_laws.specs.Places.{Fits, Clear, place-mono, place-same}
 use Rattle.cell_laws.specs.Knots.{SoundKnot, Alike, map-fits, map-turns, map-alike, clear-alike}
 
@@ -60,7 +63,7 @@ clip-fit s A c =
 
 -- ---- the place of the sample that is read
 
-abbrev placeIn : ClipSet → Samples → StageTime → Option Activation → ℕ
+abbrev placeIn : ClipSet → Samples → StageTime → Option Start → ℕ
 placeIn set s t none = 0
 placeIn set s t (some a) = lastAtMost (clipTimes s (a .clip)) (mapTime (set .knots) (t .0))
 
@@ -78,7 +81,7 @@ module _ (set : ClipSet) (s : Samples) where
   unfolding readClip mapStageToClip
   read-through c j k e = ap (sampleOf c) (held-through (clipTimes s c) (clip (mapTime (set .knots) j)) (clip (mapTime (set .knots) k)) e)
 
-  source-through : (j k : Float) (p : ℕ) (o : Option Activation) → placeIn set s (stage j) o ≡ placeIn set s (stage k) o → sourceAt set s (stage j) p o ≡ sourceAt set s (stage k) p o
+  source-through : (j k : Float) (p : ℕ) (o : Option Start) → placeIn set s (stage j) o ≡ placeIn set s (stage k) o → sourceAt set s (stage j) p o ≡ sourceAt set s (stage k) p o
   source-through j k p none e = refl
   source-through j k p (some a) e =
       ap (λ (r : Option Source). cond (contributes set a) r none orElse manifestDefault set orElse gapSource set s p) (read-through (a .clip) j k e)
@@ -88,7 +91,7 @@ module _ (set : ClipSet) (s : Samples) where
       → placeRead set s (stage j) ≡ placeRead set s (stage k) → directSource set s (stage j) ≡ directSource set s (stage k)
   unfolding directSource placeRead
   direct-through j k e f =
-      let o : ℕ → Option Activation = λ p. getElem? (set .active) p in
+      let o : ℕ → Option Start = λ p. getElem? (set .active) p in
       ap (λ (p : ℕ). sourceAt set s (stage j) p (o p)) e
       ∙ source-through j k (activePosition (set .active) (stage k)) (o (activePosition (set .active) (stage k))) (sym (ap (λ (p : ℕ). placeIn set s (stage j) (o p)) e) ∙ f)
 
@@ -109,7 +112,7 @@ abbrev pub PlaceFalls : ClipSet → Samples → Float → Float → Type 0
 PlaceFalls set s t u = (j k : Float) → Inside t u j → Inside t u k → T (le j k) → placeRead set s (stage k) ≤ placeRead set s (stage j)
 
 module _ (set : ClipSet) (s : Samples) (S : SoundSet set) (A : SoundSamples s) where
-  place-in-mono : (j k : Float) (o : Option Activation) → Fits j → Fits k → T (le (mapTime (set .knots) j) (mapTime (set .knots) k)) → placeIn set s (stage j) o ≤ placeIn set s (stage k) o
+  place-in-mono : (j k : Float) (o : Option Start) → Fits j → Fits k → T (le (mapTime (set .knots) j) (mapTime (set .knots) k)) → placeIn set s (stage j) o ≤ placeIn set s (stage k) o
   place-in-mono j k none fj fk h = zero-le
   place-in-mono j k (some a) fj fk h =
       place-mono (mapTime (set .knots) j) (mapTime (set .knots) k) (map-fits (set .knots) (S .knots) j fj) (map-fits (set .knots) (S .knots) k fk) h (clipTimes s (a .clip)) (clip-fit s A (a .clip))
@@ -121,7 +124,7 @@ module _ (set : ClipSet) (s : Samples) (S : SoundSet set) (A : SoundSamples s) w
     | inr r ↦ inr (λ j k I J l. rw (at j I, at k J) (place-in-mono k j o (J .ft) (I .ft) (r j k I J l)))
   ]
     where
-      o : Option Activation
+      o : Option Start
       o = getElem? (set .active) (activePosition (set .active) (stage t))
 
       at : (j : Float) → Inside t u j → placeRead set s (stage j) ≡ placeIn set s (stage j) o
@@ -136,7 +139,7 @@ module _ (set : ClipSet) (s : Samples) (S : SoundSet set) (A : SoundSamples s) w
         let f = starts-fit set S in
         place-same t u ft fu (a .0) (activeTimes (set .active)) f (clear-alike t u ft fu a (activeTimes (set .active)) f)
 
-    place-in-alike : (o : Option Activation) → placeIn set s (stage t) o ≡ placeIn set s (stage u) o
+    place-in-alike : (o : Option Start) → placeIn set s (stage t) o ≡ placeIn set s (stage u) o
     place-in-alike none = refl
     place-in-alike (some e) =
         let m = mapTime (set .knots) t in

@@ -11,7 +11,8 @@ use lib.Ieee.{Float, isNan, lt, le}
 use Rattle.gf.specs.Key.{le-trans, le-refl, le-no-nan, lt→le, lt-not-le, lt-le-trans, le-or-lt}
 use Rattle.definitions.specs.Lists.{keep}
 use Rattle.definitions.specs.Value.{upperNeighbour, minimum, smallest}
-use Rattle.cell_laws.specs.Every.{Every, every-zip, every-keep, every-kept}
+use Rattle.set_laws.specs.Every.{Every}
+use Rattle.cell_laws.specs.Every.{every-zip, every-keep, every-kept}
 use Rattle.cell_laws.specs.Places.{Fits, Clear}
 
 -- a double that is no NaN

@@ -8,10 +8,12 @@ use lib.Ieee.{Float, binary64, fits, round, add, sub, mul, div, neg, lt, le, eq,
 use Rattle.gf.specs.Exactly.{within}
 use Rattle.gf.specs.Lerp.{lerp, share}
 use Rattle.definitions.specs.declared.Knot.{Knot}
-use Rattle.definitions.specs.ClipSet.{Activation, ClipSet, stage}
+use Rattle.definitions.specs.declared.Start.{Start}
+use Rattle.definitions.specs.ClipSet.{ClipSet, stage}
 use Rattle.definitions.specs.Timing.{lastAtMost, activePosition, onSegment, mapTime, mapStageToClip}
 use Rattle.definitions.specs.Samples.{Samples, clipBegin, clipEnd, clipTimes, heldPlace}
-use Rattle.definitions.specs.Value.{sample, blockedAt, contributes, readClip, directSource, window, stageTimesForClipTime, windowSampleTimes, gathered, lowerNeighbour, upperNeighbour, jump}
+use Rattle.definitions.specs.declared.Source.the-variants.{Sample as sample}
+use Rattle.definitions.specs.Value.{blockedAt, contributes, readClip, directSource, window, stageTimesForClipTime, windowSampleTimes, gathered, lowerNeighbour, upperNeighbour, jump}
 use Rattle.cell_laws.specs.Knots.{flat, segment, lineOf}
 use Rattle.cell_laws.specs.Direct.{SoundSet, SoundSamples}
 use Rattle.cell_laws.specs.Stretches.{heldFrom}
@@ -24,17 +26,17 @@ frac a b = round binary64 false a b
 abbrev at : ℕ → ℕ → Knot
 at x y = record { x = frac x 1; y = frac y 1 }
 
-abbrev start : ℕ → Activation
+abbrev start : ℕ → Start
 start t = record { time = frac t 1; clip = 0 }
 
 -- knots (0,2) (3,10), and where they are to jump (3,0); clip 0 from 0 on, and again from 1000 on
-abbrev set : List Activation → List Knot → ClipSet
+abbrev set : List Start → List Knot → ClipSet
 set active knots = record { clips = 1; active = active; knots = knots; blocks = []; default = record { mark = 2; value = frac 0 1 }; interpolateMissing = false }
 
-abbrev one : List Activation
+abbrev one : List Start
 one = start 0 ∷ []
 
-abbrev two : List Activation
+abbrev two : List Start
 two = start 0 ∷ start 1000 ∷ []
 
 abbrev ramp : List Knot

@@ -12,7 +12,8 @@ use Rattle.definitions.specs.Lists.{any, keep, pairs, gather}
 use Rattle.definitions.specs.ClipSet.{ClipSet, knotTimes, clip}
 use Rattle.definitions.specs.Samples.{Samples}
 use Rattle.definitions.specs.Value.{contains, window, spans, inverse, onPair, stageTimesForClipTime, startOf, windowSampleTimes, contributedTimes, gathered}
-use Rattle.cell_laws.specs.Every.{Every, every-append, both-l, both-r, or-l, or-r, or-split}
+use Rattle.set_laws.specs.Every.{Every}
+use Rattle.cell_laws.specs.Every.{every-append, both-l, both-r, or-l, or-r, or-split}
 
 module _ {A : Type 0} where
   any-left : (p : A → Bool) (a b : List A) → T (any p a) → T (any p (a ++ b))

@@ -16,13 +16,15 @@ use Rattle.definitions.specs.Doubles.{FiniteDouble}
 use Rattle.definitions.specs.ClipSet.{ClipSet, activeTimes, knotTimes, stage}
 use Rattle.definitions.specs.Timing.{activePosition}
 use Rattle.definitions.specs.Samples.{Samples}
-use Rattle.definitions.specs.Value.{Source, says, directSource, upperNeighbour, valueSource, valueInSet}
+use Rattle.definitions.specs.declared.Source.{Source}
+use Rattle.definitions.specs.Value.{says, directSource, upperNeighbour, valueSource, valueInSet}
 use Rattle.definitions.specs.Track.{Entry, entryOf}
 use Rattle.track_laws.specs.Steps.{Once, Level, StopAt, grows-once, falls-once}
 use Rattle.track_laws.specs.Steps.{FirstStep}
 use Rattle.track_laws.specs.declared.Next.{Next}
 use Rattle.track_laws.specs.declared.Next.the-variants.{At, Nothing}
-use Rattle.cell_laws.specs.Every.{Every, every-zip}
+use Rattle.set_laws.specs.Every.{Every}
+use Rattle.cell_laws.specs.Every.{every-zip}
 use Rattle.cell_laws.specs.Places.{Fits, Clear, place-same}
 use Rattle.cell_laws.specs.Knots.{alike-eq, clear-parts}
 use Rattle.cell_laws.specs.Direct.{SoundSet, SoundSamples, starts-fit, SameStart, placeRead, place-turns, direct-through}

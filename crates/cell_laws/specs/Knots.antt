@@ -16,7 +16,8 @@ use Rattle.definitions.specs.declared.Knot.{Knot}
 use Rattle.definitions.specs.Lists.{any}
 use Rattle.definitions.specs.ClipSet.{knotTimes}
 use Rattle.definitions.specs.Timing.{lastAtMost, lastKnot, onSegment, mapTime}
-use Rattle.cell_laws.specs.Every.{Every, every-map, every-getD, every-of-map, or-l, or-not, nor-l}
+use Rattle.set_laws.specs.Every.{Every}
+use Rattle.cell_laws.specs.Every.{every-map, every-getD, every-of-map, or-l, or-not, nor-l}
 use Rattle.cell_laws.specs.Places.{Fits, Clear, not-le-lt, le-same, lt-same, place-same}
 
 -- a stored knot: two doubles of size 2 ^ 40 at most

@@ -16,7 +16,8 @@ use Rattle.definitions.specs.ClipSet.{ClipSet, stage}
 use Rattle.definitions.specs.Timing.{activePosition}
 use Rattle.definitions.specs.Samples.{Samples}
 use Rattle.definitions.specs.Value.{directSource, gathered, lowerNeighbour, upperNeighbour, maximum, minimum, greatest, jump}
-use Rattle.cell_laws.specs.Every.{Every, any-with, every-zip, every-keep, every-kept}
+use Rattle.set_laws.specs.Every.{Every}
+use Rattle.cell_laws.specs.Every.{any-with, every-zip, every-keep, every-kept}
 use Rattle.cell_laws.specs.Places.{Fits, le-same, lt-same}
 use Rattle.cell_laws.specs.Knots.{SoundKnot, Alike, alike-eq}
 use Rattle.cell_laws.specs.Direct.{SoundSet, SoundSamples, direct-alike}

@@ -13,7 +13,8 @@ use Rattle.gf.specs.Key.{same-test, le-trans, le-or-lt, le-lt-trans, lt-not-le,
 use Rattle.definitions.specs.Lists.{any, all, keep, pairs, pairsFrom}
 use Rattle.definitions.specs.Doubles.{ascending}
 use Rattle.definitions.specs.Timing.{lastAtMost}
-use Rattle.cell_laws.specs.Every.{Every, both, both-l, both-r, or-l, or-r, or-not, nor-r}
+use Rattle.set_laws.specs.Every.{Every}
+use Rattle.cell_laws.specs.Every.{both, both-l, both-r, or-l, or-r, or-not, nor-r}
 
 -- a double, as a program holds it
 abbrev pub Fits : Float → Type 0

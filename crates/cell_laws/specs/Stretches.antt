@@ -14,11 +14,13 @@ use Rattle.gf.specs.Lerp.{Inside}
 use Rattle.definitions.specs.declared.Knot.{Knot}
 use Rattle.definitions.specs.declared.StageTime.{StageTime}
 use Rattle.definitions.specs.Lists.{keep}
-use Rattle.definitions.specs.ClipSet.{Activation, ClipSet, activeTimes, knotTimes, stage}
+use Rattle.definitions.specs.declared.Start.{Start}
+use Rattle.definitions.specs.ClipSet.{ClipSet, activeTimes, knotTimes, stage}
 use Rattle.definitions.specs.Timing.{lastAtMost, activePosition}
 use Rattle.definitions.specs.Samples.{Samples}
 use Rattle.definitions.specs.Value.{directSource, gathered, lowerNeighbour, upperNeighbour, maximum, greatest, jump, between, readingTime, valueSource}
-use Rattle.cell_laws.specs.Every.{Every, every-map, every-keep}
+use Rattle.set_laws.specs.Every.{Every}
+use Rattle.cell_laws.specs.Every.{every-map, every-keep}
 use Rattle.cell_laws.specs.Places.{Fits, Clear}
 use Rattle.cell_laws.specs.Knots.{Alike, alike-eq, knots-fit, clear-parts, clear-alike}
 use Rattle.cell_laws.specs.Direct.{SoundSet, SoundSamples, SameStart, PlaceRises, PlaceFalls, placeRead, place-turns, direct-through, direct-alike}
@@ -82,7 +84,7 @@ lower-fits times t h = maximum-one Fits (keep (λ (x : Float). le x t) times) (e
 
 -- ---- the rule
 
-few-first : (active : List Activation) (t : Float) → ltb 1 (length active) ≡ false → lastAtMost (activeTimes active) t ≡ 0
+few-first : (active : List Start) (t : Float) → ltb 1 (length active) ≡ false → lastAtMost (activeTimes active) t ≡ 0
 unfolding lastAtMost
 few-first [] t e = refl
 few-first (a ∷ []) t e = refl

@@ -17,14 +17,18 @@ use Rattle.definitions.specs.declared.Answer.{Answer}
 use Rattle.definitions.specs.declared.Answer.the-variants.{Value, Blocked, Absent}
 use Rattle.definitions.specs.declared.StageTime.{StageTime}
 use Rattle.definitions.specs.Lists.{any, all, pairsFrom}
-use Rattle.definitions.specs.Doubles.{0·0, lowest, nextLower, FiniteDouble, ascending}
+use Rattle.gf.specs.Doubles.{0·0}
+use Rattle.definitions.specs.Doubles.{lowest, nextLower, FiniteDouble, ascending}
 use Rattle.definitions.specs.ClipSet.{ClipSet, markValue, stage}
 use Rattle.definitions.specs.Samples.{Samples, clipBegin}
-use Rattle.definitions.specs.Value.{Source, sample, default, blocked, absent, says, valueSource, valueInSet}
+use Rattle.definitions.specs.declared.Source.{Source}
+use Rattle.definitions.specs.declared.Source.the-variants.{Sample as sample, Default as default, Blocked as blocked, Absent as absent}
+use Rattle.definitions.specs.Value.{says, valueSource, valueInSet}
 use Rattle.definitions.specs.Track.{Entry, entryOf, alike, Change, Track, changeTimes, readTrack, readFrom, valueAt, differs, changeAt, IsChange, TrackOf}
 use Rattle.track_laws.specs.Track as steps
 use Rattle.track_laws.specs.Laws.{held-low, held-rest, rising-has, track-of, track-unique}
-use Rattle.cell_laws.specs.Every.{Every, every-getD, both, both-l, both-r, or-l, or-r, or-split}
+use Rattle.set_laws.specs.Every.{Every}
+use Rattle.cell_laws.specs.Every.{every-getD, both, both-l, both-r, or-l, or-r, or-split}
 use Rattle.cell_laws.specs.Places.{Fits}
 use Rattle.cell_laws.specs.Direct.{SoundSet, SoundSamples}
 use Rattle.cell_laws.specs.Keys.{entryAtKey, entry-of-key}

@@ -15,27 +15,30 @@ use Rattle.gf.specs.Exactly.{within-finite}
 use Rattle.gf.specs.Key.{finite-no-nan, le-trans, le-or-lt, le-lt-trans, lt-le-trans, le-no-nan, lt→le}
 use Rattle.definitions.specs.declared.Knot.{Knot}
 use Rattle.definitions.specs.Lists.{any, all, keep, pairs, pairsFrom, gather}
-use Rattle.definitions.specs.Doubles.{FiniteDouble, ascending, _⊖_, _⊗_, _⊘_}
-use Rattle.definitions.specs.ClipSet.{Activation, ClipSet, activeTimes, knotTimes, clip}
+use Rattle.gf.specs.Doubles.{_⊖_, _⊗_, _⊘_}
+use Rattle.definitions.specs.Doubles.{FiniteDouble, ascending}
+use Rattle.definitions.specs.declared.Start.{Start}
+use Rattle.definitions.specs.ClipSet.{ClipSet, activeTimes, knotTimes, clip}
 use Rattle.definitions.specs.Timing.{lastAtMost}
 use Rattle.definitions.specs.Samples.{Samples, clipTimes}
 use Rattle.definitions.specs.Value.{contains, timeOr, window, spans, inverse, onPair, stageTimesForClipTime, startOf, windowSampleTimes, contributes, contributedTimes, gathered, lowerNeighbour, upperNeighbour, maximum, minimum}
-use Rattle.cell_laws.specs.Every.{Every, every-map, every-zip, every-append, every-left, every-right, every-keep, every-kept, every-gather, every-of-map, both, both-l, both-r, or-not, nor-l}
+use Rattle.set_laws.specs.Every.{Every}
+use Rattle.cell_laws.specs.Every.{every-map, every-zip, every-append, every-left, every-right, every-keep, every-kept, every-gather, every-of-map, both, both-l, both-r, or-not, nor-l}
 use Rattle.cell_laws.specs.Places.{Fits, Clear, not-le-lt, any-le, keep-le-same, keep-lt-same}
 use Rattle.cell_laws.specs.Knots.{SoundKnot, knots-fit}
 use Rattle.cell_laws.specs.Direct.{SoundSet, SoundSamples, starts-fit, clip-fit}
 
 -- how many starts at t or before
-abbrev reach : Float → List Activation → Bool
+abbrev reach : Float → List Start → Bool
 reach t active = any (λ (y : Float). le y t) (activeTimes active)
 
-abbrev at : Float → List Activation → ℕ
+abbrev at : Float → List Start → ℕ
 at t active = lastAtMost (activeTimes active) t
 
 -- ---- the active start and the next
 
 -- the next start is above t
-next-above : (t : Float) (active : List Activation) → Every (λ (n : Float). T (not (le n t))) (startOf (getElem? active (suc (at t active))))
+next-above : (t : Float) (active : List Start) → Every (λ (n : Float). T (not (le n t))) (startOf (getElem? active (suc (at t active))))
 unfolding lastAtMost
 next-above t [] = tt
 next-above t (a ∷ []) = tt
@@ -47,7 +50,7 @@ next-above t (a ∷ b ∷ rest) = go (reach t (b ∷ rest)) (next-above t (b ∷
     go false r n = (n tt, tt)
 
 -- a start that is reached: the active one is
-active-reached : (t : Float) (active : List Activation) → T (reach t active) → T (le (timeOr (inf true) (getElem? active (at t active))) t)
+active-reached : (t : Float) (active : List Start) → T (reach t active) → T (le (timeOr (inf true) (getElem? active (at t active))) t)
 unfolding lastAtMost
 active-reached t [] h = absurd h
 active-reached t (a ∷ rest) h = go (reach t rest) (active-reached t rest) (λ n. or-not (le (a .time) t) (reach t rest) h n)
@@ -71,12 +74,12 @@ inf-above (inf s) h = absurd h
 inf-above (fin s m e) h = tt
 
 -- what holds of every start's time holds of one of them
-every-start : (P : Float → Type 0) (active : List Activation) (i : ℕ) → Every P (activeTimes active) → Every P (startOf (getElem? active i))
+every-start : (P : Float → Type 0) (active : List Start) (i : ℕ) → Every P (activeTimes active) → Every P (startOf (getElem? active i))
 every-start P [] i h = tt
 every-start P (a ∷ rest) zero h = (h .0, tt)
 every-start P (a ∷ rest) (suc i) h = every-start P rest i (h .1)
 
-every-timeOr : (P : Float → Type 0) (d : Float) (o : Option Activation) → P d → Every P (startOf o) → P (timeOr d o)
+every-timeOr : (P : Float → Type 0) (d : Float) (o : Option Start) → P d → Every P (startOf o) → P (timeOr d o)
 every-timeOr P d none p h = p
 every-timeOr P d (some a) p h = h .0
 
@@ -86,7 +89,7 @@ inf-fits s = tt
 
 -- ---- what lies from t to u lies in t's window, if the next start does not
 
-window-min : (t x : Float) → Fits t → Fits x → T (le t x) → (active : List Activation) → Every Fits (activeTimes active) → T (le (window active (at t active) .min) x)
+window-min : (t x : Float) → Fits t → Fits x → T (le t x) → (active : List Start) → Every Fits (activeTimes active) → T (le (window active (at t active) .min) x)
 unfolding window lastAtMost
 window-min t x ft fx h [] f = inf-below x (le-no-nan t x h .1)
 window-min t x ft fx h (a ∷ rest) f = go (reach t rest) (active-reached t rest)
@@ -104,14 +107,14 @@ module _ (t u : Float) (ft : Fits t) (fu : Fits u) (h : T (le t u)) where
   above-u : (n : Float) → FiniteDouble n → T (not (le n t)) → Clear t u n → T (lt u n)
   above-u n f p c = not-le-lt n u (f .fitting) fu (finite-no-nan n (f .finitely)) (le-no-nan t u h .1) (not-T (le n u) (λ q. T-not (le n t) p (c q)))
 
-  window-max : (x : Float) → Fits x → T (finite x) → T (le x u) → (o : Option Activation) → Every FiniteDouble (startOf o) → Every (λ (n : Float). T (not (le n t))) (startOf o) → Every (Clear t u) (startOf o)
+  window-max : (x : Float) → Fits x → T (finite x) → T (le x u) → (o : Option Start) → Every FiniteDouble (startOf o) → Every (λ (n : Float). T (not (le n t))) (startOf o) → Every (Clear t u) (startOf o)
       → T (lt x (timeOr (inf false) o))
   window-max x fx gx l none f p c = inf-above x gx
   window-max x fx gx l (some a) f p c = le-lt-trans x u (a .time) fx fu (f .0 .fitting) l (above-u (a .time) (f .0) (p .0) (c .0))
 
   -- ---- the active start stays while the next is not passed
 
-  none-reached : (b : Activation) (rest : List Activation) → Every Fits (activeTimes (b ∷ rest)) → T (ascending (activeTimes (b ∷ rest))) → T (not (le (b .time) u)) → T (not (reach u (b ∷ rest)))
+  none-reached : (b : Start) (rest : List Start) → Every Fits (activeTimes (b ∷ rest)) → T (ascending (activeTimes (b ∷ rest))) → T (not (le (b .time) u)) → T (not (reach u (b ∷ rest)))
   none-reached b [] f a n = not-T (le (b .time) u || false) (λ q. T-not (le (b .time) u) n (or-not (le (b .time) u) false q tt))
   none-reached b (c ∷ rest) f a n =
       let l = both-l (lt (b .time) (c .time)) (all (λ (p : Float × Float). lt (p .0) (p .1)) (pairsFrom (c .time) (activeTimes rest))) a in
@@ -120,7 +123,7 @@ module _ (t u : Float) (ft : Fits t) (fu : Fits u) (h : T (le t u)) where
       let k = none-reached c rest (f .1) r m in
       not-T (le (b .time) u || reach u (c ∷ rest)) (λ q. T-not (le (b .time) u) n (or-not (le (b .time) u) (reach u (c ∷ rest)) q k))
 
-  stays : (active : List Activation) → Every Fits (activeTimes active) → T (ascending (activeTimes active)) → Every (Clear t u) (startOf (getElem? active (suc (at t active)))) → at t active ≡ at u active
+  stays : (active : List Start) → Every Fits (activeTimes active) → T (ascending (activeTimes active)) → Every (Clear t u) (startOf (getElem? active (suc (at t active)))) → at t active ≡ at u active
   unfolding lastAtMost
   stays [] f a c = refl
   stays (x ∷ []) f a c = refl
@@ -158,7 +161,7 @@ stage-fit [] c f = (f, tt)
 stage-fit (k ∷ rest) c f = pairs-fit (k ∷ rest) c
 
 module _ (set : ClipSet) (s : Samples) (S : SoundSet set) (A : SoundSamples s) where
-  contributed-fit : (o : Option Activation) → Every Fits (contributedTimes set s o)
+  contributed-fit : (o : Option Start) → Every Fits (contributedTimes set s o)
   contributed-fit none = tt
   contributed-fit (some a) = go (contributes set a)
     where

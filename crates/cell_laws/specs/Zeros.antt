@@ -10,8 +10,9 @@ use Rattle.definitions.specs.Doubles.{FiniteDouble}
 use Rattle.definitions.specs.ClipSet.{ClipSet, stage, clip}
 use Rattle.definitions.specs.Timing.{activePosition, activeEntry, activeClip, mapTime, mapStageToClip}
 use Rattle.definitions.specs.Samples.{Samples, heldPlace}
-use Rattle.definitions.specs.Value.{Source, directSource, says, valueSource, valueInSet}
-use Rattle.cell_laws.specs.Every.{Every}
+use Rattle.definitions.specs.declared.Source.{Source}
+use Rattle.definitions.specs.Value.{directSource, says, valueSource, valueInSet}
+use Rattle.set_laws.specs.Every.{Every}
 use Rattle.cell_laws.specs.Places.{Fits, place-same}
 use Rattle.cell_laws.specs.Knots.{Alike, alike-eq, clear-alike, map-fits, map-alike}
 use Rattle.cell_laws.specs.Direct.{SoundSet, SoundSamples, position-alike, direct-alike}

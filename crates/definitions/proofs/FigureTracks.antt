@@ -11,11 +11,14 @@ use lib.Ieee.Bits.{is-true, is-false}
 use Rattle.gf.specs.Key.{key, ofKey, lt-not-le, eq→key}
 use Rattle.definitions.specs.declared.Answer.the-variants.{Value}
 use Rattle.definitions.specs.ClipSet.{ClipSet, stage}
-use Rattle.definitions.specs.Doubles.{totalKey, truncated, lowest, FiniteDouble}
+use Rattle.gf.specs.Doubles.{totalKey, truncated}
+use Rattle.definitions.specs.Doubles.{lowest, FiniteDouble}
 use Rattle.definitions.specs.Explicit.{explicitSet}
 use Rattle.definitions.specs.Timing.{lastAtMost, activePosition, onSegment, mapTime, mapStageToClip}
 use Rattle.definitions.specs.Samples.{clipBegin, clipEnd, clipTimes, heldPlace}
-use Rattle.definitions.specs.Value.{Source, sample, sourceAt, directSource, says, blockedAt, contributes, readClip, firstReading, interpolateMissingValue, window, stageTimesForClipTime, windowSampleTimes, gathered, lowerNeighbour, upperNeighbour, between, jump, readingTime, valueSource, valueInSet}
+use Rattle.definitions.specs.declared.Source.{Source}
+use Rattle.definitions.specs.declared.Source.the-variants.{Sample as sample}
+use Rattle.definitions.specs.Value.{sourceAt, directSource, says, blockedAt, contributes, readClip, firstReading, interpolateMissingValue, window, stageTimesForClipTime, windowSampleTimes, gathered, lowerNeighbour, upperNeighbour, between, jump, readingTime, valueSource, valueInSet}
 use Rattle.definitions.specs.Track.{Change, entryOf, alike, changeAt, TrackOf}
 use Rattle.definitions.proofs.Tracks.{constant, single, no-nan, key-eq, not-le}
 use Rattle.definitions.proofs.Sets.{n, gap, gap-samples, falling, falling-samples}

@@ -12,7 +12,8 @@ use Rattle.gf.specs.Key.{key, ofKey, most}
 use Rattle.definitions.specs.declared.Knot.{Knot}
 use Rattle.definitions.specs.declared.Answer.{Answer}
 use Rattle.definitions.specs.Lists.{all}
-use Rattle.definitions.specs.ClipSet.{Default, stage, clip, markNone}
+use Rattle.definitions.specs.declared.Default.{Default}
+use Rattle.definitions.specs.ClipSet.{stage, clip, markNone}
 use Rattle.definitions.specs.Explicit.{ExplicitFields, explicitSet}
 use Rattle.definitions.specs.Names.{name}
 use Rattle.definitions.specs.Template.{TemplateFields, templateSet}

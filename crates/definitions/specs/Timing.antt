@@ -10,7 +10,8 @@ use Rattle.definitions.specs.declared.Knot.{Knot}
 use Rattle.definitions.specs.declared.StageTime.{StageTime}
 use Rattle.definitions.specs.declared.ClipTime.{ClipTime}
 use Rattle.definitions.specs.Lists.{any}
-use Rattle.definitions.specs.ClipSet.{Activation, ClipSet, activeTimes, knotTimes, clip}
+use Rattle.definitions.specs.declared.Start.{Start}
+use Rattle.definitions.specs.ClipSet.{ClipSet, activeTimes, knotTimes, clip}
 
 -- The place of the last of the times that is ≤ t, and 0, the first's, if none is. It is not the first where one behind the first is ≤ t.
 -- (Of ascending times: how many are ≤ t, less one, as the Rust's `partition_point` has it.)
@@ -20,14 +21,14 @@ lastAtMost (x ∷ xs) t = cond (any (λ (y : Float). le y t) xs) (suc (lastAtMos
 
 -- ---- "That of the last start ≤ stage time, of the first start if none; the reply is the clip number."
 
-unfoldable pub activePosition : List Activation → StageTime → ℕ
+unfoldable pub activePosition : List Start → StageTime → ℕ
 activePosition active t = lastAtMost (activeTimes active) (t .0)
 
 -- none in a set without starts
-unfoldable pub activeEntry : List Activation → StageTime → Option Activation
+unfoldable pub activeEntry : List Start → StageTime → Option Start
 activeEntry active t = getElem? active (activePosition active t)
 
-abbrev pub clipOf : Option Activation → Option ℕ
+abbrev pub clipOf : Option Start → Option ℕ
 clipOf none = none
 clipOf (some a) = some (a .clip)
 

@@ -11,7 +11,8 @@ use Rattle.definitions.specs.declared.StageTime.{StageTime}
 use Rattle.definitions.specs.declared.Answer.{Answer}
 use Rattle.definitions.specs.declared.Answer.the-variants.{Value, Blocked, Absent}
 use Rattle.definitions.specs.Lists.{any, writtenOver, _if_else_, _then_}
-use Rattle.definitions.specs.Doubles.{0·0, lowest, nextLower, FiniteDouble, ascending}
+use Rattle.gf.specs.Doubles.{0·0}
+use Rattle.definitions.specs.Doubles.{lowest, nextLower, FiniteDouble, ascending}
 use Rattle.definitions.specs.ClipSet.{Model, noSet, standing, markValue, markBlock, markNone, stage}
 use Rattle.definitions.specs.Samples.{Samples, samplesNumber}
 

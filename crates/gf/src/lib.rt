@@ -5,10 +5,10 @@ ghost use mathlib.Core.Bool.{not};
 ghost use Prim.Native.Nat.{_≤_, _<_};
 ghost use lib.Dec.{T};
 ghost use lib.Ieee.{isNan};
-ghost use Rattle.gf.specs.Exactly as Exactly;
+ghost use lib.Ieee.Scale.{finite};
+ghost use Rattle.gf.specs.Doubles as Doubles;
 ghost use Rattle.gf.specs.Key as Key;
 ghost use Rattle.gf.specs.Lerp as Lerp;
-ghost use Rattle.gf.specs.Search as Search;
 
 // The place of `x` in the order of the doubles. Both zeros have the key 2^63.
 pub fn key(x: f64) -> u64
@@ -36,59 +36,44 @@ pub fn of_key(k: u64) -> f64
 }
 
 // The value at `t` of the line through two points.
-pub fn lerp_in_segment(x0: f64, x1: f64, y0: f64, y1: f64, t: f64) -> f64
+pub fn lerp(x0: f64, x1: f64, y0: f64, y1: f64, t: f64) -> f64
     ensures { λ r. ⌜ r ≡ Lerp.lerp x0 x1 y0 y1 t ⌝ }
 {
     y0 + (y1 - y0) * ((t - x0) / (x1 - x0))
 }
 
-// Whether `m` has crossed `s`: upward or downward, and strictly or not.
-pub fn crossed(up: bool, strict: bool, s: f64, m: f64) -> bool
-    ensures { λ r. ⌜ r ≡ Search.crossed up strict s m ⌝ }
-{
-    if up {
-        if strict { s < m } else { s <= m }
-    } else {
-        if strict { m < s } else { m <= s }
-    }
-}
-
-// The first key after `lo` and up to `hi` at whose double the line has crossed `s`, by bisection.
-pub fn first_crossed(
-    up: bool,
-    strict: bool,
-    x0: f64,
-    x1: f64,
-    y0: f64,
-    y1: f64,
-    s: f64,
-    lo: u64,
-    hi: u64,
-) -> u64
-    requires { ⌜ Search.Ready up strict x0 x1 y0 y1 s lo hi ⌝ }
-    ensures { λ r. ⌜ Search.First (Search.reached up strict x0 x1 y0 y1 s) lo hi r ⌝ }
-{
-    let mut a = lo;
-    let mut b = hi;
-    while a + 1 < b {
-        let mid = a + (b - a) / 2;
-        let m = lerp_in_segment(x0, x1, y0, y1, of_key(mid));
-        if crossed(up, strict, s, m) {
-            b = mid;
-        } else {
-            a = mid;
-        }
-    }
-    b
-}
-
-// Whether `x` is of size 2^40 at most. It is false at a NaN.
-pub fn within_bounds(x: f64) -> bool
-    ensures { λ r. ⌜ r ≡ Exactly.within 40 x ⌝ }
+// Finite, and of magnitude at most 2^40: a time that may be stored.
+pub fn is_storable(x: f64) -> bool
+    ensures { λ r. ⌜ r ≡ Doubles.storable x ⌝ }
 {
     if -1099511627776.0 <= x {
         x <= 1099511627776.0
     } else {
         false
     }
+}
+
+// Neither a NaN nor an infinity.
+pub fn is_finite(x: f64) -> bool
+    ensures { λ r. ⌜ r ≡ finite x ⌝ }
+{
+    let top = 1.0 / 0.0;
+    if -top < x {
+        return x < top;
+    }
+    false
+}
+
+// A number whose order is that of `f64::total_cmp`, which places -0.0 before 0.0.
+pub fn total_key(x: f64) -> u64
+    ensures { λ r. ⌜ r ≡ Doubles.totalKey x ⌝ }
+{
+    if x != x {
+        return 18444492273895866368;
+    }
+    let b = f64::to_bits(x);
+    if b < 0x8000_0000_0000_0000 {
+        return 0x8000_0000_0000_0000 + b;
+    }
+    0xffff_ffff_ffff_ffff - b
 }

@@ -7,8 +7,10 @@ use lib.ListN.{length}
 use lib.Ieee.{Float}
 use borrow.Author.Tests.{ltb-false}
 use Rattle.definitions.specs.declared.Knot.{Knot}
-use Rattle.definitions.specs.Doubles.{totalKey}
-use Rattle.definitions.specs.ClipSet.{Activation, Default, ClipSet, maxClips, maxActive, maxKnots, maxBlocks, markNone, activeTimes, knotTimes, sortActive, sortKnots, anyUnstorable, nanDefault, beyondLimits, equalStarts, equalKnots, badDefaultMark}
+use Rattle.gf.specs.Doubles.{totalKey}
+use Rattle.definitions.specs.declared.Start.{Start}
+use Rattle.definitions.specs.declared.Default.{Default}
+use Rattle.definitions.specs.ClipSet.{ClipSet, maxClips, maxActive, maxKnots, maxBlocks, markNone, activeTimes, knotTimes, sortActive, sortKnots, anyUnstorable, nanDefault, beyondLimits, equalStarts, equalKnots, badDefaultMark}
 use Rattle.set_laws.specs.Tests.{or-false}
 use Rattle.set_laws.specs.Every.{Every, Chain, every-of-map, every-to-map, chain-map, chain-to-map}
 use Rattle.set_laws.specs.Places.{Fits, Le, Ascending}
@@ -30,7 +32,7 @@ pub record Sound (set : ClipSet) : Type 0 where
   pub few-blocks : length (set .blocks) ≤ maxBlocks
   pub times : Every Stored (activeTimes (set .active))
   pub strictly : Chain Lt (activeTimes (set .active))
-  pub named : Every (λ (a : Activation). a .clip < set .clips) (set .active)
+  pub named : Every (λ (a : Start). a .clip < set .clips) (set .active)
   pub xs : Every Stored (knotTimes (set .knots))
   pub ys : Every Stored (knotValues (set .knots))
   pub weakly : Chain Le (knotTimes (set .knots))
@@ -48,10 +50,10 @@ sound-knots set s = stored-ascending (knotTimes (set .knots)) (s .xs) (s .weakly
 -- ---- sorting by `total_cmp` keeps what holds of every entry, and puts stored times in order
 
 module _ (P : Float → Type 0) where
-  pub sorted-times : (active : List Activation) → Every P (activeTimes active) → Every P (activeTimes (sortActive active))
+  pub sorted-times : (active : List Start) → Every P (activeTimes active) → Every P (activeTimes (sortActive active))
   sorted-times active e =
-      every-to-map (λ (a : Activation). a .time) P (sortActive active)
-      (every-sort (λ (a : Activation). totalKey (a .time)) (λ (a : Activation). P (a .time)) active (every-of-map (λ (a : Activation). a .time) P active e))
+      every-to-map (λ (a : Start). a .time) P (sortActive active)
+      (every-sort (λ (a : Start). totalKey (a .time)) (λ (a : Start). P (a .time)) active (every-of-map (λ (a : Start). a .time) P active e))
 
   pub sorted-xs : (knots : List Knot) → Every P (knotTimes knots) → Every P (knotTimes (sortKnots knots))
   sorted-xs knots e =
@@ -66,18 +68,18 @@ module _ (P : Float → Type 0) where
 abbrev total : Float → Float → Type 0
 total x y = totalKey x ≤ totalKey y
 
-pub sorted-active : (active : List Activation) → Every Stored (activeTimes (sortActive active)) → Chain Le (activeTimes (sortActive active))
+pub sorted-active : (active : List Start) → Every Stored (activeTimes (sortActive active)) → Chain Le (activeTimes (sortActive active))
 sorted-active active s =
     chain-map Stored total Le total→le (activeTimes (sortActive active)) s
-    (chain-to-map (λ (a : Activation). a .time) total (sortActive active) (sort-sorted (λ (a : Activation). totalKey (a .time)) active))
+    (chain-to-map (λ (a : Start). a .time) total (sortActive active) (sort-sorted (λ (a : Start). totalKey (a .time)) active))
 
 pub sorted-knots : (knots : List Knot) → Every Stored (knotTimes (sortKnots knots)) → Chain Le (knotTimes (sortKnots knots))
 sorted-knots knots s =
     chain-map Stored total Le total→le (knotTimes (sortKnots knots)) s
     (chain-to-map (λ (k : Knot). k .x) total (sortKnots knots) (sort-sorted (λ (k : Knot). totalKey (k .x)) knots))
 
-pub length-active : (active : List Activation) → length (sortActive active) ≡ length active
-length-active active = length-sort (λ (a : Activation). totalKey (a .time)) active
+pub length-active : (active : List Start) → length (sortActive active) ≡ length active
+length-active active = length-sort (λ (a : Start). totalKey (a .time)) active
 
 pub length-knots : (knots : List Knot) → length (sortKnots knots) ≡ length knots
 length-knots knots = length-sort (λ (k : Knot). totalKey (k .x)) knots

@@ -11,8 +11,9 @@ use lib.Ieee.Fits.{and-r}
 use borrow.Author.Tests.{ltb-false}
 use Rattle.definitions.specs.declared.Knot.{Knot}
 use Rattle.definitions.specs.Lists.{zipWith}
-use Rattle.definitions.specs.Doubles.{totalKey, 0·0, isWhole, truncated}
-use Rattle.definitions.specs.ClipSet.{Activation, maxClips, maxActive, maxKnots, maxBlocks, activeTimes, knotTimes, sortActive, sortKnots, anyUnstorable, nanDefault, equalStarts, equalKnots, badDefaultMark}
+use Rattle.gf.specs.Doubles.{totalKey, 0·0, isWhole, truncated}
+use Rattle.definitions.specs.declared.Start.{Start}
+use Rattle.definitions.specs.ClipSet.{maxClips, maxActive, maxKnots, maxBlocks, activeTimes, knotTimes, sortActive, sortKnots, anyUnstorable, nanDefault, equalStarts, equalKnots, badDefaultMark}
 use Rattle.definitions.specs.Explicit.{ExplicitFields, activation, knot, explicitSet, explicit1, explicit2, isClipNumber, explicit3, explicitNumber}
 use Rattle.set_laws.specs.Tests.{or-false, not-false, passed}
 use Rattle.set_laws.specs.Every.{Every, every-map, any-not-every, every-to-map, length-zip, every-zip-left, every-zip-right}
@@ -112,7 +113,7 @@ explicit-named f e =
 
 -- ---- the set
 
-abbrev starts : ExplicitFields → List Activation
+abbrev starts : ExplicitFields → List Start
 starts f = zipWith activation (f .startTimes) (f .startClips)
 
 abbrev knots : ExplicitFields → List Knot
@@ -126,7 +127,7 @@ module _ (f : ExplicitFields) (h : ExplicitFits f) (p : ExplicitPasses f) where
   stored = explicit-stored f h (p .not2)
 
   times : Every Stored (activeTimes (starts f))
-  times = every-to-map (λ (a : Activation). a .time) Stored (starts f) (every-zip-left activation Stored (λ (a : Activation). Stored (a .time)) (λ t c s. s) (f .startTimes) (f .startClips) (stored .startTimes))
+  times = every-to-map (λ (a : Start). a .time) Stored (starts f) (every-zip-left activation Stored (λ (a : Start). Stored (a .time)) (λ t c s. s) (f .startTimes) (f .startClips) (stored .startTimes))
 
   xs : Every Stored (knotTimes (knots f))
   xs = every-to-map (λ (k : Knot). k .x) Stored (knots f) (every-zip-left knot Stored (λ (k : Knot). Stored (k .x)) (λ x y s. s) (f .knotX) (f .knotY) (stored .knotX))
@@ -134,8 +135,8 @@ module _ (f : ExplicitFields) (h : ExplicitFits f) (p : ExplicitPasses f) where
   ys : Every Stored (knotValues (knots f))
   ys = every-to-map (λ (k : Knot). k .y) Stored (knots f) (every-zip-right knot Stored (λ (k : Knot). Stored (k .y)) (λ x y s. s) (f .knotX) (f .knotY) (stored .knotY))
 
-  named : Every (λ (a : Activation). a .clip < f .clips) (starts f)
-  named = every-zip-right activation (λ (c : Float). truncated c < f .clips) (λ (a : Activation). a .clip < f .clips) (λ t c l. l) (f .startTimes) (f .startClips) (explicit-named f (p .not3))
+  named : Every (λ (a : Start). a .clip < f .clips) (starts f)
+  named = every-zip-right activation (λ (c : Float). truncated c < f .clips) (λ (a : Start). a .clip < f .clips) (λ t c l. l) (f .startTimes) (f .startClips) (explicit-named f (p .not3))
 
   stored-times : Every Stored (activeTimes (sortActive (starts f)))
   stored-times = sorted-times Stored (starts f) times
@@ -152,7 +153,7 @@ module _ (f : ExplicitFields) (h : ExplicitFits f) (p : ExplicitPasses f) where
     few-blocks = limits .blocks;
     times = stored-times;
     strictly = strict-starts (explicitSet f) stored-times (sorted-active (starts f) stored-times) (p .not4);
-    named = every-sort (λ (a : Activation). totalKey (a .time)) (λ (a : Activation). a .clip < f .clips) (starts f) named;
+    named = every-sort (λ (a : Start). totalKey (a .time)) (λ (a : Start). a .clip < f .clips) (starts f) named;
     xs = stored-xs;
     ys = sorted-ys Stored (knots f) ys;
     weakly = sorted-knots (knots f) stored-xs;

@@ -12,7 +12,8 @@ use lib.Ieee.Fits.{and-i}
 use Rattle.gf.specs.Key.{key, lt→key, le→key, key→eq}
 use Rattle.definitions.specs.declared.Knot.{Knot}
 use Rattle.definitions.specs.Doubles.{threeEqual}
-use Rattle.definitions.specs.ClipSet.{Activation, ClipSet, activeTimes, knotTimes, equalKnots}
+use Rattle.definitions.specs.declared.Start.{Start}
+use Rattle.definitions.specs.ClipSet.{ClipSet, activeTimes, knotTimes, equalKnots}
 use Rattle.set_laws.specs.Every.{every-at, every-of-map, chain-map, chain-far}
 use Rattle.set_laws.specs.Places.{Le}
 use Rattle.set_laws.specs.Stored.{Stored, Lt, stored-number, three-apart-at}
@@ -21,11 +22,11 @@ use Rattle.set_laws.specs.Sound.{Sound}
 module _ (set : ClipSet) (s : Sound set) where
   -- ---- starts
 
-  pub start-stored : (i : ℕ) (a : Activation) → i < length (set .active) → Stored (getD (set .active) i a .time)
-  start-stored i a h = every-at (λ (a : Activation). Stored (a .time)) (set .active) i a (every-of-map (λ (a : Activation). a .time) Stored (set .active) (s .times)) h
+  pub start-stored : (i : ℕ) (a : Start) → i < length (set .active) → Stored (getD (set .active) i a .time)
+  start-stored i a h = every-at (λ (a : Start). Stored (a .time)) (set .active) i a (every-of-map (λ (a : Start). a .time) Stored (set .active) (s .times)) h
 
-  pub start-named : (i : ℕ) (a : Activation) → i < length (set .active) → getD (set .active) i a .clip < set .clips
-  start-named i a h = every-at (λ (a : Activation). a .clip < set .clips) (set .active) i a (s .named) h
+  pub start-named : (i : ℕ) (a : Start) → i < length (set .active) → getD (set .active) i a .clip < set .clips
+  start-named i a h = every-at (λ (a : Start). a .clip < set .clips) (set .active) i a (s .named) h
 
   pub starts-rise : (i j : ℕ) (d : Float) → i < j → j < length (activeTimes (set .active)) → key (getD (activeTimes (set .active)) i d) < key (getD (activeTimes (set .active)) j d)
   starts-rise i j d l h =

@@ -16,8 +16,9 @@ use Rattle.gf.specs.Ops.{nought, add-mono-right, mul-mono-right}
 use Rattle.gf.specs.Exactly.{nought-fits, within-finite}
 use Rattle.definitions.specs.declared.Knot.{Knot}
 use Rattle.definitions.specs.declared.LayerOffset.{LayerOffset}
-use Rattle.definitions.specs.Doubles.{_⊕_, _⊗_, 0·0, totalKey}
-use Rattle.definitions.specs.ClipSet.{Activation, ClipSet, standing, activeTimes, knotTimes, beyondLimits, equalStarts, equalKnots}
+use Rattle.gf.specs.Doubles.{_⊕_, _⊗_, 0·0, totalKey}
+use Rattle.definitions.specs.declared.Start.{Start}
+use Rattle.definitions.specs.ClipSet.{ClipSet, standing, activeTimes, knotTimes, beyondLimits, equalStarts, equalKnots}
 use Rattle.definitions.specs.Retime.{apply, isIdentity, moveActivation, moveKnot, moved, sorted, retimeStageTimes, retimeNumber}
 use Rattle.set_laws.specs.Tests.{not-false, passed}
 use Rattle.set_laws.specs.Every.{Every, Chain, every-both, every-of-map, chain-map, chain-to-map}
@@ -61,7 +62,7 @@ module _ (o : LayerOffset) (p : T (finite (o .offset))) (q : T (finite (o .scale
 
 -- ---- the moved lists
 
-moved-times : (o : LayerOffset) (active : List Activation) → activeTimes (map (moveActivation o) active) ≡ map (apply o) (activeTimes active)
+moved-times : (o : LayerOffset) (active : List Start) → activeTimes (map (moveActivation o) active) ≡ map (apply o) (activeTimes active)
 moved-times o [] = refl
 moved-times o (a ∷ active) = ap (λ (ts : List Float). apply o (a .time) ∷ ts) (moved-times o active)
 
@@ -73,7 +74,7 @@ moved-ys : (o : LayerOffset) (knots : List Knot) → Every Stored (knotValues kn
 moved-ys o [] e = tt
 moved-ys o (k ∷ knots) e = (e .0, moved-ys o knots (e .1))
 
-moved-named : (n : ℕ) (o : LayerOffset) (active : List Activation) → Every (λ (a : Activation). a .clip < n) active → Every (λ (a : Activation). a .clip < n) (map (moveActivation o) active)
+moved-named : (n : ℕ) (o : LayerOffset) (active : List Start) → Every (λ (a : Start). a .clip < n) active → Every (λ (a : Start). a .clip < n) (map (moveActivation o) active)
 moved-named n o [] e = tt
 moved-named n o (a ∷ active) e = (e .0, moved-named n o active (e .1))
 
@@ -103,7 +104,7 @@ retime-passes set o e =
 -- ---- the set, moved and perhaps sorted
 
 module _ (o : LayerOffset) (set : ClipSet) (s : Sound set) where
-  starts : List Activation
+  starts : List Start
   starts = map (moveActivation o) (set .active)
 
   knots : List Knot
@@ -154,7 +155,7 @@ module _ (o : LayerOffset) (set : ClipSet) (s : Sound set) where
         few-blocks = omega (arith, length-map (set .blocks) (apply o), s .few-blocks);
         times = l .times;
         strictly = strict-starts (sorted (moved o set)) (l .times) (sorted-active starts (l .times)) e4;
-        named = every-sort (λ (a : Activation). totalKey (a .time)) (λ (a : Activation). a .clip < set .clips) starts (moved-named (set .clips) o (set .active) (s .named));
+        named = every-sort (λ (a : Start). totalKey (a .time)) (λ (a : Start). a .clip < set .clips) starts (moved-named (set .clips) o (set .active) (s .named));
         xs = l .xs;
         ys = sorted-ys Stored knots (moved-ys o (set .knots) (s .ys));
         weakly = sorted-knots knots (l .xs);

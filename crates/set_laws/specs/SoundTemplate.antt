@@ -13,8 +13,9 @@ use lib.Ieee.Fits.{add-fits, sub-fits, div-fits}
 use borrow.Author.Tests.{ltb-false}
 use Rattle.definitions.specs.declared.Knot.{Knot}
 use Rattle.definitions.specs.declared.TemplateTimes.{TemplateTimes}
-use Rattle.definitions.specs.Doubles.{_⊕_, _⊗_, 10000·0, abs, totalKey, storable}
-use Rattle.definitions.specs.ClipSet.{Activation, maxClips, maxBlocks, maxTemplate, activeTimes, knotTimes, sortKnots, anyUnstorable, nanDefault, beyondLimits, equalStarts, equalKnots, badDefaultMark}
+use Rattle.gf.specs.Doubles.{_⊕_, _⊗_, 10000·0, abs, totalKey, storable}
+use Rattle.definitions.specs.declared.Start.{Start}
+use Rattle.definitions.specs.ClipSet.{maxClips, maxBlocks, maxTemplate, activeTimes, knotTimes, sortKnots, anyUnstorable, nanDefault, beyondLimits, equalStarts, equalKnots, badDefaultMark}
 use Rattle.definitions.specs.Template.{TemplateFields, activeOffset, promoted, stageTime, activations, diagonal, clipKnots, withBounds, templateSet, template1, offsetNotFinite, template2, template7, template6, template8, templateNumber}
 use Rattle.set_laws.specs.Tests.{or-false, passed}
 use Rattle.set_laws.specs.Every.{Every, every-map, every-append, every-to-map}
@@ -85,7 +86,7 @@ unfolding activations
 activations-fit o i [] = tt
 activations-fit o i (t ∷ ts) = (stage-fits o t, activations-fit o (suc i) ts)
 
-activations-named : (n : ℕ) (o : Option Float) (i : ℕ) (ts : List Float) → i + length ts ≤ n → Every (λ (a : Activation). a .clip < n) (activations o i ts)
+activations-named : (n : ℕ) (o : Option Float) (i : ℕ) (ts : List Float) → i + length ts ≤ n → Every (λ (a : Start). a .clip < n) (activations o i ts)
 unfolding activations
 activations-named n o i [] h = tt
 activations-named n o i (t ∷ ts) h = (omega arith, activations-named n o (suc i) ts (omega arith))
@@ -124,7 +125,7 @@ module _ (f : TemplateFields) (h : TemplateFits f) (p : TemplatePasses f) where
   ts : List Float
   ts = promoted (f .times)
 
-  starts : List Activation
+  starts : List Start
   unfolding ts
   starts = activations (activeOffset f) 0 ts
 
@@ -151,7 +152,7 @@ module _ (f : TemplateFields) (h : TemplateFits f) (p : TemplatePasses f) where
         few-blocks = few-blocks f (p .not1);
         times = inside .times;
         strictly = strict-starts (templateSet f) (inside .times) (sorted-active starts (inside .times)) (p .not4);
-        named = every-sort (λ (a : Activation). totalKey (a .time)) (λ (a : Activation). a .clip < length ts) starts (activations-named (length ts) (activeOffset f) 0 ts (omega arith));
+        named = every-sort (λ (a : Start). totalKey (a .time)) (λ (a : Start). a .clip < length ts) starts (activations-named (length ts) (activeOffset f) 0 ts (omega arith));
         xs = inside .xs;
         ys = diagonal-ys (sortKnots knots) on-diagonal (inside .xs);
         weakly = sorted-knots knots (inside .xs);

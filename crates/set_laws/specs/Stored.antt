@@ -12,7 +12,8 @@ use borrow.Author.Tests.{ltb-true, ltb-false}
 use Rattle.gf.specs.Key.{key, bits-lt, key→le, lt→le, finite-no-nan}
 use Rattle.gf.specs.Exactly.{within-finite}
 use Rattle.definitions.specs.Lists.{pairs}
-use Rattle.definitions.specs.Doubles.{FiniteDouble, storable, totalKey, ascending, twoEqual, threeEqual}
+use Rattle.gf.specs.Doubles.{storable, totalKey}
+use Rattle.definitions.specs.Doubles.{FiniteDouble, ascending, twoEqual, threeEqual}
 use Rattle.definitions.specs.ClipSet.{anyUnstorable}
 use Rattle.set_laws.specs.Every.{Every, Chain, every-map, every-both, any-every, any-not-every, all-every, chain-at, chain-map, chain-both, pairs-chain}
 use Rattle.set_laws.specs.Places.{Fits, Le, Ascending}

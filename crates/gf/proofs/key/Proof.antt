@@ -1,4 +1,4 @@
--- `doubles::key` meets its contract: each arm is a clause of `Key.key`. Assumes nothing.
+-- `gf::key` meets its contract: each arm is a clause of `Key.key`. Assumes nothing.
 use borrow.Author.Needs.{needs}
 use native.Mathlib.Omega.{arith}
 use mathlib.Core.Path.{sym, subst}

@@ -1,4 +1,4 @@
--- `doubles::of_key` meets its contract: each arm hands `from_bits` the pattern `bitsKey k`, which is no NaN's. Assumes nothing.
+-- `gf::of_key` meets its contract: each arm hands `from_bits` the pattern `bitsKey k`, which is no NaN's. Assumes nothing.
 use borrow.Author.Needs.{needs}
 use mathlib.Core.Path.{sym, ap, _∙_, subst}
 use Prim.Native.Nat.{ℕ}

@@ -1,0 +1,2 @@
+-- What the proofs of src/ share.
+pub mod Tests
