@@ -1,0 +1,120 @@
+-- What stands after a call, by its number; one law for each return of an operation. Assumes nothing.
+use Prim.Native.Nat.{ℕ, zero, suc}
+use mathlib.Core.Path.{_≡_, refl, sym, ap, _∙_, subst}
+use mathlib.Core.Bool.{Bool, true, false, not, cond}
+use native.Mathlib.Omega.{arith}
+use lib.Ieee.Scale.{finite}
+use Rattle.definitions.specs.declared.LayerOffset.{LayerOffset}
+use Rattle.definitions.specs.ClipSet.{ClipSet, Model, noSet, standing}
+use Rattle.definitions.specs.Explicit.{ExplicitFields, explicitNumber, explicitSet}
+use Rattle.definitions.specs.Template.{TemplateFields, templateNumber, templateSet}
+use Rattle.definitions.specs.Retime.{retimeNumber, retimeStageTimes}
+use Rattle.definitions.specs.Lists.{_if_else_}
+use Rattle.definitions.specs.declared.StageTime.{StageTime}
+use Rattle.definitions.specs.Questions.{Reply, refused, replied, reply, ofSet, stageTimeNumber}
+use Rattle.definitions.specs.Calls.{explicit, template, retime, step, accepted, retimed}
+use Rattle.set_laws.specs.Sound.{Sound}
+use Rattle.set_laws.specs.SoundCalls.{SoundModel}
+use Rattle.clip.specs.declared.Parsed.{Parsed}
+use Rattle.clip.specs.Sets as sets
+use Rattle.clip.specs.Sets.{clipSetOf, Held}
+use Rattle.resolver.specs.declared.Resolver.{Resolver}
+use Rattle.resolver.specs.declared.Accepted.{Accepted}
+use Rattle.resolver.specs.State.{model, Made}
+use Rattle.resolver.specs.Promises.{Accepts, Expands, Retimes, Installable, Installs}
+
+-- ---- installing
+
+accepted-refused : (n : ℕ) (before after : Model) → (n ≡ 0 → ⊥) → before ≡ accepted n before after
+accepted-refused zero b a h = absurd (h refl)
+accepted-refused (suc n) b a h = refl
+
+accepted-granted : (n : ℕ) (before after : Model) → n ≡ 0 → after ≡ accepted n before after
+accepted-granted n b a e = ap (λ (k : ℕ). accepted k b a) (sym e)
+
+-- the same number, and the same set where it is 0
+accepted-same : (n m : ℕ) (before a b : Model) → n ≡ m → (n ≡ 0 → a ≡ b) → accepted n before a ≡ accepted m before b
+accepted-same zero m c a b e h = h refl ∙ accepted-granted m c b (sym e)
+accepted-same (suc n) m c a b e h = ap (λ (k : ℕ). accepted k c b) e
+
+pub installs-not : (d : Resolver) (p : Parsed) (b : Bool) → Made d → (p .number ≡ 0 → ⊥) → Installs d p b (record { number = p .number; resolver = d })
+installs-not d p b m h = record { number = refl; after = accepted-refused (p .number) (model d) (standing b (clipSetOf (p .set))) h; made = m }
+
+pub installs : (d : Resolver) (p : Parsed) (b : Bool) → Installable p → p .number ≡ 0 → Installs d p b (record { number = 0; resolver = record { stands = true; retimed = b; set = p .set } })
+installs d p b i e = record {
+  number = sym e;
+  after = accepted-granted (p .number) (model d) (standing b (clipSetOf (p .set))) e;
+  made = record { held = i .held; sound = i .sound e };
+}
+
+-- ---- acceptance
+
+pub accepts : (d : Resolver) (f : ExplicitFields) (p : Parsed) (r : Accepted) → sets.Parses f p → Installs d p false r → Accepts d f r
+unfolding step
+accepts d f p r q i = record {
+  number = i .number ∙ q .number;
+  after = i .after ∙ accepted-same (p .number) (explicitNumber f) (model d) (standing false (clipSetOf (p .set))) (standing false (explicitSet f)) (q .number) (λ e. ap (standing false) (q .set e));
+  made = i .made;
+}
+
+pub expands : (d : Resolver) (f : TemplateFields) (p : Parsed) (r : Accepted) → sets.Expands f p → Installs d p false r → Expands d f r
+unfolding step
+expands d f p r q i = record {
+  number = i .number ∙ q .number;
+  after = i .after ∙ accepted-same (p .number) (templateNumber f) (model d) (standing false (clipSetOf (p .set))) (standing false (templateSet f)) (q .number) (λ e. ap (standing false) (q .set e));
+  made = i .made;
+}
+
+pub installable : (p : Parsed) (set : ClipSet) → Held (p .set) → (p .number ≡ 0 → clipSetOf (p .set) ≡ set) → (p .number ≡ 0 → Sound set) → Installable p
+installable p set h e s = record { held = h; sound = λ z. subst Sound (sym (e z)) (s z) }
+
+-- ---- retiming
+
+-- what stands, by the flags
+none-stands : (d : Resolver) → d .stands ≡ false → model d ≡ noSet
+none-stands d e = ap (λ (b : Bool). cond b (standing (d .retimed) (clipSetOf (d .set))) noSet) e
+
+stands-as : (d : Resolver) (b : Bool) → d .stands ≡ true → d .retimed ≡ b → model d ≡ standing b (clipSetOf (d .set))
+stands-as d b e f = ap (λ (x : Bool). cond x (standing (d .retimed) (clipSetOf (d .set))) noSet) e ∙ ap (λ (x : Bool). standing x (clipSetOf (d .set))) f
+
+pub stands-sound : (d : Resolver) → Made d → d .stands ≡ true → Sound (clipSetOf (d .set))
+stands-sound d m e = subst SoundModel (stands-as d (d .retimed) e refl) (m .sound)
+
+refused-retime : (d : Resolver) (o : LayerOffset) (n : ℕ) → Made d → n ≡ retimeNumber (model d) o → (n ≡ 0 → ⊥) → Retimes d o (record { number = n; resolver = d })
+unfolding step
+refused-retime d o n m e h = record { number = e; after = accepted-refused (retimeNumber (model d) o) (model d) (retimed o (model d)) (λ z. h (e ∙ z)); made = m }
+
+pub retimes-20 : (d : Resolver) (o : LayerOffset) → Made d → d .stands ≡ false → Retimes d o (record { number = 20; resolver = d })
+unfolding retimeNumber
+retimes-20 d o m e = refused-retime d o 20 m (sym (ap (λ (x : Model). retimeNumber x o) (none-stands d e))) (λ z. omega arith)
+
+pub retimes-21 : (d : Resolver) (o : LayerOffset) → Made d → d .stands ≡ true → d .retimed ≡ true → Retimes d o (record { number = 21; resolver = d })
+unfolding retimeNumber
+retimes-21 d o m e f = refused-retime d o 21 m (sym (ap (λ (x : Model). retimeNumber x o) (stands-as d true e f))) (λ z. omega arith)
+
+pub retimes : (d : Resolver) (o : LayerOffset) (p : Parsed) (r : Accepted) → d .stands ≡ true → d .retimed ≡ false → sets.Moves (d .set) o p → Installs d p true r → Retimes d o r
+unfolding step
+retimes d o p r e f q i =
+    let s : model d ≡ standing false (clipSetOf (d .set)) = stands-as d false e f in
+    let n : p .number ≡ retimeNumber (model d) o = q .number ∙ sym (ap (λ (x : Model). retimeNumber x o) s) in
+    record {
+      number = i .number ∙ n;
+      after = i .after ∙ accepted-same (p .number) (retimeNumber (model d) o) (model d) (standing true (clipSetOf (p .set))) (retimed o (model d)) n (λ z. ap (standing true) (q .set z) ∙ sym (ap (retimed o) s));
+      made = i .made;
+    }
+
+-- ---- questions
+
+module _ {A : Type 0} (f : ClipSet → Reply A) (d : Resolver) where
+  pub asked-20 : d .stands ≡ false → refused 20 ≡ ofSet (model d) f
+  asked-20 e = sym (ap (λ (m : Model). ofSet m f) (none-stands d e))
+
+  pub asked : d .stands ≡ true → f (clipSetOf (d .set)) ≡ ofSet (model d) f
+  asked e = sym (ap (λ (m : Model). ofSet m f) (stands-as d (d .retimed) e refl))
+
+module _ {A : Type 0} (t : StageTime) (a : A) where
+  pub not-finite : finite (t .0) ≡ false → refused 10 ≡ reply (stageTimeNumber t) a
+  not-finite e = ap (λ (b : Bool). reply (10 if not b else 0) a) (sym e)
+
+  pub is-finite : finite (t .0) ≡ true → replied a ≡ reply (stageTimeNumber t) a
+  is-finite e = ap (λ (b : Bool). reply (10 if not b else 0) a) (sym e)
