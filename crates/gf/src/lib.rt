@@ -1,5 +1,6 @@
 // Doubles by their order keys, and linear interpolation between two points.
 
+pub mod class;
 pub mod interval;
 pub mod magnitude;
 pub mod segment;
