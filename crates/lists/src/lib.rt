@@ -1,4 +1,6 @@
 // Lists of times as they are lent: tests over the whole list, and the search in an ascending one.
+pub mod sorting;
+
 ghost use mathlib.Core.Path.{_≡_};
 ghost use lib.ListN.{length};
 ghost use Rattle.definitions.specs.Lists.{zipWith};
@@ -6,6 +8,7 @@ ghost use Rattle.definitions.specs.ClipSet.{anyUnstorable};
 ghost use Rattle.definitions.specs.Explicit.{knot};
 ghost use Rattle.definitions.specs.Timing.{lastAtMost, onSegment, mapTime};
 ghost use Rattle.set_laws.specs.Places.{Ascending};
+ghost use Rattle.cell_laws.specs.Unpacked.{knotsOf};
 
 // A time that is not finite, or beyond 2^40, is among them.
 pub fn any_unstorable(times: &[f64]) -> bool
@@ -52,7 +55,7 @@ fn on_segment(x0: f64, x1: f64, y0: f64, y1: f64, t: f64) -> f64
 // The clip time at `t` by the knots (x, y): the Rust's `map_stage_to_clip`.
 pub fn map_time(xs: &[f64], ys: &[f64], t: f64) -> f64
     requires { ⌜ Ascending (now xs) ⌝ ∗ ⌜ length (now xs) ≡ length (now ys) ⌝ }
-    ensures { λ r. ⌜ r ≡ mapTime (zipWith knot (now (xs .entry)) (now (ys .entry))) t ⌝ }
+    ensures { λ r. ⌜ r ≡ mapTime (knotsOf (now (xs .entry)) (now (ys .entry))) t ⌝ }
 {
     let n = xs.len();
     if n == 0 {
