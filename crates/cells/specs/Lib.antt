@@ -1,0 +1,2 @@
+-- What the functions of src/ speak of.
+pub mod Lines

@@ -1,0 +1,2 @@
+-- What the contracts of the names cite, over document 01's definitions.
+pub mod Pattern

@@ -1,0 +1,3 @@
+-- Laws of the lists, for the proofs of the functions.
+pub mod Scanned
+pub mod Numbers

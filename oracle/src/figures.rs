@@ -1,0 +1,1 @@
+pub fn test() -> bool { true }

@@ -1,0 +1,90 @@
+//! The Rust as oracle: case text in, replies out; and a generator and a comparer of such text.
+#![allow(dead_code)]
+
+#[path = "standins/gf.rs"]
+mod gf;
+#[path = "standins/pcp.rs"]
+mod pcp;
+#[path = "standins/sdf.rs"]
+mod sdf;
+#[path = "standins/tf.rs"]
+mod tf;
+#[path = "standins/vt.rs"]
+mod vt;
+
+mod calls;
+mod desk;
+mod doubles;
+mod figures;
+mod numbers;
+mod plain;
+mod text;
+mod track;
+
+use std::io::{self, BufRead, Write};
+
+use desk::Desk;
+use text::{Line, Words};
+
+/// Answers the case text of `input`. With `check`, tells on standard error where Rust and document differ.
+fn answer(input: &mut dyn BufRead, output: &mut dyn Write, check: bool, timed: bool) -> io::Result<usize> {
+    let mut desk = Desk::new(check);
+    let mut line = Vec::new();
+    let mut case = String::new();
+    let mut differences = 0;
+    while input.read_until(b'\n', &mut line)? > 0 {
+        let mut words = Words::new(&line);
+        if let Some(first) = words.word() {
+            let mut out = Line::default();
+            let began = std::time::Instant::now();
+            match calls::read(first, words) {
+                Some(call) => {
+                    if let calls::Call::Case(name) = &call {
+                        case.clone_from(name);
+                    }
+                    desk.answer(call, &mut out)
+                }
+                None => out.word("unreadable").end(),
+            }
+            if timed && !out.0.is_empty() {
+                let head: String = String::from_utf8_lossy(&out.0).chars().take(60).collect();
+                eprintln!("{:>10.3} ms  {case}  {}", began.elapsed().as_secs_f64() * 1e3, head.trim_end());
+            }
+            output.write_all(&out.0)?;
+            for difference in desk.differences.drain(..) {
+                differences += 1;
+                eprintln!("{case}: {}\n  {difference}", String::from_utf8_lossy(&line).trim_end());
+            }
+        }
+        line.clear();
+    }
+    output.flush()?;
+    Ok(differences)
+}
+
+const USAGE: &str = "oracle [check | timed | test]
+  (nothing)  case text on standard input, replies on standard output
+  check      the same, and every reply worked out from document 01 too; differences go to standard error
+  timed      the same, with the time of each reply on standard error
+  test       document 01's figures";
+
+fn main() -> io::Result<()> {
+    let arguments: Vec<String> = std::env::args().skip(1).collect();
+    let words: Vec<&str> = arguments.iter().map(String::as_str).collect();
+    let mut input = io::BufReader::with_capacity(1 << 20, io::stdin());
+    let mut output = io::BufWriter::with_capacity(1 << 20, io::stdout());
+    match words[..] {
+        [] => answer(&mut input, &mut output, false, false).map(drop),
+        ["timed"] => answer(&mut input, &mut output, false, true).map(drop),
+        ["check"] => {
+            let differences = answer(&mut input, &mut output, true, false)?;
+            eprintln!("{differences} differences between Rust and document");
+            std::process::exit((differences > 0).into());
+        }
+        ["test"] => std::process::exit((!figures::test()).into()),
+        _ => {
+            eprintln!("{USAGE}");
+            std::process::exit(2);
+        }
+    }
+}
