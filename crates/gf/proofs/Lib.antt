@@ -2,3 +2,4 @@
 pub mod Tests
 pub mod SignCleared
 pub mod Fields
+pub mod ClassArms
