@@ -3,3 +3,4 @@ pub mod Tests
 pub mod SignCleared
 pub mod Fields
 pub mod ClassArms
+pub mod ClassFigures
