@@ -1,2 +1,4 @@
 -- Laws that belong to no one function.
 pub mod PatternLaws
+pub mod MagnitudeLaws
+pub mod RoundingLaws

@@ -1,2 +1,3 @@
 -- What the contracts of the names cite, over document 01's definitions.
 pub mod Pattern
+pub mod Magnitude

@@ -1,5 +1,6 @@
 // Template names: the `#` pattern of a template, and the name at a clip time.
 
+pub mod magnitude;
 pub mod pattern;
 
 ghost use mathlib.Core.Path.{_≡_};
