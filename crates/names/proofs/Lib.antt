@@ -2,3 +2,5 @@
 pub mod PatternLaws
 pub mod MagnitudeLaws
 pub mod RoundingLaws
+pub mod PutLaws
+pub mod DigitLaws

@@ -1,5 +1,7 @@
 // Template names: the `#` pattern of a template, and the name at a clip time.
 
+pub mod copy;
+pub mod digits;
 pub mod magnitude;
 pub mod pattern;
 
