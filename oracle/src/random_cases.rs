@@ -556,8 +556,9 @@ fn damage_samples(random: &mut Random, s: &mut Samples) {
         2 if !s.marks.is_empty() => {
             let i = random.below(s.marks.len());
             s.marks[i] = random.pick(&[2, 3, 255]);
-            if random.chance(50) {
-                s.values[i] = f64::NAN;
+            // Earlier damage may have shortened the values.
+            if let Some(value) = s.values.get_mut(i).filter(|_| random.chance(50)) {
+                *value = f64::NAN;
             }
         }
         3 if !s.ends.is_empty() => {
