@@ -18,13 +18,17 @@ mod doubles;
 mod figures;
 mod numbers;
 mod plain;
+mod random;
+mod random_cases;
 mod text;
 mod track;
+mod writer;
 
 use std::io::{self, BufRead, Write};
 
 use desk::Desk;
 use text::{Line, Words};
+use writer::Writer;
 
 /// Answers the case text of `input`. With `check`, tells on standard error where Rust and document differ.
 fn answer(input: &mut dyn BufRead, output: &mut dyn Write, check: bool, timed: bool) -> io::Result<usize> {
@@ -80,6 +84,12 @@ fn main() -> io::Result<()> {
             let differences = answer(&mut input, &mut output, true, false)?;
             eprintln!("{differences} differences between Rust and document");
             std::process::exit((differences > 0).into());
+        }
+        ["gen", seed, replies] => {
+            let number = |word: &str| word.parse::<u64>().expect("a number");
+            let mut writer = Writer::new(&mut output);
+            random_cases::write(number(seed), number(replies), &mut writer);
+            output.flush()
         }
         ["test"] => std::process::exit((!figures::test()).into()),
         _ => {

@@ -1,17 +1,15 @@
--- The class of what a sign, an exponent field and digits are read as, one law for each range of the exponent field, in any format.
+-- The class of a value by the fields of its pattern, one law for each range of the exponent field, in any format.
 -- The value is a fraction of two numbers, and whether it is whole turns on the remainder alone. Assumes nothing.
 use mathlib.Core.Path.{_≡_, refl, sym, ap, _∙_, subst}
-use mathlib.Core.Logic.{_⊎_, inl, inr}
 use mathlib.Core.Bool.{Bool, true, false, cond}
 use Prim.Native.Nat.{ℕ, zero, suc, _+_, _-_, _*_, _/_, _%_, _^_, _≤_, _<_}
-use native.Mathlib.Nat.{le-of-suc-le-suc, le-antisymm, mod-lt, lt-of-lt-of-le, lt-irrefl, zero-lt-suc, eq-zero-or-pos, eq-of-mul-eq-mul-right, div-add-mod', mod-eq-of-lt, mul-add-mod-self-left, mul-mod-left, mul-assoc, mul-one, mul-pos, mul-right-comm, zero-mul, pow-succ', le-add-right}
+use native.Mathlib.Nat.{le-of-suc-le-suc, mod-lt, lt-of-lt-of-le, lt-irrefl, zero-lt-suc, eq-of-mul-eq-mul-right, div-add-mod', mod-eq-of-lt, mul-add-mod-self-left, mul-mod-left, mul-assoc, mul-one, mul-pos, mul-right-comm, zero-mul, pow-succ', le-add-right}
 use native.Mathlib.Omega.{arith}
 use lib.Dec.{T, leb, eqb, eqb→eq, eqb·suc-zero}
-use lib.Bits.{bitAnd, and-mask, and-le-r}
-use lib.Pow.{field, pow-add, pow-pos, pow-mono, shl-lt}
-use lib.Ieee.{Float, nan, inf, fin, Format, binary64, prec, emax, low, hid, ones, top, up, down, odd, ofFields, ofBits, toBits, fits}
+use lib.Pow.{pow-add, pow-pos, pow-mono, shl-lt}
+use lib.Ieee.{Float, nan, inf, fin, Format, prec, emax, low, hid, ones, top, up, down, odd, ofFields, ofBits, toBits, fits}
 use lib.Ieee.Digits.{Equals, odd-val, back}
-use lib.Ieee.Fits.{two, reach, two-le-pos, up-pos, down-pos, eq→eqb}
+use lib.Ieee.Fits.{two, reach, two-le-pos, down-pos, eq→eqb}
 use lib.Ieee.Bits.{ofBits-toBits}
 use borrow.Author.Tests.{eq-eqb, ne-eqb}
 use Rattle.gf.specs.declared.class.Class.{Class}
@@ -40,7 +38,7 @@ whole-alike a d b c D C h =
 
 -- ---- the class of a value that is a / c and not zero
 
-abbrev wholeOr : Bool → Class
+abbrev pub wholeOr : Bool → Class
 wholeOr b = cond b Whole Fraction
 
 class-of : (x : Float) (a c : ℕ) → 0 < a → 0 < c → Equals x a c → classOf x ≡ wholeOr (eqb (a % c) 0)
@@ -165,10 +163,10 @@ not-finite f s t x e = rw (eq-eqb (suc x) (ones f) e) (go (eqb t 0))
 
 -- ---- the class of a value, by the fields of its pattern
 
-abbrev exponentOf : Format → Float → ℕ
+abbrev pub exponentOf : Format → Float → ℕ
 exponentOf f x = toBits f x % top f / hid f
 
-abbrev digitsOf : Format → Float → ℕ
+abbrev pub digitsOf : Format → Float → ℕ
 digitsOf f x = toBits f x % hid f
 
 module _ (f : Format) (x : Float) (p : T (fits f x)) where
@@ -209,49 +207,3 @@ module _ (f : Format) (x : Float) (p : T (fits f x)) where
       none : (m : ℕ) → 0 ≡ 2 * m + 1 → ⊥
       none m k = omega arith
   class-not-finite (suc e) h a = by-fields (suc e) h ∙ not-finite f (leb (top f) (toBits f x)) (digitsOf f x) e a
-
--- ---- the fields of a double, as the code takes them
-
-pub exponent-is : (b : ℕ) → b % top binary64 / hid binary64 ≡ bitAnd (b / 2 ^ 52) 0x7ff
-exponent-is b = field b 11 52 ∙ sym (and-mask (b / 2 ^ 52) 11)
-
-pub digits-is : (b : ℕ) → b % hid binary64 ≡ bitAnd b 0xf_ffff_ffff_ffff
-digits-is b = sym (and-mask b 52)
-
-pub exponent-le : (b : ℕ) → bitAnd (b / 2 ^ 52) 0x7ff ≤ 0x7ff
-exponent-le b = and-le-r (b / 2 ^ 52) 0x7ff
-
-above-zero : (n : ℕ) → (n ≡ 0 → ⊥) → 0 < n
-above-zero n h = omega arith
-
--- ---- the class of a double, for each arm of the code
-
-module _ (x : Float) (p : T (fits binary64 x)) where
-  abbrev exponent : ℕ
-  exponent = bitAnd (toBits binary64 x / 2 ^ 52) 0x7ff
-
-  abbrev digits : ℕ
-  digits = bitAnd (toBits binary64 x) 0xf_ffff_ffff_ffff
-
-  arm-zero : exponent ≡ 0 → classOf x ≡ cond (eqb digits 0) Zero Fraction
-  arm-zero h = class-subnormal binary64 x p (exponent-is (toBits binary64 x) ∙ h) ∙ ap (λ (n : ℕ). cond (eqb n 0) Zero Fraction) (digits-is (toBits binary64 x))
-
-  pub arm-nought : exponent ≡ 0 → digits ≡ 0 → Zero ≡ classOf x
-  arm-nought h k = sym (arm-zero h ∙ rw (eq-eqb digits 0 k))
-
-  pub arm-subnormal : exponent ≡ 0 → (digits ≡ 0 → ⊥) → Fraction ≡ classOf x
-  arm-subnormal h k = sym (arm-zero h ∙ rw (ne-eqb digits 0 k))
-
-  pub arm-below-one : (exponent ≡ 0 → ⊥) → exponent < 1023 → Fraction ≡ classOf x
-  arm-below-one h k = sym (class-below-one binary64 x p exponent (exponent-is (toBits binary64 x)) (above-zero exponent h) k)
-
-  pub arm-with-point : 1023 ≤ exponent → exponent < 1075 → classOf x ≡ wholeOr (eqb (digits % 2 ^ (1075 - exponent)) 0)
-  arm-with-point h k =
-      class-with-point binary64 x p exponent (exponent-is (toBits binary64 x)) (lt-of-lt-of-le (zero-lt-suc 1022) h) h (le-of-suc-le-suc k)
-      ∙ ap (λ (n : ℕ). wholeOr (eqb (n % 2 ^ (1075 - exponent)) 0)) (digits-is (toBits binary64 x))
-
-  pub arm-without-point : 1075 ≤ exponent → exponent < 2047 → Whole ≡ classOf x
-  arm-without-point h k = sym (class-without-point binary64 x p exponent (exponent-is (toBits binary64 x)) h k)
-
-  pub arm-not-finite : 2047 ≤ exponent → NotFinite ≡ classOf x
-  arm-not-finite h = sym (class-not-finite binary64 x p exponent (exponent-is (toBits binary64 x)) (le-antisymm (exponent-le (toBits binary64 x)) h))

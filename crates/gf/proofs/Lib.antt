@@ -2,3 +2,5 @@
 pub mod Tests
 pub mod SignCleared
 pub mod Fields
+pub mod ClassArms
+pub mod ClassFigures

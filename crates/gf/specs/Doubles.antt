@@ -69,6 +69,10 @@ truncated nan = 0
 truncated (inf s) = 0
 truncated (fin s m e) = m * up e / down e
 
+-- a clip number that serves: whole, so finite, not negative (-0.0 is not), and below the clip count
+unfoldable pub isClipNumber : ℕ → Float → Bool
+isClipNumber clips number = isWhole number && le 0·0 number && ltb (truncated number) clips
+
 -- the sign bit: set also in -0.0
 unfoldable pub signBit : Float → Bool
 signBit nan = false

@@ -3,6 +3,7 @@
 ghost use mathlib.Core.Path.{_≡_};
 ghost use Prim.Native.Nat.{_%_, _^_, _<_};
 ghost use lib.Dec.{eqb};
+ghost use Rattle.gf.specs.Doubles.{isWhole};
 ghost use Rattle.gf.specs.Classes.{classOf};
 
 // `Fraction` has a part below 1, `Whole` is a whole number other than 0, and `NotFinite` is an
@@ -52,5 +53,18 @@ pub fn classify(x: f64) -> Class
         // from 2^52 on there are no digits below the point
         1075..=2046 => return Class::Whole,
         _ => return Class::NotFinite,
+    }
+}
+
+// Finite, and with no part below 1.
+pub fn is_whole(x: f64) -> bool
+    ensures { λ r. ⌜ r ≡ isWhole x ⌝ }
+{
+    let c = classify(x);
+    match c {
+        Class::Zero => true,
+        Class::Fraction => false,
+        Class::Whole => true,
+        Class::NotFinite => false,
     }
 }

@@ -1,6 +1,7 @@
 // Doubles by their order keys, and linear interpolation between two points.
 
 pub mod class;
+pub mod clip_number;
 pub mod interval;
 pub mod magnitude;
 pub mod segment;

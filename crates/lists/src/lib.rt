@@ -1,9 +1,12 @@
 // Lists of times as they are lent: tests over the whole list, and the search in an ascending one.
 pub mod sorting;
+pub mod writing;
 
 ghost use mathlib.Core.Path.{_≡_};
+ghost use mathlib.Core.Bool.{_&&_};
 ghost use lib.ListN.{length};
-ghost use Rattle.definitions.specs.Lists.{zipWith};
+ghost use lib.Ieee.{eq};
+ghost use Rattle.definitions.specs.Doubles.{twoEqual, threeEqual};
 ghost use Rattle.definitions.specs.ClipSet.{anyUnstorable};
 ghost use Rattle.definitions.specs.Explicit.{knot};
 ghost use Rattle.definitions.specs.Timing.{lastAtMost, onSegment, mapTime};
@@ -17,6 +20,43 @@ pub fn any_unstorable(times: &[f64]) -> bool
     let mut i: usize = 0;
     while i < times.len() {
         if !gf::is_storable(times[i]) {
+            return true;
+        }
+        i += 1;
+    }
+    false
+}
+
+// Two neighbours are equal. In a sorted list all equals are neighbours.
+pub fn two_equal(times: &[f64]) -> bool
+    ensures { λ r. ⌜ r ≡ twoEqual (now (times .entry)) ⌝ }
+{
+    let mut i: usize = 0;
+    while i + 1 < times.len() {
+        if times[i] == times[i + 1] {
+            return true;
+        }
+        i += 1;
+    }
+    false
+}
+
+fn are_equal(a: f64, b: f64, c: f64) -> bool
+    ensures { λ r. ⌜ r ≡ (eq a b && eq b c) ⌝ }
+{
+    if a == b {
+        return b == c;
+    }
+    false
+}
+
+// Three neighbours are equal.
+pub fn three_equal(times: &[f64]) -> bool
+    ensures { λ r. ⌜ r ≡ threeEqual (now (times .entry)) ⌝ }
+{
+    let mut i: usize = 0;
+    while i + 2 < times.len() {
+        if are_equal(times[i], times[i + 1], times[i + 2]) {
             return true;
         }
         i += 1;

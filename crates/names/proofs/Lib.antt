@@ -1,2 +1,6 @@
 -- Laws that belong to no one function.
 pub mod PatternLaws
+pub mod MagnitudeLaws
+pub mod RoundingLaws
+pub mod PutLaws
+pub mod DigitLaws

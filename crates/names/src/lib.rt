@@ -1,5 +1,8 @@
 // Template names: the `#` pattern of a template, and the name at a clip time.
 
+pub mod copy;
+pub mod digits;
+pub mod magnitude;
 pub mod pattern;
 
 ghost use mathlib.Core.Path.{_≡_};

@@ -2,6 +2,7 @@
 ghost use Rattle.sdf.specs.Judged.{Judged};
 
 mod scans;
+mod sorting;
 
 // The number by which the samples are refused for a set with `clips` clips, and 0 if they are accepted.
 // The ends are looked at as places of the list only once they are known to close it.

@@ -1,0 +1,7 @@
+-- What the contracts of this crate cite, and the laws that its proofs share.
+-- The pairs of neighbours from a place on, and the jump test
+pub mod Pairs
+-- A clip's held reading over the lent lists, and the search for a missing value
+pub mod Reads
+-- The direct value case by case
+pub mod Sources
