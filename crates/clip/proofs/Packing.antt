@@ -1,0 +1,30 @@
+-- Lists that are written to an array with a count, and read out of it: what a loop has at its end. Assumes nothing.
+use Prim.Native.Nat.{ℕ, zero, suc, _≤_, _<_}
+use mathlib.Core.Path.{_≡_, refl, sym, ap, _∙_}
+use mathlib.Core.List.{List, [], _∷_, map}
+use native.Mathlib.Omega.{arith}
+use lib.ListN.{length, getD, take, length-map}
+use lib.Seq.{length-take-le}
+use Rattle.lists.specs.Filled.{Filled, fill-end}
+use Rattle.clip.specs.Holding.{Holds}
+
+module _ {A : Type 0} (most : ℕ) where
+  pub packed : (l items : List A) (n i : ℕ) → Filled l items i → length items ≡ most → length l ≡ n → n ≤ i → Holds most items n l
+  packed l items n i f e m h =
+      record {
+        room = record { long = e; few = omega (arith, f .room) };
+        list = ap (λ (k : ℕ). take k items) (sym m) ∙ fill-end l items i f (omega arith);
+      }
+
+module _ {A B : Type 0} (g : A → B) (items : List A) (n : ℕ) (within : n ≤ length items) where
+  pub unpacked-length : length (map g (take n items)) ≡ n
+  unpacked-length = length-map (take n items) g ∙ length-take-le n items within
+
+  pub unpacked-at : (i : ℕ) (a : A) (b : B) → i < n → g (getD items i a) ≡ getD (map g (take n items)) i b
+  unpacked-at i a b h = go items n i within h
+    where
+      go : (items : List A) (n i : ℕ) → n ≤ length items → i < n → g (getD items i a) ≡ getD (map g (take n items)) i b
+      go items zero i l h = absurd (omega arith)
+      go [] (suc n) i l h = absurd (omega arith)
+      go (x ∷ items) (suc n) zero l h = refl
+      go (x ∷ items) (suc n) (suc i) l h = go items n i (omega arith) (omega arith)

@@ -1,0 +1,2 @@
+-- What the contracts on sets by value cite.
+pub mod Holding
