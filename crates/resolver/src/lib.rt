@@ -1,6 +1,11 @@
 // A resolver holds one clip set by value, or none, and answers questions about it: 01's desk.
-use clip::{ClipSet, Parsed};
-use definitions::{Default, LayerOffset, StageTime, ClipTime, TemplateTimes};
+use clip::ClipSet;
+use clip::Parsed;
+use definitions::ClipTime;
+use definitions::Default;
+use definitions::LayerOffset;
+use definitions::StageTime;
+use definitions::TemplateTimes;
 ghost use Rattle.resolver.specs.State.{Made};
 ghost use Rattle.resolver.specs.Promises.{Begins, Accepts, Expands, Retimes, TellsTime, Installable, Installs};
 
