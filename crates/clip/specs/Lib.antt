@@ -1,2 +1,3 @@
 -- What the contracts on sets by value cite.
 pub mod Holding
+pub mod Settling

@@ -1,4 +1,5 @@
 // Clip sets by value, and the operations on them.
+mod settling;
 pub mod storage;
 
 use definitions::Default;
