@@ -1,3 +1,4 @@
 -- Laws that belong to no one function.
 pub mod Packing
 pub mod Settled
+pub mod Moved

@@ -8,6 +8,7 @@ use lib.Ieee.{Float}
 use Rattle.gf.specs.Doubles.{0·0}
 use Rattle.definitions.specs.declared.Knot.{Knot}
 use Rattle.definitions.specs.declared.Start.{Start}
+use Rattle.definitions.specs.declared.Manifest.{Manifest}
 use Rattle.definitions.specs.ClipSet as Definitions
 use Rattle.definitions.specs.ClipSet.{maxActive, maxKnots, maxBlocks}
 use Rattle.clip.specs.declared.storage.Active.{Active}
@@ -46,6 +47,9 @@ clipSetOf s = record {
   default = s .default;
   interpolateMissing = s .interpolate;
 }
+
+abbrev pub manifestOf : ClipSet → Manifest
+manifestOf s = record { default = s .default; interpolate = s .interpolate }
 
 pub record Held (s : ClipSet) : Type 0 where
   pub active : Room maxActive (s .active .items) (s .active .count)

@@ -1,3 +1,4 @@
 -- What the contracts on sets by value cite.
 pub mod Holding
 pub mod Settling
+pub mod Retiming
