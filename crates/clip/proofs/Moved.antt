@@ -1,6 +1,6 @@
 -- A set's lists, moved, are the moved set's; and a set that stands has no number. Assumes nothing.
 use Prim.Native.Nat.{ℕ}
-use mathlib.Core.Path.{_≡_, refl, ap, subst, _∙_}
+use mathlib.Core.Path.{_≡_, refl, ap, subst}
 use mathlib.Core.Bool.{true, false}
 use mathlib.Core.List.{List, [], _∷_, map}
 use lib.Ieee.{Float, lt}
@@ -12,7 +12,7 @@ use Rattle.definitions.specs.ClipSet as Definitions
 use Rattle.definitions.specs.ClipSet.{activeTimes, knotTimes}
 use Rattle.definitions.specs.Retime.{apply, moveActivation, moveKnot, moved, sorted}
 use Rattle.set_laws.specs.Sound.{knotValues}
-use Rattle.cell_laws.specs.Unpacked.{start, activeOf, knotsOf, setOf}
+use Rattle.cell_laws.specs.Unpacked.{activeOf, knotsOf, setOf}
 use Rattle.clip.specs.declared.ClipSet.{ClipSet}
 use Rattle.clip.specs.declared.Parsed.{Parsed}
 use Rattle.clip.specs.Holding.{activeIn, activeClips, knotsIn, blocksIn, clipSetOf, manifestOf}

@@ -4,10 +4,13 @@ mod settling;
 pub mod storage;
 
 use definitions::Default;
+use definitions::LayerOffset;
 use storage::Active;
 use storage::Blocks;
 use storage::Knots;
-ghost use Rattle.clip.specs.Holding.{EmptySet};
+ghost use Rattle.set_laws.specs.Sound.{Sound};
+ghost use Rattle.clip.specs.Holding.{Held, clipSetOf, EmptySet};
+ghost use Rattle.clip.specs.Retiming.{Retimes};
 
 #[repr(C)]
 pub struct ClipSet {
@@ -44,5 +47,47 @@ pub fn empty() -> ClipSet
         blocks,
         default,
         interpolate: false,
+    }
+}
+
+impl ClipSet {
+    // The set with its stage times moved, unless 2, 4 or 5 refuses that.
+    pub fn retime_stage_times(self, o: LayerOffset) -> Parsed
+        requires { ⌜ Held self ⌝ ∗ ⌜ Sound (clipSetOf self) ⌝ }
+        ensures { λ r. ⌜ Retimes self o r ⌝ }
+    {
+        if !gf::is_finite(o.offset) {
+            return settling::refused(2);
+        }
+        if !gf::is_finite(o.scale) {
+            return settling::refused(2);
+        }
+        if retiming::is_identity(o) {
+            return Parsed {
+                number: 0,
+                set: self,
+            };
+        }
+        let active = self.active;
+        let knots = self.knots;
+        let held = self.blocks;
+        let n = active.count;
+        let m = knots.count;
+        let b = held.count;
+        let plain = storage::blank();
+        let mut times = plain.times;
+        let mut numbers = plain.numbers;
+        let mut xs = plain.xs;
+        let mut ys = plain.ys;
+        let mut blocks = plain.blocks;
+        retiming::retime_lists(
+            self,
+            o,
+            &mut times[..n],
+            &mut numbers[..n],
+            &mut xs[..m],
+            &mut ys[..m],
+            &mut blocks[..b],
+        )
     }
 }

@@ -1,9 +1,7 @@
 -- `clip::retiming::retime_lists` meets its contract. Assumes nothing.
-use mathlib.Core.Path.{_≡_, refl, sym, ap, subst, _∙_}
-use native.Mathlib.Omega.{arith}
+use mathlib.Core.Path.{_∙_}
 use borrow.Author.Needs.{needs}
 use lib.Ieee.{ofBits}
-use denote.Ref.{now}
 use Rattle.cell_laws.specs.Unpacked.{setOf}
 use Rattle.clip.specs.Holding.{clipSetOf, manifestOf}
 use Rattle.clip.proofs.Moved.{settles-sorted, settles-unsorted}
@@ -33,7 +31,7 @@ same-length-5 c = search needs
 
 returns : tie.Need-returns
 unfolding ofBits
-returns c = 
+returns c =
     let s = c .before .before .before .before .before .before .before .before .before .before .before .before .before .before .before .before .before .before .before .before .before .before .before .before .before .before .before .before .before .before .before .before .before .before .before .before .before .before in
     let u = c .before .before .before .before .before .before .before .before .before .before .before .before .before .before .before .before .before .before .before .before .before .before .before .before .before .before .before .unpack-moved in
     let r = c .before .before .before .before .before .before .before .before .sort-and-settle in
@@ -59,7 +57,7 @@ same-length-10 c = search needs
 
 returns-2 : tie.Need-returns-2
 unfolding ofBits
-returns-2 c = 
+returns-2 c =
     let s = c .before .before .before .before .before .before .before .before .before .before .before .before .before .before .before .before .before .before .before .before .before .before .before .before .before .before .before .before .before .before in
     let u = c .before .before .before .before .before .before .before .before .before .before .before .before .before .before .before .before .before .before .before .unpack-moved in
     settles-unsorted (s .args .o) (clipSetOf (s .args .set)) (setOf (s .args .set .clips) (u .last .1 .1 .0) (u .last .1 .1 .1 .0) (u .last .1 .1 .1 .1 .0) (u .last .1 .1 .1 .1 .1 .0) (u .last .1 .1 .1 .1 .1 .1 .0) (manifestOf (s .args .set))) (c .settle .result) (c .before .before .before .before .before .before .if1 .left) (u .ensures) (c .settle .ensures)

@@ -1,7 +1,5 @@
 -- `clip::settling::settle` meets its contract. Assumes nothing.
-use mathlib.Core.Path.{_≡_, refl, sym, ap, _∙_}
-use mathlib.Core.Bool.{Bool, true, false}
-use native.Mathlib.Omega.{arith}
+use mathlib.Core.Path.{sym, _∙_}
 use borrow.Author.Needs.{needs}
 use denote.Ref.{now}
 use Rattle.cell_laws.specs.Unpacked.{setOf}
@@ -16,7 +14,7 @@ refused-requires : tie.Need-refused-requires
 refused-requires c κs = search needs
 
 returns : tie.Need-returns
-returns c = 
+returns c =
     let a = c .before .before in
     let s = a .before .before .before .before .before .before .before in
     settle-refuses (setOf (s .args .clips) (now (s .args .times)) (now (s .args .numbers)) (now (s .args .xs)) (now (s .args .ys)) (now (s .args .blocks)) (s .args .manifest)) (a .lists-number .result) (c .refused .result) (a .lists-number .ensures ∙ lists-number-is (s .args .clips) (now (s .args .times)) (now (s .args .numbers)) (now (s .args .xs)) (now (s .args .ys)) (now (s .args .blocks)) (s .args .manifest) (s .pre)) (c .before .if1 .taken) (c .refused .ensures)
@@ -31,7 +29,7 @@ pack-blocks-requires : tie.Need-pack-blocks-requires
 pack-blocks-requires c κs = search needs
 
 returns-2 : tie.Need-returns-2
-returns-2 c = 
+returns-2 c =
     let a = c .before .before .before .before in
     let s = a .before .before .before .before .before .before .before in
     settle-makes (s .args .clips) (now (s .args .times)) (now (s .args .numbers)) (now (s .args .xs)) (now (s .args .ys)) (now (s .args .blocks)) (s .args .manifest) (s .pre) (c .before .before .pack-active .result) (c .before .pack-knots .result) (c .pack-blocks .result) (c .before .before .pack-active .ensures) (c .before .pack-knots .ensures) (c .pack-blocks .ensures)
