@@ -1,2 +1,8 @@
 -- Laws that belong to no one function.
+pub mod Answers
 pub mod Packing
+pub mod Settled
+pub mod Moved
+pub mod Standing
+pub mod Retimed
+pub mod Timed

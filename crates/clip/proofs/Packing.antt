@@ -28,3 +28,7 @@ module _ {A B : Type 0} (g : A → B) (items : List A) (n : ℕ) (within : n ≤
       go [] (suc n) i l h = absurd (omega arith)
       go (x ∷ items) (suc n) zero l h = refl
       go (x ∷ items) (suc n) (suc i) l h = go items n i (omega arith) (omega arith)
+
+-- the front of an array, lent
+pub lent : {A : Type 0} (most n : ℕ) (l : List A) → length l ≡ most → n ≤ most → length (take n l) ≡ n
+lent most n l e h = length-take-le n l (omega arith)

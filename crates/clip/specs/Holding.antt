@@ -8,11 +8,13 @@ use lib.Ieee.{Float}
 use Rattle.gf.specs.Doubles.{0·0}
 use Rattle.definitions.specs.declared.Knot.{Knot}
 use Rattle.definitions.specs.declared.Start.{Start}
+use Rattle.definitions.specs.declared.Manifest.{Manifest}
 use Rattle.definitions.specs.ClipSet as Definitions
 use Rattle.definitions.specs.ClipSet.{maxActive, maxKnots, maxBlocks}
 use Rattle.clip.specs.declared.storage.Active.{Active}
 use Rattle.clip.specs.declared.storage.Knots.{Knots}
 use Rattle.clip.specs.declared.storage.Blocks.{Blocks}
+use Rattle.clip.specs.declared.storage.Plain.{Plain}
 use Rattle.clip.specs.declared.ClipSet.{ClipSet}
 
 -- an array of its length, and a count within it
@@ -47,10 +49,20 @@ clipSetOf s = record {
   interpolateMissing = s .interpolate;
 }
 
+abbrev pub manifestOf : ClipSet → Manifest
+manifestOf s = record { default = s .default; interpolate = s .interpolate }
+
 pub record Held (s : ClipSet) : Type 0 where
   pub active : Room maxActive (s .active .items) (s .active .count)
   pub knots : Room maxKnots (s .knots .items) (s .knots .count)
   pub blocks : Room maxBlocks (s .blocks .items) (s .blocks .count)
+
+pub record AllRoom (p : Plain) : Type 0 where
+  pub times : length (p .times) ≡ maxActive
+  pub numbers : length (p .numbers) ≡ maxActive
+  pub xs : length (p .xs) ≡ maxKnots
+  pub ys : length (p .ys) ≡ maxKnots
+  pub blocks : length (p .blocks) ≡ maxBlocks
 
 abbrev pub emptySet : Definitions.ClipSet
 emptySet = record { clips = 0; active = []; knots = []; blocks = []; default = record { mark = 2; value = 0·0 }; interpolateMissing = false }

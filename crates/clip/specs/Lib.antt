@@ -1,2 +1,5 @@
 -- What the contracts on sets by value cite.
 pub mod Holding
+pub mod Settling
+pub mod Retiming
+pub mod Asked

@@ -8,7 +8,7 @@ ghost use lib.ListN.{length};
 ghost use Rattle.definitions.specs.ClipSet.{maxActive, maxKnots, maxBlocks, activeTimes, knotTimes};
 ghost use Rattle.set_laws.specs.Sound.{knotValues};
 ghost use Rattle.cell_laws.specs.Unpacked.{activeOf, knotsOf};
-ghost use Rattle.clip.specs.Holding.{Room, Holds, activeIn, activeClips, knotsIn, blocksIn};
+ghost use Rattle.clip.specs.Holding.{Room, Holds, AllRoom, activeIn, activeClips, knotsIn, blocksIn};
 
 #[repr(C)]
 pub struct Active {
@@ -26,6 +26,32 @@ pub struct Knots {
 pub struct Blocks {
     pub items: [f64; 256],
     pub count: usize,
+}
+
+// Room for a set's lists as plain ones. Each array is lent once, to a function that works on slices.
+pub struct Plain {
+    pub times: [f64; 256],
+    pub numbers: [u64; 256],
+    pub xs: [f64; 512],
+    pub ys: [f64; 512],
+    pub blocks: [f64; 256],
+}
+
+pub fn blank() -> Plain
+    ensures { λ r. ⌜ AllRoom r ⌝ }
+{
+    let times = [0.0; 256];
+    let numbers = [0; 256];
+    let xs = [0.0; 512];
+    let ys = [0.0; 512];
+    let blocks = [0.0; 256];
+    Plain {
+        times,
+        numbers,
+        xs,
+        ys,
+        blocks,
+    }
 }
 
 pub fn no_active() -> Active
