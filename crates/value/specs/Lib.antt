@@ -5,3 +5,9 @@ pub mod Pairs
 pub mod Reads
 -- The direct value case by case
 pub mod Sources
+-- The neighbours of a time by one pass over times in any order
+pub mod Bounds
+-- The inverse times of a clip's samples, segment by segment
+pub mod Inverses
+-- A window's gathered times over the lent lists
+pub mod Windows

@@ -2,3 +2,4 @@
 
 pub mod direct;
 pub mod jump;
+pub mod window;
