@@ -2,3 +2,4 @@
 pub mod Scanned
 pub mod Numbers
 pub mod Ordered
+pub mod Merged

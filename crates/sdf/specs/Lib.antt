@@ -2,3 +2,4 @@
 pub mod Parts
 pub mod Judged
 pub mod Placed
+pub mod Runs
