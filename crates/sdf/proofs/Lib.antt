@@ -3,3 +3,5 @@ pub mod Scanned
 pub mod Numbers
 pub mod Ordered
 pub mod Merged
+pub mod Normal
+pub mod Written

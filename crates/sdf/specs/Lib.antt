@@ -3,3 +3,4 @@ pub mod Parts
 pub mod Judged
 pub mod Placed
 pub mod Runs
+pub mod Normalizes
