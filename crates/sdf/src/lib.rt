@@ -1,5 +1,7 @@
 // Time samples as they are lent: when they are refused, and their normal form.
+use definitions::LayerOffset;
 ghost use mathlib.Core.Path.{_≡_};
+ghost use Rattle.definitions.specs.Retime as Retime;
 ghost use Rattle.sdf.specs.Judged.{Judged};
 ghost use Rattle.sdf.specs.Normalizes.{Normalizes, outputs, listedNumber};
 
@@ -11,6 +13,13 @@ mod sorting;
 pub struct Counted {
     pub number: u8,
     pub count: usize,
+}
+
+// Where a retiming moves a stage time: each operation rounded.
+pub fn apply(o: LayerOffset, time: f64) -> f64
+    ensures { λ r. ⌜ r ≡ Retime.apply o time ⌝ }
+{
+    o.offset + o.scale * time
 }
 
 // The number by which the samples are refused for a set with `clips` clips, and 0 if they are accepted.

@@ -1,8 +1,6 @@
 -- `sdf::listed_number` meets its contract: each return settles one test. Assumes nothing.
-use mathlib.Core.Path.{_≡_, sym, _∙_}
-use mathlib.Core.Bool.{Bool, false}
-use Rattle.definitions.specs.Samples.{unlikeLengths, samples2}
-use Rattle.definitions.specs.ClipSet.{anyUnstorable}
+use mathlib.Core.Path.{sym, _∙_}
+use Rattle.definitions.specs.Samples.{samples2}
 use Rattle.sdf.specs.Normalizes.{listedNumber}
 use Rattle.sdf.proofs.Numbers.{paired}
 use borrow.Author.Needs.{needs}

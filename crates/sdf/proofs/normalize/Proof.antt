@@ -1,7 +1,6 @@
 -- `sdf::normalize` meets its contract: what the input alone refuses writes nothing, and the rest is `normalize_into`'s promise. Assumes nothing.
-use Prim.Native.Nat.{ℕ, _≤_}
-use mathlib.Core.Path.{_≡_, refl, sym, _∙_}
-use native.Mathlib.Omega.{arith}
+use Prim.Native.Nat.{_≤_}
+use mathlib.Core.Path.{_≡_, sym, _∙_}
 use lib.ListN.{length}
 use lib.Seq.{length-take-le}
 use Rattle.sdf.specs.Normalizes.{outputs, listedNumber}

@@ -1,11 +1,10 @@
 -- `sdf::merging::gather_marks` meets its contract: the first i slots are written, and the others as they were. Assumes nothing.
-use Prim.Native.Nat.{ℕ, _+_, _-_, _≤_}
-use mathlib.Core.Path.{_≡_, refl, sym, ap, _∙_}
+use Prim.Native.Nat.{ℕ, _-_, _≤_}
+use mathlib.Core.Path.{_≡_, refl, ap, _∙_}
 use mathlib.Core.List.{List}
 use native.Mathlib.Omega.{arith}
 use borrow.Author.Needs.{needs}
 use lib.ListN.{length, getD, length-set}
-use lib.Ieee.{Float, nan}
 use Rattle.set_laws.specs.Every.{every-at}
 use Rattle.sdf.specs.Placed.{Inside}
 use Rattle.sdf.proofs.Merged.{gatheredTo, gathered-next, gathered-all}

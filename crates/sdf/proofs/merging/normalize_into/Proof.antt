@@ -1,6 +1,6 @@
 -- `sdf::merging::normalize_into` meets its contract: the places in order, their runs, and what is written of them. Assumes nothing.
 use Prim.Native.Nat.{ℕ}
-use mathlib.Core.Path.{_≡_, sym, ap, _∙_, subst}
+use mathlib.Core.Path.{sym, ap, _∙_, subst}
 use mathlib.Core.List.{List}
 use lib.ListN.{length}
 use Rattle.set_laws.specs.Every.{Every}

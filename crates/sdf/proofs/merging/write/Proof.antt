@@ -1,6 +1,4 @@
 -- `sdf::merging::write` meets its contract: an output without room refuses before anything is written. Assumes nothing.
-use Prim.Native.Nat.{ℕ, _≤_}
-use mathlib.Core.Path.{_≡_, sym, _∙_}
 use native.Mathlib.Omega.{arith}
 use lib.ListN.{length}
 use Rattle.definitions.specs.Track.{Outputs}
