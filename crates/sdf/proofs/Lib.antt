@@ -2,7 +2,7 @@
 pub mod Scanned
 pub mod Numbers
 pub mod Ordered
-pub mod Halves
 pub mod Merged
+pub mod Halves
 pub mod Normal
 pub mod Written

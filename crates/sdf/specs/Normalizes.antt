@@ -47,12 +47,6 @@ listedNumber times values marks =
     9 if badMarks marks else
     0
 
--- three lists of places, as long as the times
-pub record Scratch (times : List Float) (places first last : List ℕ) : Type 0 where
-  pub places-long : length places ≡ length times
-  pub first-long : length first ≡ length times
-  pub last-long : length last ≡ length times
-
 -- the runs of the places in order, in two lists
 pub record InRuns (times values : List Float) (marks first last : List ℕ) : Type 0 where
   pub passes : listedNumber times values marks ≡ 0
