@@ -2,3 +2,7 @@
 pub mod Scanned
 pub mod Numbers
 pub mod Ordered
+pub mod Merged
+pub mod Halves
+pub mod Normal
+pub mod Written

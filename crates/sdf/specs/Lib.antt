@@ -2,3 +2,6 @@
 pub mod Parts
 pub mod Judged
 pub mod Placed
+pub mod Merging
+pub mod Runs
+pub mod Normalizes

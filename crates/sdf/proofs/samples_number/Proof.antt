@@ -2,18 +2,14 @@
 use Prim.Native.Nat.{ℕ}
 use mathlib.Core.Path.{_≡_, sym, _∙_, subst}
 use mathlib.Core.Bool.{Bool, true, false}
-use native.Mathlib.Omega.{arith}
 use borrow.Author.Tests.{not-true, not-false}
 use lib.Dec.{T}
 use lib.ListN.{length}
 use Rattle.definitions.specs.Lists.{any, zipWith}
 use Rattle.definitions.specs.ClipSet.{ClipSet, anyUnstorable}
 use Rattle.definitions.specs.Samples.{unlikeLengths, nanValue, badMarks, closes, samplesNumber}
-use Rattle.set_laws.specs.Every.{Every}
-use Rattle.cell_laws.specs.Places.{Fits}
 use Rattle.cell_laws.specs.Unpacked.{samplesOf}
 use Rattle.sdf.specs.Judged.{Judged}
-use Rattle.sdf.specs.Parts.{partsAscend}
 use Rattle.sdf.proofs.Numbers.{every-fits, paired, unlike, other-clips, unstorable, a-nan, a-mark, open-ends, falling, none-applies}
 use borrow.Author.Needs.{needs}
 use Rattle.sdf.proofs.samples_number.Statement.{statement}

@@ -1,11 +1,9 @@
 -- `sdf::scans::ascending` meets its contract: the times from i on answer for the whole. Assumes nothing.
-use Prim.Native.Nat.{_-_, _+_, _≤_}
-use mathlib.Core.Path.{_≡_, refl, sym, ap, _∙_}
-use mathlib.Core.Bool.{Bool, true, false, not, _&&_, _||_}
+use Prim.Native.Nat.{_-_, _≤_}
+use mathlib.Core.Path.{_≡_, refl, sym, _∙_}
 use native.Mathlib.Omega.{arith}
 use borrow.Author.Needs.{needs}
-use lib.ListN.{length, drop, getD}
-use lib.Ieee.{Float, nan}
+use lib.ListN.{length, drop}
 use Rattle.definitions.specs.Doubles.{ascending}
 use Rattle.sdf.proofs.Scanned.{ascending-off, ascending-later, ascending-end}
 use Rattle.sdf.proofs.scans.ascending.Statement.{statement}
@@ -17,57 +15,45 @@ Inv-loop times i₀ i = (i ≤ length times) × (ascending times ≡ ascending (
 abbrev μ-loop : tie.MeasureT-loop
 μ-loop times i₀ i = length times - i
 
--- src/scans.rt:86:5
 loop-holds : tie.Need-loop-holds Inv-loop μ-loop
 loop-holds c = (omega arith, refl)
 
--- src/scans.rt:86:11
 add-loop : tie.Need-add-loop Inv-loop μ-loop
 add-loop c = omega arith
 
--- src/scans.rt:87:14
 mul-if1 : tie.Need-mul-if1 Inv-loop μ-loop
 mul-if1 c = search needs
 
--- src/scans.rt:87:14
 shared-slice-read-if1 : tie.Need-shared-slice-read-if1 Inv-loop μ-loop
 shared-slice-read-if1 c = omega arith
 
--- src/scans.rt:87:31
 add-if1 : tie.Need-add-if1 Inv-loop μ-loop
 add-if1 c = omega arith
 
--- src/scans.rt:87:25
 mul-if1-2 : tie.Need-mul-if1-2 Inv-loop μ-loop
 mul-if1-2 c = search needs
 
--- src/scans.rt:87:25
 shared-slice-read-if1-2 : tie.Need-shared-slice-read-if1-2 Inv-loop μ-loop
 shared-slice-read-if1-2 c = omega arith
 
--- src/scans.rt:88:13
 returns : tie.Need-returns Inv-loop μ-loop
 returns c =
     let k = c .before .before .before .before .loop in
     let xs = c .before .before .before .before .before .args .times .now in
     sym (k .inv .1 ∙ ascending-off xs (k .i) (omega arith) (c .if1 .taken))
 
--- src/scans.rt:90:9
 add-i : tie.Need-add-i Inv-loop μ-loop
 add-i c = omega arith
 
--- src/scans.rt:86:5
 loop-less : tie.Need-loop-less Inv-loop μ-loop
 loop-less c = omega arith
 
--- src/scans.rt:86:5
 loop-again : tie.Need-loop-again Inv-loop μ-loop
 loop-again c =
     let k = c .before .before .before .before .loop in
     let xs = c .before .before .before .before .before .args .times .now in
     (omega arith, k .inv .1 ∙ ascending-later xs (k .i) (omega arith) (c .if1 .left))
 
--- src/scans.rt:82:1
 returns-2 : tie.Need-returns-2 Inv-loop μ-loop
 returns-2 c =
     sym (c .before .loop .inv .1 ∙ ascending-end (c .before .before .args .times .now) (c .before .loop .i) (omega arith))

@@ -1,11 +1,9 @@
 -- `sdf::scans::bad_marks` meets its contract: what is left of the list answers for the whole. Assumes nothing.
-use Prim.Native.Nat.{_-_, _+_, _≤_}
-use mathlib.Core.Path.{_≡_, refl, sym, ap, _∙_}
-use mathlib.Core.Bool.{Bool, true, false, not, _&&_, _||_}
+use Prim.Native.Nat.{_-_, _≤_}
+use mathlib.Core.Path.{_≡_, refl, sym, _∙_}
+use mathlib.Core.Bool.{Bool}
 use native.Mathlib.Omega.{arith}
-use borrow.Author.Needs.{needs}
-use lib.ListN.{length, drop, getD}
-use lib.Ieee.{Float, nan}
+use lib.ListN.{length, drop}
 use lib.Dec.{ltb}
 use Prim.Native.Nat.{ℕ}
 use borrow.Author.Tests.{lt-ltb, le-ltb}
@@ -25,15 +23,12 @@ Inv-loop marks i₀ i = (i ≤ length marks) × (any bad marks ≡ any bad (drop
 abbrev μ-loop : tie.MeasureT-loop
 μ-loop marks i₀ i = length marks - i
 
--- src/scans.rt:55:5
 loop-holds : tie.Need-loop-holds Inv-loop μ-loop
 loop-holds c = (omega arith, refl)
 
--- src/scans.rt:56:12
 shared-slice-read-if1 : tie.Need-shared-slice-read-if1 Inv-loop μ-loop
 shared-slice-read-if1 c = omega arith
 
--- src/scans.rt:57:13
 returns : tie.Need-returns Inv-loop μ-loop
 unfolding badMarks
 returns c =
@@ -41,22 +36,18 @@ returns c =
     let m = c .before .before .before .before .args .marks .now in
     sym (k .inv .1 ∙ any-here bad m (k .i) 0 (omega arith) (lt-ltb _ _ (c .if1 .taken)))
 
--- src/scans.rt:59:9
 add-i : tie.Need-add-i Inv-loop μ-loop
 add-i c = omega arith
 
--- src/scans.rt:55:5
 loop-less : tie.Need-loop-less Inv-loop μ-loop
 loop-less c = omega arith
 
--- src/scans.rt:55:5
 loop-again : tie.Need-loop-again Inv-loop μ-loop
 loop-again c =
     let k = c .before .before .before .loop in
     let m = c .before .before .before .before .args .marks .now in
     (omega arith, k .inv .1 ∙ any-later bad m (k .i) 0 (omega arith) (le-ltb _ _ (c .if1 .left)))
 
--- src/scans.rt:51:1
 returns-2 : tie.Need-returns-2 Inv-loop μ-loop
 unfolding badMarks
 returns-2 c =

@@ -1,11 +1,10 @@
 -- `sdf::scans::closes` meets its contract: the ends left, from the last one read, answer for the whole. Assumes nothing.
 use Prim.Native.Nat.{_-_, _+_, _≤_}
 use mathlib.Core.Path.{_≡_, refl, sym, ap, _∙_}
-use mathlib.Core.Bool.{Bool, true, false, not, _&&_, _||_}
+use mathlib.Core.Bool.{Bool, _&&_}
 use native.Mathlib.Omega.{arith}
 use borrow.Author.Needs.{needs}
 use lib.ListN.{length, drop, getD}
-use lib.Ieee.{Float, nan}
 use borrow.Author.Tests.{le-leb, lt-leb}
 use Rattle.definitions.specs.Samples.{closes}
 use Rattle.sdf.proofs.Scanned.{closes-on, closes-end}
@@ -18,19 +17,15 @@ Inv-loop ends count end₀ i₀ end i = (i ≤ length ends) × (closes 0 ends co
 abbrev μ-loop : tie.MeasureT-loop
 μ-loop ends count end₀ i₀ end i = length ends - i
 
--- src/scans.rt:70:5
 loop-holds : tie.Need-loop-holds Inv-loop μ-loop
 loop-holds c = (omega arith, refl)
 
--- src/scans.rt:71:20
 mul-next : tie.Need-mul-next Inv-loop μ-loop
 mul-next c = search needs
 
--- src/scans.rt:71:20
 shared-slice-read-next : tie.Need-shared-slice-read-next Inv-loop μ-loop
 shared-slice-read-next c = omega arith
 
--- src/scans.rt:73:13
 returns : tie.Need-returns Inv-loop μ-loop
 returns c =
     let k = c .before .before .before .loop in
@@ -38,15 +33,12 @@ returns c =
     let n = getD (a .ends .now) (k .i) 0 in
     sym (k .inv .1 ∙ closes-on (a .ends .now) (a .count) (k .end) (k .i) (omega arith) ∙ ap (λ (b : Bool). b && closes n (drop (k .i + 1) (a .ends .now)) (a .count)) (lt-leb _ _ (c .if1 .taken)))
 
--- src/scans.rt:76:9
 add-i : tie.Need-add-i Inv-loop μ-loop
 add-i c = omega arith
 
--- src/scans.rt:70:5
 loop-less : tie.Need-loop-less Inv-loop μ-loop
 loop-less c = omega arith
 
--- src/scans.rt:70:5
 loop-again : tie.Need-loop-again Inv-loop μ-loop
 loop-again c =
     let k = c .before .before .before .loop in
@@ -54,7 +46,6 @@ loop-again c =
     let n = getD (a .ends .now) (k .i) 0 in
     (omega arith, k .inv .1 ∙ closes-on (a .ends .now) (a .count) (k .end) (k .i) (omega arith) ∙ ap (λ (b : Bool). b && closes n (drop (k .i + 1) (a .ends .now)) (a .count)) (le-leb _ _ (c .if1 .left)))
 
--- src/scans.rt:65:1
 returns-2 : tie.Need-returns-2 Inv-loop μ-loop
 returns-2 c =
     let k = c .before .loop in

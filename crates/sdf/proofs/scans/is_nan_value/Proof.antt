@@ -4,11 +4,9 @@ use Rattle.sdf.proofs.Scanned.{differs}
 use Rattle.sdf.proofs.scans.is_nan_value.Statement.{statement}
 use Rattle.sdf.proofs.scans.is_nan_value.Tie as tie
 
--- src/scans.rt:30:9
 returns : tie.Need-returns
 returns c = simp (eq-eqb _ _ (c .if1 .taken), differs (c .before .args .value))
 
--- src/scans.rt:26:1
 returns-2 : tie.Need-returns-2
 returns-2 c = simp (ne-eqb _ _ (c .if1 .left))
 

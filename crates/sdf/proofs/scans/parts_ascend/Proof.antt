@@ -1,17 +1,17 @@
 -- `sdf::scans::parts_ascend` meets its contract: the parts before clip i ascend, and the ends from i on close the list. Assumes nothing.
-use Prim.Native.Nat.{ℕ, _-_, _+_, _≤_}
+use Prim.Native.Nat.{ℕ, _-_, _≤_}
 use mathlib.Core.Path.{_≡_, refl, sym, ap, ap₂, _∙_}
-use mathlib.Core.Bool.{Bool, true, false, not, _&&_}
+use mathlib.Core.Bool.{Bool, true, false, _&&_}
 use mathlib.Core.List.{List}
 use native.Mathlib.Omega.{arith}
 use borrow.Author.Needs.{needs}
 use borrow.Author.Tests.{not-true, not-false}
 use lib.Dec.{T}
-use lib.ListN.{length, drop, getD}
-use lib.Ieee.{Float, nan}
+use lib.ListN.{length, drop}
+use lib.Ieee.{Float}
 use Rattle.definitions.specs.Lists.{all, below}
 use Rattle.definitions.specs.Doubles.{ascending}
-use Rattle.definitions.specs.Samples.{closes, clipBegin, clipEnd}
+use Rattle.definitions.specs.Samples.{closes, clipBegin}
 use Rattle.sdf.specs.Parts.{part}
 use Rattle.sdf.proofs.Scanned.{closed-next, begin-next, part-here, below-next, below-fails}
 use Rattle.sdf.proofs.scans.parts_ascend.Statement.{statement}
@@ -30,52 +30,43 @@ Inv-loop times ends begin₀ i₀ begin i =
 abbrev μ-loop : tie.MeasureT-loop
 μ-loop times ends begin₀ i₀ begin i = length ends - i
 
--- src/scans.rt:102:5
 loop-holds : tie.Need-loop-holds Inv-loop μ-loop
 unfolding clipBegin
 loop-holds c = (omega arith, refl, c .before .before .pre, refl)
 
--- src/scans.rt:103:19
 mul-end : tie.Need-mul-end Inv-loop μ-loop
 mul-end c = search needs
 
--- src/scans.rt:103:19
 shared-slice-read-end : tie.Need-shared-slice-read-end Inv-loop μ-loop
 shared-slice-read-end c = omega arith
 
--- src/scans.rt:104:23
 mul-ascending : tie.Need-mul-ascending Inv-loop μ-loop
 mul-ascending c =
     let k = c .before .before .loop in
     let n = closed-next (c .before .before .before .before .before .args .ends .now) (length (c .before .before .before .before .before .args .times .now)) (k .begin) (k .i) (omega arith) (k .inv .2) in
     search needs
 
--- src/scans.rt:104:23
 sub-ascending : tie.Need-sub-ascending Inv-loop μ-loop
 sub-ascending c =
     let k = c .before .before .loop in
     let n = closed-next (c .before .before .before .before .before .args .ends .now) (length (c .before .before .before .before .before .args .times .now)) (k .begin) (k .i) (omega arith) (k .inv .2) in
     n .0
 
--- src/scans.rt:104:23
 part-ascending-start : tie.Need-part-ascending-start Inv-loop μ-loop
 part-ascending-start c =
     let k = c .before .before .loop in
     let n = closed-next (c .before .before .before .before .before .args .ends .now) (length (c .before .before .before .before .before .args .times .now)) (k .begin) (k .i) (omega arith) (k .inv .2) in
     search needs
 
--- src/scans.rt:104:23
 part-ascending-end : tie.Need-part-ascending-end Inv-loop μ-loop
 part-ascending-end c =
     let k = c .before .before .loop in
     let n = closed-next (c .before .before .before .before .before .args .ends .now) (length (c .before .before .before .before .before .args .times .now)) (k .begin) (k .i) (omega arith) (k .inv .2) in
     search needs
 
--- src/scans.rt:104:13
 ascending-requires : tie.Need-ascending-requires Inv-loop μ-loop
 ascending-requires c κs = search needs
 
--- src/scans.rt:105:13
 returns : tie.Need-returns Inv-loop μ-loop
 returns c =
     let k = c .before .before .before .before .before .loop in
@@ -84,15 +75,12 @@ returns c =
     ap ascending (sym (part-here (a .times .now) (a .ends .now) (k .begin) (k .i) (k .inv .1))) ∙ sym (c .before .ascending .ensures) ∙ not-true _ (c .if1 .taken) in
     sym (below-fails (ascends (a .times .now) (a .ends .now)) (k .i) (length (a .ends .now)) (omega arith) is)
 
--- src/scans.rt:108:9
 add-i : tie.Need-add-i Inv-loop μ-loop
 add-i c = omega arith
 
--- src/scans.rt:102:5
 loop-less : tie.Need-loop-less Inv-loop μ-loop
 loop-less c = omega arith
 
--- src/scans.rt:102:5
 loop-again : tie.Need-loop-again Inv-loop μ-loop
 loop-again c =
     let k = c .before .before .before .before .before .loop in
@@ -102,7 +90,6 @@ loop-again c =
     let n = closed-next (a .ends .now) (length (a .times .now)) (k .begin) (k .i) (omega arith) (k .inv .2) in
     (omega arith, sym (begin-next (a .ends .now) (k .i)), n .2, below-next (ascends (a .times .now) (a .ends .now)) (k .i) ∙ ap₂ _&&_ (k .inv .3) is)
 
--- src/scans.rt:96:1
 returns-2 : tie.Need-returns-2 Inv-loop μ-loop
 returns-2 c =
     let k = c .before .loop in
