@@ -4,3 +4,4 @@ pub mod MagnitudeLaws
 pub mod RoundingLaws
 pub mod PutLaws
 pub mod DigitLaws
+pub mod BodyLaws

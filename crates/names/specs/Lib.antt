@@ -2,3 +2,4 @@
 pub mod Pattern
 pub mod Magnitude
 pub mod Put
+pub mod Body

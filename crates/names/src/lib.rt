@@ -1,5 +1,6 @@
 // Template names: the `#` pattern of a template, and the name at a clip time.
 
+pub mod body;
 pub mod copy;
 pub mod digits;
 pub mod magnitude;
