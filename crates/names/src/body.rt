@@ -9,7 +9,7 @@ ghost use lib.Dec.{T, ltb};
 ghost use lib.ListN.{length};
 ghost use Rattle.gf.specs.Doubles.{storable};
 ghost use Rattle.definitions.specs.Names as Names;
-ghost use Rattle.names.specs.Pattern.{widthOf};
+ghost use Rattle.names.specs.Pattern.{widthOf, withDot};
 ghost use Rattle.names.specs.Put.{put};
 ghost use Rattle.names.specs.Body.{bodyOf, signOf, pointed};
 
@@ -93,4 +93,61 @@ pub fn body_at(p: Pattern, x: f64) -> Body
         return whole_body(p.width, x);
     }
     fraction_body(p.width, k, x)
+}
+
+// How many bytes the minus takes.
+fn sign_length(minus: bool) -> usize
+    ensures { λ r. ⌜ r ≡ length (signOf minus) ⌝ }
+{
+    if minus { 1 } else { 0 }
+}
+
+// How many bytes k digits and their `.` take.
+fn fraction_length(k: usize) -> usize
+    requires { ⌜ withDot k ≤ 268 ⌝ }
+    ensures { λ r. ⌜ r ≡ withDot k ⌝ }
+{
+    if k == 0 {
+        return 0;
+    }
+    k + 1
+}
+
+// How many bytes a body takes.
+pub fn body_length(b: Body) -> usize
+    requires { ⌜ length (bodyOf b) ≤ 268 ⌝ }
+    ensures { λ r. ⌜ r ≡ length (bodyOf b) ⌝ }
+{
+    sign_length(b.minus) + b.width + fraction_length(b.fraction)
+}
+
+fn put_sign(minus: bool, out: &mut [u8], at: usize)
+    requires { ⌜ at + length (signOf minus) ≤ length (now out) ⌝ }
+    ensures { λ _. ⌜ now (out .exit) ≡ put (now (out .entry)) at (signOf minus) ⌝ }
+{
+    if minus {
+        out[at] = b'-';
+    }
+}
+
+fn put_fraction(k: usize, n: u64, out: &mut [u8], at: usize)
+    requires { ⌜ at + withDot k ≤ length (now out) ⌝ }
+    ensures { λ _. ⌜ now (out .exit) ≡ put (now (out .entry)) at (pointed k n) ⌝ }
+{
+    if k == 0 {
+        return;
+    }
+    out[at] = b'.';
+    crate::digits::put_digits(n, k, out, at + 1);
+}
+
+// Writes a body from the slot `at` on.
+pub fn put_body(b: Body, out: &mut [u8], at: usize)
+    requires { ⌜ at + length (bodyOf b) ≤ length (now out) ⌝ }
+    ensures { λ _. ⌜ now (out .exit) ≡ put (now (out .entry)) at (bodyOf b) ⌝ }
+{
+    put_sign(b.minus, out, at);
+    let whole = at + sign_length(b.minus);
+    crate::digits::put_digits(b.whole, b.width, out, whole);
+    put_fraction(b.fraction, b.rest, out, whole + b.width);
 }

@@ -2,7 +2,7 @@
 use borrow.Author.Needs.{needs}
 use native.Mathlib.Omega.{arith}
 use mathlib.Core.Path.{_≡_, ap, _∙_}
-use Prim.Native.Nat.{_^_, max}
+use Prim.Native.Nat.{max}
 use native.Mathlib.Nat.{one-le-pow}
 use Rattle.gf.specs.Exactly.{within-finite}
 use Rattle.definitions.specs.Names.{decimals}

@@ -1,8 +1,7 @@
 -- `names::body::whole_body` meets its contract, by a law for each answer. Assumes nothing.
 use borrow.Author.Needs.{needs}
 use mathlib.Core.Path.{_≡_, sym, ap, _∙_}
-use Prim.Native.Nat.{ℕ, _-_, max}
-use lib.Ieee.{Float}
+use Prim.Native.Nat.{_-_, max}
 use Rattle.gf.specs.Exactly.{within-finite}
 use Rattle.gf.specs.Doubles.{truncated}
 use Rattle.names.proofs.BodyLaws.{truncated-is, with-minus, without-minus}
