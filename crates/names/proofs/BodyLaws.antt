@@ -25,13 +25,13 @@ use Rattle.names.proofs.DigitLaws.{length-digits}
 
 -- ---- the definitions by `num` and `den`, and so by what was measured
 
-truncated-part : (x : Float) → T (finite x) → truncated x ≡ num x / den x
+pub truncated-part : (x : Float) → T (finite x) → truncated x ≡ num x / den x
 unfolding truncated
 truncated-part nan h = absurd h
 truncated-part (inf s) h = absurd h
 truncated-part (fin s m e) h = refl
 
-decimals-part : (k : ℕ) (x : Float) → T (finite x) → decimals k x ≡ closest (num x * 10 ^ k) (den x)
+pub decimals-part : (k : ℕ) (x : Float) → T (finite x) → decimals k x ≡ closest (num x * 10 ^ k) (den x)
 unfolding decimals
 decimals-part k nan h = absurd h
 decimals-part k (inf s) h = absurd h

@@ -5,3 +5,5 @@ pub mod RoundingLaws
 pub mod PutLaws
 pub mod DigitLaws
 pub mod BodyLaws
+pub mod LengthLaws
+pub mod NameLaws

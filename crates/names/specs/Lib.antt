@@ -3,3 +3,4 @@ pub mod Pattern
 pub mod Magnitude
 pub mod Put
 pub mod Body
+pub mod Named
