@@ -4,3 +4,6 @@ pub mod MagnitudeLaws
 pub mod RoundingLaws
 pub mod PutLaws
 pub mod DigitLaws
+pub mod BodyLaws
+pub mod LengthLaws
+pub mod NameLaws

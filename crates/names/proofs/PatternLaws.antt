@@ -2,14 +2,14 @@
 -- `parsed`: the places found one after the other are those of the split template. Assumes nothing.
 use Prim.Native.Nat.{ℕ, zero, suc, _+_, _≤_, _<_}
 use mathlib.Core.Path.{_≡_, refl, sym, ap, ap₂, _∙_}
-use mathlib.Core.Bool.{Bool, true, false, not, _&&_, cond}
+use mathlib.Core.Bool.{Bool, true, false, not, _&&_, cond, false≢true}
 use mathlib.Core.List.{List, [], _∷_}
 use mathlib.Core.Option.{none, some}
 use native.Mathlib.Nat.{suc-add}
 use native.Mathlib.Numerals.{add-one}
 use native.Mathlib.Omega.{arith}
 use borrow.Author.Tests.{eq-eqb, ne-eqb, lt-ltb, le-leb, lt-leb}
-use lib.Dec.{eqb, ltb, leb}
+use lib.Dec.{T, eqb, ltb, leb, leb→le}
 use lib.ListN.{length, getD, take, drop, length-drop, drop-of-length-le}
 use lib.Seq.{drop-cons, drop-drop}
 use Rattle.definitions.specs.Names.{HashPattern, hash, dot, beforeHash, hashRun, withFraction, split, fractionOk, readable}
@@ -189,3 +189,31 @@ module _ (l : List ℕ) (p : Pattern) where
       pub no-later-hash : p .fraction ≤ 6 → not (hasHash (drop (p .suffix) l)) ≡ readable (patternOf l p)
       unfolding readable
       no-later-hash h = rw (le-leb 1 (p .width) one, le-leb (p .width) 32 wide, fraction-ok (p .fraction), le-leb (p .fraction) 6 h)
+
+-- ---- the other way: what a readable pattern is within
+
+pub readable-limits : (l : List ℕ) (p : Pattern) → readable (patternOf l p) ≡ true → (1 ≤ p .width) × (p .width ≤ 32) × (p .fraction ≤ 6)
+unfolding readable
+readable-limits l p e =
+    go (leb 1 (p .width)) (leb (p .width) 32) (leb (p .fraction) 6) (not (hasHash (drop (p .suffix) l)))
+    (leb→le 1 (p .width)) (leb→le (p .width) 32) (leb→le (p .fraction) 6) (rw (fraction-ok (p .fraction)) at e)
+  where
+    go : (a b c d : Bool) → (T a → 1 ≤ p .width) → (T b → p .width ≤ 32) → (T c → p .fraction ≤ 6) → (a && b && c && d) ≡ true
+        → (1 ≤ p .width) × (p .width ≤ 32) × (p .fraction ≤ 6)
+    go true true true d x y z e = (x tt, y tt, z tt)
+    go true true false d x y z e = absurd (false≢true e)
+    go true false c d x y z e = absurd (false≢true e)
+    go false b c d x y z e = absurd (false≢true e)
+
+-- ---- every template has its places
+
+pub found : List ℕ → Pattern
+found l =
+    let first = length (beforeHash l) in
+    let width = hashRun (drop first l) in
+    let fraction = fractionRun (drop (first + width) l) in
+    record { first = first; width = width; fraction = fraction; suffix = first + width + withDot fraction }
+
+pub found-parses : (l : List ℕ) → Parses l (found l)
+unfolding found
+found-parses l = parsed l (found l) refl refl refl refl

@@ -82,3 +82,16 @@ module _ (out template : List ℕ) (at i to : ℕ) (inside : i < to) (held : to 
   copy-more room =
       put-byte out at (getD template i 0) (slice (i + 1) to template) room
       ∙ ap (put out at) (ap (λ (n : ℕ). getD template i 0 ∷ slice n to template) (add-one i) ∙ sym (slice-cons i to template 0 inside held))
+
+-- ---- three parts, one after the other
+
+module _ (out : List ℕ) (at : ℕ) (a b c : List ℕ) (room : at + length a + length b + length c ≤ length out) where
+  pub put-first-length : length (put out at a) ≡ length out
+  put-first-length = put-length out at a (omega arith)
+
+  pub put-second-length : length (put (put out at a) (at + length a) b) ≡ length out
+  put-second-length = put-length (put out at a) (at + length a) b (omega (arith, put-first-length)) ∙ put-first-length
+
+  pub put-three : put (put (put out at a) (at + length a) b) (at + length a + length b) c ≡ put out at (a ++ (b ++ c))
+  put-three =
+      put-append (put out at a) (at + length a) b (omega (arith, put-first-length)) c ∙ put-append out at a (omega arith) (b ++ c)

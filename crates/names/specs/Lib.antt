@@ -2,3 +2,5 @@
 pub mod Pattern
 pub mod Magnitude
 pub mod Put
+pub mod Body
+pub mod Named
