@@ -3,25 +3,31 @@ use Prim.Native.Nat.{ℕ, zero, suc}
 use mathlib.Core.Path.{_≡_, refl, sym, ap, _∙_, subst}
 use mathlib.Core.Bool.{Bool, true, false, not, cond}
 use native.Mathlib.Omega.{arith}
+use mathlib.Core.List.{List}
+use mathlib.Core.Option.{Option, none, some}
+use lib.Ieee.{Float}
 use lib.Ieee.Scale.{finite}
 use Rattle.definitions.specs.declared.LayerOffset.{LayerOffset}
 use Rattle.definitions.specs.ClipSet.{ClipSet, Model, noSet, standing}
-use Rattle.definitions.specs.Explicit.{ExplicitFields, explicitNumber, explicitSet}
-use Rattle.definitions.specs.Template.{TemplateFields, templateNumber, templateSet}
 use Rattle.definitions.specs.Retime.{retimeNumber, retimeStageTimes}
-use Rattle.definitions.specs.Lists.{_if_else_}
+use Rattle.definitions.specs.Lists.{_if_else_, _then_}
+use Rattle.definitions.specs.Samples.{Samples, samplesNumber}
+use Rattle.sdf.specs.Judged.{Judged, judged-accepted}
 use Rattle.definitions.specs.declared.StageTime.{StageTime}
 use Rattle.definitions.specs.Questions.{Reply, refused, replied, reply, ofSet, stageTimeNumber}
 use Rattle.definitions.specs.Calls.{explicit, template, retime, step, accepted, retimed}
 use Rattle.set_laws.specs.Sound.{Sound}
 use Rattle.set_laws.specs.SoundCalls.{SoundModel}
+use Rattle.clip.specs.declared.ActiveClip.the-variants.{Clip, NoClip}
+use Rattle.clip.specs.Asked.{answered}
 use Rattle.clip.specs.declared.Parsed.{Parsed}
-use Rattle.clip.specs.Sets as sets
-use Rattle.clip.specs.Sets.{clipSetOf, Held}
+use Rattle.clip.specs.Retiming as sets
+use Rattle.clip.specs.Holding.{clipSetOf, Held}
 use Rattle.resolver.specs.declared.Resolver.{Resolver}
 use Rattle.resolver.specs.declared.Accepted.{Accepted}
+use Rattle.resolver.specs.Asked.{Asked}
 use Rattle.resolver.specs.State.{model, Made}
-use Rattle.resolver.specs.Promises.{Accepts, Expands, Retimes, Installable, Installs}
+use Rattle.resolver.specs.Promises.{Retimes, Installable, Installs}
 
 -- ---- installing
 
@@ -47,27 +53,6 @@ installs d p b i e = record {
   made = record { held = i .held; sound = i .sound e };
 }
 
--- ---- acceptance
-
-pub accepts : (d : Resolver) (f : ExplicitFields) (p : Parsed) (r : Accepted) → sets.Parses f p → Installs d p false r → Accepts d f r
-unfolding step
-accepts d f p r q i = record {
-  number = i .number ∙ q .number;
-  after = i .after ∙ accepted-same (p .number) (explicitNumber f) (model d) (standing false (clipSetOf (p .set))) (standing false (explicitSet f)) (q .number) (λ e. ap (standing false) (q .set e));
-  made = i .made;
-}
-
-pub expands : (d : Resolver) (f : TemplateFields) (p : Parsed) (r : Accepted) → sets.Expands f p → Installs d p false r → Expands d f r
-unfolding step
-expands d f p r q i = record {
-  number = i .number ∙ q .number;
-  after = i .after ∙ accepted-same (p .number) (templateNumber f) (model d) (standing false (clipSetOf (p .set))) (standing false (templateSet f)) (q .number) (λ e. ap (standing false) (q .set e));
-  made = i .made;
-}
-
-pub installable : (p : Parsed) (set : ClipSet) → Held (p .set) → (p .number ≡ 0 → clipSetOf (p .set) ≡ set) → (p .number ≡ 0 → Sound set) → Installable p
-installable p set h e s = record { held = h; sound = λ z. subst Sound (sym (e z)) (s z) }
-
 -- ---- retiming
 
 -- what stands, by the flags
@@ -92,14 +77,14 @@ pub retimes-21 : (d : Resolver) (o : LayerOffset) → Made d → d .stands ≡ t
 unfolding retimeNumber
 retimes-21 d o m e f = refused-retime d o 21 m (sym (ap (λ (x : Model). retimeNumber x o) (stands-as d true e f))) (λ z. omega arith)
 
-pub retimes : (d : Resolver) (o : LayerOffset) (p : Parsed) (r : Accepted) → d .stands ≡ true → d .retimed ≡ false → sets.Moves (d .set) o p → Installs d p true r → Retimes d o r
+pub retimes : (d : Resolver) (o : LayerOffset) (p : Parsed) (r : Accepted) → d .stands ≡ true → d .retimed ≡ false → sets.Retimes (d .set) o p → Installs d p true r → Retimes d o r
 unfolding step
 retimes d o p r e f q i =
     let s : model d ≡ standing false (clipSetOf (d .set)) = stands-as d false e f in
     let n : p .number ≡ retimeNumber (model d) o = q .number ∙ sym (ap (λ (x : Model). retimeNumber x o) s) in
     record {
       number = i .number ∙ n;
-      after = i .after ∙ accepted-same (p .number) (retimeNumber (model d) o) (model d) (standing true (clipSetOf (p .set))) (retimed o (model d)) n (λ z. ap (standing true) (q .set z) ∙ sym (ap (retimed o) s));
+      after = i .after ∙ accepted-same (p .number) (retimeNumber (model d) o) (model d) (standing true (clipSetOf (p .set))) (retimed o (model d)) n (λ z. ap (standing true) (q .moved z) ∙ sym (ap (retimed o) s));
       made = i .made;
     }
 
@@ -118,3 +103,52 @@ module _ {A : Type 0} (t : StageTime) (a : A) where
 
   pub is-finite : finite (t .0) ≡ true → replied a ≡ reply (stageTimeNumber t) a
   is-finite e = ap (λ (b : Bool). reply (10 if not b else 0) a) (sym e)
+
+-- ---- questions with samples
+
+refused-then : {A : Type 0} (n k : ℕ) (a : A) → (n ≡ 0 → ⊥) → refused n ≡ reply (n then k) a
+refused-then zero k a h = absurd (h refl)
+refused-then (suc n) k a h = refl
+
+module _ {A : Type 0} (s : Samples) (k : ClipSet → ℕ) (a : ClipSet → A) (d : Resolver) (e : d .stands ≡ true) where
+  abbrev asking : ClipSet → Reply A
+  asking set = reply (samplesNumber set s then k set) (a set)
+
+  -- the samples are refused
+  pub samples-refused : (n : ℕ) → n ≡ samplesNumber (clipSetOf (d .set)) s → (n ≡ 0 → ⊥) → refused n ≡ ofSet (model d) asking
+  samples-refused n q h = refused-then n (k (clipSetOf (d .set))) (a (clipSetOf (d .set))) h ∙ ap (λ (m : ℕ). reply (m then k (clipSetOf (d .set))) (a (clipSetOf (d .set)))) q ∙ asked asking d e
+
+  pub samples-passed : samplesNumber (clipSetOf (d .set)) s ≡ 0 → reply (k (clipSetOf (d .set))) (a (clipSetOf (d .set))) ≡ ofSet (model d) asking
+  samples-passed z = ap (λ (m : ℕ). reply (m then k (clipSetOf (d .set))) (a (clipSetOf (d .set)))) (sym z) ∙ asked asking d e
+
+-- a question for whose samples alone it may be refused
+module _ {A : Type 0} (s : Samples) (a : ClipSet → A) (d : Resolver) (e : d .stands ≡ true) where
+  abbrev plainly : ClipSet → Reply A
+  plainly set = reply (samplesNumber set s) (a set)
+
+  pub plainly-refused : (n : ℕ) → n ≡ samplesNumber (clipSetOf (d .set)) s → (n ≡ 0 → ⊥) → refused n ≡ ofSet (model d) plainly
+  plainly-refused n q h = refuses n h ∙ ap (λ (m : ℕ). reply m (a (clipSetOf (d .set)))) q ∙ asked plainly d e
+    where
+      refuses : (m : ℕ) → (m ≡ 0 → ⊥) → refused m ≡ reply m (a (clipSetOf (d .set)))
+      refuses zero g = absurd (g refl)
+      refuses (suc m) g = refl
+
+  pub plainly-replied : samplesNumber (clipSetOf (d .set)) s ≡ 0 → replied (a (clipSetOf (d .set))) ≡ ofSet (model d) plainly
+  plainly-replied z = ap (λ (m : ℕ). reply m (a (clipSetOf (d .set)))) (sym z) ∙ asked plainly d e
+
+-- what the operation has shown
+pub is-asked : (d : Resolver) (times values : List Float) (marks ends : List ℕ) (n : ℕ) → Made d → d .stands ≡ true → Judged (d .set .clips) times values marks ends n → n ≡ 0 → Asked (d .set) times values marks ends
+is-asked d times values marks ends n m e j z = record { held = m .held; sound = stands-sound d m e; accepted = judged-accepted j z (clipSetOf (d .set)) refl; numbers = j .values-fit }
+
+-- ---- the active clip, case by case
+
+other : {A : Type 0} → _≡_ {A = ℕ} 0 1 → A
+other e = absurd (omega arith)
+
+pub clip-told : (x : ℕ) (o : Option ℕ) → Clip x ≡ answered o → replied (some x) ≡ replied o
+clip-told x none e = other (cc)
+clip-told x (some y) e = ap (λ (n : ℕ). replied (some n)) (cc)
+
+pub none-told : (o : Option ℕ) → NoClip ≡ answered o → replied none ≡ replied o
+none-told none e = refl
+none-told (some y) e = other (cc)

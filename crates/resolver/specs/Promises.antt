@@ -6,7 +6,10 @@ use Prim.Native.Nat.{ℕ}
 use Rattle.definitions.specs.declared.LayerOffset.{LayerOffset}
 use Rattle.definitions.specs.declared.StageTime.{StageTime}
 use Rattle.definitions.specs.declared.ClipTime.{ClipTime}
-use Rattle.definitions.specs.Questions.{Reply, refused, replied, askActiveClip, askClipTime}
+use Rattle.definitions.specs.Questions.{Reply, refused, replied, askActiveClip, askClipTime, askValue, askUntimed}
+use Rattle.definitions.specs.declared.Answer.{Answer}
+use Rattle.definitions.specs.StageSamples as Stage
+use Rattle.value.specs.Untimed.{stateIs}
 use Rattle.definitions.specs.ClipSet.{noSet, standing}
 use Rattle.definitions.specs.Explicit.{ExplicitFields, explicitNumber}
 use Rattle.definitions.specs.Template.{TemplateFields, templateNumber}
@@ -17,13 +20,17 @@ use Rattle.definitions.specs.Calls as calls
 use Rattle.definitions.specs.Calls.{explicit, template, retime, step, accepted}
 use Rattle.set_laws.specs.Sound.{Sound}
 use Rattle.clip.specs.declared.Parsed.{Parsed}
-use Rattle.clip.specs.Sets.{clipSetOf, Held}
+use Rattle.clip.specs.Holding.{clipSetOf, Held}
 use Rattle.resolver.specs.declared.Resolver.{Resolver}
 use Rattle.resolver.specs.declared.Accepted.{Accepted}
 use Rattle.resolver.specs.declared.ClipReply.{ClipReply}
 use Rattle.resolver.specs.declared.ClipReply.the-variants.{Clip, NoClip, Refused as ClipRefused}
 use Rattle.resolver.specs.declared.TimeReply.{TimeReply}
 use Rattle.resolver.specs.declared.TimeReply.the-variants.{Time, Refused as TimeRefused}
+use Rattle.resolver.specs.declared.ValueReply.{ValueReply}
+use Rattle.resolver.specs.declared.ValueReply.the-variants.{Answered, Refused as ValueRefused}
+use Rattle.resolver.specs.declared.UntimedReply.{UntimedReply}
+use Rattle.resolver.specs.declared.UntimedReply.the-variants.{Answered as Told, Refused as UntimedRefused}
 use Rattle.resolver.specs.State.{model, Made}
 
 -- ---- calls that may change what stands
@@ -64,6 +71,20 @@ TellsClip d t r = clipReply r ≡ askActiveClip (model d) t
 
 abbrev pub TellsTime : Resolver → StageTime → TimeReply → Type 0
 TellsTime d t r = timeReply r ≡ askClipTime (model d) t
+
+abbrev pub valueReply : ValueReply → Reply Answer
+valueReply (Answered a) = replied a
+valueReply (ValueRefused n) = refused n
+
+abbrev pub untimedReply : UntimedReply → Reply Stage.ValueState
+untimedReply (Told s) = replied (stateIs s)
+untimedReply (UntimedRefused n) = refused n
+
+abbrev pub TellsValue : Resolver → Samples → StageTime → ValueReply → Type 0
+TellsValue d s t r = valueReply r ≡ askValue (model d) s t
+
+abbrev pub TellsUntimed : Resolver → Samples → UntimedReply → Type 0
+TellsUntimed d s r = untimedReply r ≡ askUntimed (model d) s
 
 -- ---- the bake
 

@@ -2,7 +2,7 @@
 use mathlib.Core.Bool.{cond}
 use Rattle.definitions.specs.ClipSet.{Model, noSet, standing}
 use Rattle.set_laws.specs.SoundCalls.{SoundModel}
-use Rattle.clip.specs.Sets.{clipSetOf, Held}
+use Rattle.clip.specs.Holding.{clipSetOf, Held}
 use Rattle.resolver.specs.declared.Resolver.{Resolver}
 
 abbrev pub model : Resolver → Model

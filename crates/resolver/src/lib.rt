@@ -1,13 +1,17 @@
 // A resolver holds one clip set by value, or none, and answers questions about it: 01's desk.
+mod asked;
+
+use clip::ActiveClip;
 use clip::ClipSet;
 use clip::Parsed;
+use definitions::Answer;
 use definitions::ClipTime;
-use definitions::Default;
 use definitions::LayerOffset;
 use definitions::StageTime;
-use definitions::TemplateTimes;
+use value::untimed::ValueState;
+ghost use Rattle.cell_laws.specs.Unpacked.{samplesOf};
 ghost use Rattle.resolver.specs.State.{Made};
-ghost use Rattle.resolver.specs.Promises.{Begins, Accepts, Expands, Retimes, TellsTime, Installable, Installs};
+ghost use Rattle.resolver.specs.Promises.{Begins, Retimes, TellsClip, TellsTime, TellsValue, TellsUntimed, Installable, Installs};
 
 #[repr(C)]
 pub struct Resolver {
@@ -34,6 +38,16 @@ pub enum TimeReply {
     Refused(u8),
 }
 
+pub enum ValueReply {
+    Answered(Answer),
+    Refused(u8),
+}
+
+pub enum UntimedReply {
+    Answered(ValueState),
+    Refused(u8),
+}
+
 impl Resolver {
     // No set stands.
     pub fn fresh() -> Resolver
@@ -45,43 +59,6 @@ impl Resolver {
             retimed: false,
             set,
         }
-    }
-
-    // The set of the fields takes the place of the standing one, unless a number refuses it.
-    pub fn accept(
-        self,
-        clips: u64,
-        starts: &[f64],
-        numbers: &[f64],
-        xs: &[f64],
-        ys: &[f64],
-        blocks: &[f64],
-        default: Default,
-        interpolate: bool,
-    ) -> Accepted
-        requires { ⌜ Made self ⌝ }
-        ensures { λ r. ⌜ Accepts self (record { clips = clips; startTimes = now (starts .entry); startClips = now (numbers .entry); knotX = now (xs .entry); knotY = now (ys .entry); blocks = now (blocks .entry); default = default; interpolateMissing = interpolate }) r ⌝ }
-    {
-        let parsed = clip::parse_set(clips, starts, numbers, xs, ys, blocks, default, interpolate);
-        install(self, parsed, false)
-    }
-
-    // The set that the template expands to takes the place of the standing one, unless a number refuses it.
-    // Where `offset` is false the offset's slot is not looked at.
-    pub fn accept_template(
-        self,
-        template: &[u8],
-        times: TemplateTimes,
-        offset: bool,
-        blocks: &[f64],
-        default: Default,
-        interpolate: bool,
-    ) -> Accepted
-        requires { ⌜ Made self ⌝ }
-        ensures { λ r. ⌜ Expands self (record { template = now (template .entry); times = times; hasOffset = offset; blocks = now (blocks .entry); default = default; interpolateMissing = interpolate }) r ⌝ }
-    {
-        let parsed = clip::expand_template(template, times, offset, blocks, default, interpolate);
-        install(self, parsed, false)
     }
 
     // The standing set moved, unless a number refuses it.
@@ -119,6 +96,60 @@ impl Resolver {
         }
         let set = self.set;
         TimeReply::Time(set.map_stage_to_clip(t))
+    }
+
+    // The clip that is active at a stage time, none in a set without starts.
+    pub fn active_clip(self, t: StageTime) -> ClipReply
+        requires { ⌜ Made self ⌝ }
+        ensures { λ r. ⌜ TellsClip self t r ⌝ }
+    {
+        if !self.stands {
+            return ClipReply::Refused(20);
+        }
+        if !gf::is_finite(t.0) {
+            return ClipReply::Refused(10);
+        }
+        let set = self.set;
+        let active = set.active_clip(t);
+        match active {
+            ActiveClip::Clip(c) => ClipReply::Clip(c),
+            ActiveClip::NoClip => ClipReply::NoClip,
+        }
+    }
+
+    // The value at a stage time.
+    pub fn value(self, times: &[f64], values: &[f64], marks: &[u8], ends: &[u64], t: StageTime) -> ValueReply
+        requires { ⌜ Made self ⌝ }
+        ensures { λ r. ⌜ TellsValue self (samplesOf (now (times .entry)) (now (values .entry)) (now (marks .entry)) (now (ends .entry))) t r ⌝ }
+    {
+        if !self.stands {
+            return ValueReply::Refused(20);
+        }
+        let set = self.set;
+        let number = sdf::samples_number(set.clips, times, values, marks, ends);
+        if number != 0 {
+            return ValueReply::Refused(number);
+        }
+        if !gf::is_finite(t.0) {
+            return ValueReply::Refused(10);
+        }
+        ValueReply::Answered(asked::value_of(set, times, values, marks, ends, t.0))
+    }
+
+    // Whether there is a value at all.
+    pub fn untimed(self, times: &[f64], values: &[f64], marks: &[u8], ends: &[u64]) -> UntimedReply
+        requires { ⌜ Made self ⌝ }
+        ensures { λ r. ⌜ TellsUntimed self (samplesOf (now (times .entry)) (now (values .entry)) (now (marks .entry)) (now (ends .entry))) r ⌝ }
+    {
+        if !self.stands {
+            return UntimedReply::Refused(20);
+        }
+        let set = self.set;
+        let number = sdf::samples_number(set.clips, times, values, marks, ends);
+        if number != 0 {
+            return UntimedReply::Refused(number);
+        }
+        UntimedReply::Answered(asked::untimed_of(set, times, values, marks, ends))
     }
 }
 

@@ -26,13 +26,8 @@ returns-2 c =
 
 map-stage-to-clip-requires : tie.Need-map-stage-to-clip-requires
 map-stage-to-clip-requires c κs =
-    let s = c .before .before .before .before .before in (
-      s .pre .held,
-      (
-        stands-sound (s .args .self) (s .pre) (not-false _ (c .before .before .before .if1 .left)),
-        subst T (sym (not-false _ (c .before .if2 .left)) ∙ c .before .before .is-finite .ensures) tt,
-      ),
-    )
+    let s = c .before .before .before .before .before in
+    (s .pre .held, stands-sound (s .args .self) (s .pre) (not-false _ (c .before .before .before .if1 .left)))
 
 returns-3 : tie.Need-returns-3
 unfolding askClipTime

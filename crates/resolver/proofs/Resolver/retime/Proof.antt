@@ -1,6 +1,6 @@
 -- `resolver::Resolver::retime` meets its contract: 20 and 21 by the flags, else the moved set is installed. Assumes nothing.
 use borrow.Author.Tests.{not-true, not-false}
-use Rattle.resolver.proofs.Laws.{retimes-20, retimes-21, retimes, stands-sound, installable}
+use Rattle.resolver.proofs.Laws.{retimes-20, retimes-21, retimes, stands-sound}
 use Rattle.resolver.proofs.Resolver.retime.Statement.{statement}
 use Rattle.resolver.proofs.Resolver.retime.Tie as tie
 
@@ -18,7 +18,7 @@ retime-stage-times-requires c κs =
 install-requires : tie.Need-install-requires
 install-requires c κs =
     let e = c .retime-stage-times .ensures in
-    (c .before .before .before .before .before .pre, installable _ _ (e .held) (e .set) (e .sound))
+    (c .before .before .before .before .before .pre, record { held = e .held; sound = e .sound })
 
 returns-3 : tie.Need-returns-3
 returns-3 c =
