@@ -6,3 +6,4 @@ pub mod Moved
 pub mod Standing
 pub mod Retimed
 pub mod Timed
+pub mod Fields

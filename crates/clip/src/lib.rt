@@ -1,4 +1,5 @@
 // Clip sets by value, and the operations on them.
+mod explicit;
 mod retiming;
 mod settling;
 pub mod storage;
