@@ -1,5 +1,6 @@
 -- Laws that belong to no one function.
 pub mod Answers
+pub mod Owned
 pub mod Packing
 pub mod Settled
 pub mod Moved

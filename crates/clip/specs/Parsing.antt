@@ -7,6 +7,7 @@ use lib.Dec.{ltb, eqb}
 use lib.ListN.{length}
 use lib.Ieee.{Float}
 use Rattle.gf.specs.Doubles.{isClipNumber}
+use Rattle.definitions.specs.declared.Default.{Default}
 use Rattle.definitions.specs.declared.Manifest.{Manifest}
 use Rattle.definitions.specs.Lists.{_if_else_, any}
 use Rattle.definitions.specs.ClipSet.{maxClips, maxActive, maxKnots, maxBlocks}
@@ -14,6 +15,9 @@ use Rattle.definitions.specs.Explicit.{ExplicitFields, explicitSet, explicit1, 
 use Rattle.set_laws.specs.Sound.{Sound}
 use Rattle.clip.specs.declared.Parsed.{Parsed}
 use Rattle.clip.specs.Holding.{Held, clipSetOf}
+
+abbrev pub manifest : Default → Bool → Manifest
+manifest default interpolate = record { default = default; interpolate = interpolate }
 
 abbrev pub explicitFields : ℕ → List Float → List Float → List Float → List Float → List Float → Manifest → ExplicitFields
 explicitFields clips starts numbers xs ys blocks m = record {
