@@ -1,4 +1,5 @@
 // Clip sets by value, and the operations on them.
+mod explicit;
 mod retiming;
 mod settling;
 pub mod storage;
@@ -7,6 +8,7 @@ mod timing;
 use definitions::ClipTime;
 use definitions::Default;
 use definitions::LayerOffset;
+use definitions::Manifest;
 use definitions::StageTime;
 use storage::Active;
 use storage::Blocks;
@@ -17,6 +19,7 @@ ghost use Rattle.set_laws.specs.Sound.{Sound};
 ghost use Rattle.clip.specs.Asked.{answered};
 ghost use Rattle.clip.specs.Holding.{Held, clipSetOf, knotsIn, EmptySet};
 ghost use Rattle.clip.specs.Retiming.{Retimes};
+ghost use Rattle.clip.specs.Parsing.{manifest, explicitFields, Parses};
 
 #[repr(C)]
 pub struct ClipSet {
@@ -59,6 +62,49 @@ pub fn empty() -> ClipSet
         default,
         interpolate: false,
     }
+}
+
+// The set of the fields, unless 1, 2, 3, 4, 5 or 9 refuses it.
+pub fn parse_set(
+    clips: u64,
+    starts: &[f64],
+    numbers: &[f64],
+    xs: &[f64],
+    ys: &[f64],
+    blocks: &[f64],
+    default: Default,
+    interpolate: bool,
+) -> Parsed
+    ensures { λ r. ⌜ Parses (explicitFields clips (now (starts .entry)) (now (numbers .entry)) (now (xs .entry)) (now (ys .entry)) (now (blocks .entry)) (manifest default interpolate)) r ⌝ }
+{
+    let manifest = Manifest {
+        default,
+        interpolate,
+    };
+    let number = explicit::fields_number(clips, starts, numbers, xs, ys, blocks, manifest);
+    if number != 0 {
+        return settling::refused(number);
+    }
+    let n = starts.len();
+    let m = xs.len();
+    let plain = storage::blank();
+    let mut times = plain.times;
+    let mut indices = plain.numbers;
+    let mut us = plain.xs;
+    let mut vs = plain.ys;
+    explicit::parse_lists(
+        clips,
+        starts,
+        numbers,
+        xs,
+        ys,
+        blocks,
+        manifest,
+        &mut times[..n],
+        &mut indices[..n],
+        &mut us[..m],
+        &mut vs[..m],
+    )
 }
 
 impl ClipSet {
