@@ -1,2 +1,3 @@
 -- What the proofs of src/ share.
 pub mod Tests
+pub mod SignCleared
