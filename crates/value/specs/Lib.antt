@@ -11,3 +11,9 @@ pub mod Bounds
 pub mod Inverses
 -- A window's gathered times over the lent lists
 pub mod Windows
+-- The value by the neighbours that were found
+pub mod Values
+-- What a source says, and that a sample that is read lies in the lists
+pub mod Says
+-- The answer without a time
+pub mod Untimed

@@ -15,7 +15,7 @@ use Rattle.definitions.specs.declared.Source.{Source}
 use Rattle.definitions.specs.declared.Source.the-variants.{Sample as sample}
 use Rattle.definitions.specs.Lists.{any}
 use Rattle.definitions.specs.ClipSet.{ClipSet, activeTimes, knotTimes, stage, clip}
-use Rattle.definitions.specs.Timing.{lastAtMost, mapTime, mapStageToClip}
+use Rattle.definitions.specs.Timing.{lastAtMost, activePosition, mapTime, mapStageToClip}
 use Rattle.definitions.specs.Samples.{Samples, clipBegin, clipEnd, clipTimes, heldPlace}
 use Rattle.definitions.specs.Value.{blockedAt, contributes, sampleOf, readClip, firstReading}
 use Rattle.set_laws.specs.Every.{Every, every-at, zip-at}
@@ -135,6 +135,10 @@ module _ {starts : List Float} {clips : List ℕ} {xs ys blocks : List Float} {m
   pub ready-starts : Ascending starts
   unfolding setOf
   ready-starts = subst Ascending (active-times starts clips (R .starts-paired)) (sound-active set (R .sound))
+
+  pub ready-position : (t : Float) (p : ℕ) → p ≡ lastAtMost starts t → activePosition (activeOf starts clips) (stage t) ≡ p
+  unfolding activePosition
+  ready-position t p e = ap (λ (l : List Float). lastAtMost l t) (active-times starts clips (R .starts-paired)) ∙ sym e
 
   pub ready-active : length (activeOf starts clips) ≡ length starts
   ready-active = zip-length start starts clips (R .starts-paired)

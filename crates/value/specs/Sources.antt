@@ -19,8 +19,8 @@ use Rattle.definitions.specs.declared.Manifest.{Manifest}
 use Rattle.definitions.specs.Timing.{lastAtMost, activePosition, mapStageToClip}
 use Rattle.definitions.specs.Samples.{Samples, clipTimes}
 use Rattle.definitions.specs.Value.{_orElse_, blockedAt, contributes, readClip, firstReading, interpolateMissingValue, manifestDefault, gapSource, sourceAt, directSource}
-use Rattle.cell_laws.specs.Unpacked.{start, activeOf, setOf, samplesOf, zip-here, active-times, Ready}
-use Rattle.value.specs.Reads.{readPart, ready-active}
+use Rattle.cell_laws.specs.Unpacked.{start, activeOf, setOf, samplesOf, zip-here, Ready}
+use Rattle.value.specs.Reads.{readPart, ready-active, ready-position}
 
 module _ (set : ClipSet) (s : Samples) (p : ℕ) where
   abbrev pub standIn : Source
@@ -122,8 +122,7 @@ module _ {starts : List Float} {clips : List ℕ} {xs ys blocks : List Float} {m
 
     module _ (p : ℕ) (e : p ≡ lastAtMost starts t) (h : p < length starts) where
       at : activePosition (activeOf starts clips) (stage t) ≡ p
-      unfolding activePosition
-      at = ap (λ (l : List Float). lastAtMost l t) (active-times starts clips (R .starts-paired)) ∙ sym e
+      at = ready-position R t p e
 
       here : getElem? (activeOf starts clips) p ≡ some (start (getD starts p nan) (getD clips p 0))
       here = zip-here start starts clips p nan 0 (R .starts-paired) h

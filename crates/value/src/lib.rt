@@ -2,4 +2,6 @@
 
 pub mod direct;
 pub mod jump;
+pub mod untimed;
+pub mod value;
 pub mod window;
