@@ -17,7 +17,7 @@ use Rattle.definitions.specs.Calls as Calls
 use Rattle.track_laws.specs.Track as steps
 use Rattle.cell_laws.specs.Keys.{entryAtKey}
 use Rattle.cell_laws.specs.Tracks.{writtenChange}
-use Rattle.track.specs.declared.Baked.{Baked}
+use Rattle.track.specs.declared.bake.Baked.{Baked}
 use Rattle.track.specs.Bakes.{changesOf, Written, outputs, trackOf, bakedIs, BakeIs}
 
 written-length : (cs : List (steps.Change Entry)) → length (map writtenChange cs) ≡ length cs

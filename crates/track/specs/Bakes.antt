@@ -17,7 +17,7 @@ use Rattle.track_laws.specs.Track as steps
 use Rattle.cell_laws.specs.Direct.{SoundSet, SoundSamples}
 use Rattle.cell_laws.specs.Keys.{entryAtKey}
 use Rattle.cell_laws.specs.Tracks.{SoundValues, entry-same, writtenChange, writtenTrack, track-is}
-use Rattle.track.specs.declared.Baked.{Baked}
+use Rattle.track.specs.declared.bake.Baked.{Baked}
 
 -- the changes of the value above low and up to top, by their keys
 abbrev pub changesOf : ClipSet → Samples → ℕ → ℕ → List (steps.Change Entry)

@@ -1,8 +1,16 @@
 // A cell: a stretch of stage times on which one source is read, or one clip along one line.
 use crate::line::Line;
+use crate::line::line_of;
 use definitions::Manifest;
 use definitions::Source;
+use value::direct::clip_begin;
+use value::direct::clip_end;
+use value::direct::contributes;
+use value::direct::direct_source;
+use value::direct::gap_source;
+use value::jump::is_jump;
 use value::window::Bound;
+use value::window::neighbours;
 ghost use mathlib.Core.Path.{_≡_};
 ghost use mathlib.Core.Bool.{not, _&&_};
 ghost use Prim.Native.Nat.{_<_};
@@ -53,8 +61,8 @@ fn has_reading(blocks: &[f64], m: Manifest, ends: &[u64], start: f64, clip: u64)
     requires { ⌜ clip < length (now ends) ⌝ }
     ensures { λ r. ⌜ r ≡ (not (m .interpolate && any (λ (b : Float). eq b start) (now (blocks .entry))) && ltb (clipBegin (now (ends .entry)) clip) (clipEnd (now (ends .entry)) clip)) ⌝ }
 {
-    if value::direct::contributes(blocks, m, start) {
-        return value::direct::clip_begin(ends, clip) < value::direct::clip_end(ends, clip);
+    if contributes(blocks, m, start) {
+        return clip_begin(ends, clip) < clip_end(ends, clip);
     }
     false
 }
@@ -83,9 +91,9 @@ fn direct_cell(
     let p = lists::last_at_most(starts, t);
     let clip = clips[p];
     if has_reading(blocks, m, ends, starts[p], clip) {
-        return Cell::Reading(clip, crate::line::line_of(xs, ys, t));
+        return Cell::Reading(clip, line_of(xs, ys, t));
     }
-    Cell::Constant(value::direct::gap_source(
+    Cell::Constant(gap_source(
         starts,
         clips,
         xs,
@@ -139,7 +147,7 @@ pub fn piece_of(
         };
     }
     let p = lists::last_at_most(starts, t);
-    let near = value::window::neighbours(
+    let near = neighbours(
         starts,
         clips,
         xs,
@@ -193,7 +201,7 @@ pub fn piece_of(
             end: Bound::At(h),
         };
     };
-    if value::jump::is_jump(xs, ys, l, h) {
+    if is_jump(xs, ys, l, h) {
         let cell = direct_cell(
             starts,
             clips,
@@ -212,7 +220,7 @@ pub fn piece_of(
             end: Bound::At(h),
         };
     }
-    let held = value::direct::direct_source(
+    let held = direct_source(
         starts,
         clips,
         xs,

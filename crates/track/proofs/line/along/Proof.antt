@@ -1,4 +1,4 @@
--- `along` meets its contract, by the line's form. Assumes nothing.
+-- `line::along` meets its contract, by the line's form. Assumes nothing.
 use mathlib.Core.Path.{sym, _∙_}
 use borrow.Author.Needs.{needs}
 use Rattle.track.specs.Lines.{along-plain, along-flat, along-start, along-on}

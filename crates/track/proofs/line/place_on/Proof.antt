@@ -1,4 +1,4 @@
--- `place_on` meets its contract. Assumes nothing.
+-- `line::place_on` meets its contract. Assumes nothing.
 use mathlib.Core.Path.{ap, _∙_}
 use borrow.Author.Needs.{needs}
 use Rattle.definitions.specs.Timing.{lastAtMost}

@@ -1,4 +1,4 @@
--- `step_in_cell` meets its contract. The invariant: the place at a is that at lo, the place at b is not. The measure is b - a. Assumes nothing.
+-- `line::step_in_cell` meets its contract. The invariant: the place at a is that at lo, the place at b is not. The measure is b - a. Assumes nothing.
 use mathlib.Core.Path.{_≡_, refl, sym, ap, _∙_}
 use Prim.Native.Nat.{ℕ, _-_, _≤_, _<_}
 use native.Mathlib.Omega.{arith}
