@@ -1,2 +1,0 @@
--- What the functions of src/ speak of.
-pub mod Lines
