@@ -1,9 +1,9 @@
 -- "A name has at most 268 bytes": the bytes of a readable template, and 13 more at most. A size up to 2 ^ 40 has 13 digits, and a run one `#` at least. Assumes nothing.
-use Prim.Native.Nat.{ℕ, zero, suc, _+_, _-_, _*_, _/_, _%_, _^_, _≤_, _<_, max, compare}
-use mathlib.Core.Path.{_≡_, refl, sym, ap, _∙_, subst}
+use Prim.Native.Nat.{ℕ, zero, suc, _+_, _-_, _*_, _/_, _%_, _^_, _≤_, max, compare}
+use mathlib.Core.Path.{_≡_, sym, ap, _∙_}
 use mathlib.Core.Bool.{Bool, true, false, _&&_, cond}
 use mathlib.Core.List.{List, [], _∷_, _++_}
-use native.Mathlib.Nat.{le-trans, le-of-eq, mul-one, mul-comm, mul-right-comm, mul-le-mul-right, div-le-of-le-mul, div-one, mod-one, max-le, one-le-pow}
+use native.Mathlib.Nat.{le-trans, le-of-eq, mul-one, mul-comm, mul-right-comm, mul-le-mul-right, div-le-of-le-mul, div-one, mod-one, max-le}
 use native.Mathlib.Omega.{arith}
 use lib.Dec.{T, ltb}
 use lib.ListN.{length, take, drop, length-append, length-drop}
@@ -17,7 +17,7 @@ use Rattle.gf.specs.Exactly.{within-finite}
 use Rattle.definitions.specs.declared.ClipTime.{ClipTime}
 use Rattle.definitions.specs.Names.{HashPattern, minus, dot, digits, places, padded, wholeBody, decimals, fractionBody, body, format, name, split, readable}
 use Rattle.names.specs.declared.pattern.Pattern.{Pattern}
-use Rattle.names.specs.Pattern.{widthOf, withDot, patternOf, Parses}
+use Rattle.names.specs.Pattern.{widthOf, withDot, Parses}
 use Rattle.names.proofs.PatternLaws.{found, found-parses, readable-limits}
 use Rattle.names.proofs.DigitLaws.{places-le, length-digits}
 use Rattle.names.proofs.MagnitudeLaws.{storable-size}

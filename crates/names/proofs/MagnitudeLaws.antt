@@ -2,12 +2,11 @@
 use Prim.Native.Nat.{ℕ, zero, suc, _+_, _-_, _*_, _/_, _%_, _^_, _≤_, _<_}
 use mathlib.Core.Path.{_≡_, refl, sym, ap, _∙_, subst}
 use mathlib.Core.Bool.{Bool, true, false, cond}
-use native.Mathlib.Nat.{le-trans, le-of-eq, le-refl, lt-irrefl, lt-of-lt-of-le, lt-of-not-le, le-of-suc-le-suc, mul-assoc, mul-comm, mul-right-comm, mul-one, mul-le-mul-right, le-of-mul-le-mul-right, eq-of-mul-eq-mul-right, mod-lt, eq-zero-or-pos}
+use native.Mathlib.Nat.{le-trans, le-of-eq, lt-irrefl, lt-of-lt-of-le, lt-of-not-le, le-of-suc-le-suc, mul-assoc, mul-right-comm, mul-le-mul-right, le-of-mul-le-mul-right, eq-of-mul-eq-mul-right}
 use native.Mathlib.Omega.{arith}
-use lib.IntN.{pos}
 use lib.Dec.{T, leb, eqb}
 use lib.Pow.{pow-add, pow-pos, pow-lt}
-use lib.Ieee.{Float, nan, inf, fin, Format, binary64, prec, low, hid, ones, top, odd, ofFields, ofBits, toBits, fits}
+use lib.Ieee.{Float, nan, inf, fin, Format, binary64, prec, low, hid, ones, odd, ofFields, ofBits, toBits, fits}
 use lib.Ieee.Digits.{back}
 use lib.Ieee.Exact.{HasValue, odd-sign}
 use lib.Ieee.Scale.{finite}
@@ -16,7 +15,6 @@ use lib.Ieee.Bits.{ofBits-toBits}
 use Rattle.gf.specs.Doubles.{storable, signBit}
 use Rattle.gf.specs.Fraction.{over, under, le→cross}
 use Rattle.gf.specs.Exactly.{power, within-lo, within-hi, within-finite}
-use Rattle.names.specs.declared.magnitude.Magnitude.{Magnitude}
 use Rattle.names.specs.Magnitude.{Measures}
 
 -- ---- a storable double is at most 2 ^ 40 in size

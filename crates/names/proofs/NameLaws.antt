@@ -1,18 +1,16 @@
 -- The name question: a law for each reply, and the writing of the three parts. Assumes nothing.
 use Prim.Native.Nat.{ℕ, suc, _+_, _-_, _≤_, _<_}
-use mathlib.Core.Path.{_≡_, refl, sym, ap, ap₂, _∙_}
-use mathlib.Core.Bool.{Bool, true, false}
+use mathlib.Core.Path.{_≡_, sym, ap, ap₂, _∙_}
+use mathlib.Core.Bool.{true, false}
 use mathlib.Core.List.{List, _++_}
 use native.Mathlib.Omega.{arith}
 use borrow.Author.Tests.{lt-ltb, le-ltb}
-use lib.Dec.{T}
 use lib.ListN.{length, take, drop, length-drop}
 use lib.Seq.{slice, take-length, length-take-le}
 use Rattle.gf.specs.Doubles.{storable}
 use Rattle.definitions.specs.declared.ClipTime.{ClipTime}
 use Rattle.definitions.specs.Names.{split, readable, name, nameNumber}
 use Rattle.names.specs.declared.pattern.Pattern.{Pattern}
-use Rattle.names.specs.declared.Named.{Named}
 use Rattle.names.specs.declared.Named.the-variants.{Refused, Written}
 use Rattle.names.specs.Put.{put}
 use Rattle.names.specs.Named.{Names, replyBy, writtenBy}

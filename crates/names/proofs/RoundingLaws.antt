@@ -2,8 +2,8 @@
 -- Assumes nothing.
 use Prim.Native.Nat.{ℕ, zero, suc, _+_, _-_, _*_, _/_, _%_, _^_, _≤_, _<_, compare, Ordering, Ordering·lt, Ordering·eq, Ordering·gt}
 use mathlib.Core.Path.{_≡_, refl, sym, ap, ap₂, _∙_}
-use mathlib.Core.Bool.{Bool, true, false, true≢false, false≢true}
-use native.Mathlib.Nat.{suc-mul, add-mul, add-assoc, mul-assoc, mul-comm, mul-right-comm, le-trans, le-of-eq, lt-of-lt-of-le, mul-le-mul, mul-le-mul-right, mul-le-mul-left, mod-lt, div-add-mod', div-le-self, div-eq-of-lt, mod-eq-of-lt, pow-le-pow-right, two-pow-succ, add-sub-of-le}
+use mathlib.Core.Bool.{true, false, true≢false, false≢true}
+use native.Mathlib.Nat.{suc-mul, add-mul, add-assoc, mul-assoc, mul-right-comm, mul-le-mul, mul-le-mul-right, mod-lt, div-add-mod', div-le-self, div-eq-of-lt, mod-eq-of-lt, pow-le-pow-right, two-pow-succ}
 use native.Mathlib.Numerals.{add-one}
 use native.Mathlib.Omega.{arith}
 use borrow.Author.Tests.{le-leb, lt-leb, eq-eqb, ne-eqb}

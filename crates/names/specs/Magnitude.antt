@@ -1,5 +1,5 @@
 -- A double's size as an exact fraction of a power of two. Assumes nothing.
-use Prim.Native.Nat.{ℕ, _*_, _^_, _≤_, _<_}
+use Prim.Native.Nat.{_*_, _^_, _≤_, _<_}
 use mathlib.Core.Path.{_≡_}
 use lib.Ieee.{Float}
 use lib.Ieee.Positive.{num, den}

@@ -1,9 +1,9 @@
 // Template names: the `#` pattern of a template, and the name at a clip time.
 
-pub mod body;
-pub mod copy;
-pub mod digits;
-pub mod magnitude;
+mod body;
+mod copy;
+mod digits;
+mod magnitude;
 pub mod pattern;
 
 use body::Body;
