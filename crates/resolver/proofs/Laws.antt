@@ -3,31 +3,40 @@ use Prim.Native.Nat.{ℕ, zero, suc}
 use mathlib.Core.Path.{_≡_, refl, sym, ap, _∙_, subst}
 use mathlib.Core.Bool.{Bool, true, false, not, cond}
 use native.Mathlib.Omega.{arith}
-use mathlib.Core.List.{List}
+use mathlib.Core.List.{List, []}
+use lib.Dec.{ltb}
 use mathlib.Core.Option.{Option, none, some}
 use lib.Ieee.{Float}
 use lib.Ieee.Scale.{finite}
 use Rattle.definitions.specs.declared.LayerOffset.{LayerOffset}
 use Rattle.definitions.specs.ClipSet.{ClipSet, Model, noSet, standing}
+use Rattle.definitions.specs.Explicit.{ExplicitFields, explicitNumber, explicitSet}
 use Rattle.definitions.specs.Retime.{retimeNumber, retimeStageTimes}
 use Rattle.definitions.specs.Lists.{_if_else_, _then_}
 use Rattle.definitions.specs.Samples.{Samples, samplesNumber}
 use Rattle.sdf.specs.Judged.{Judged, judged-accepted}
 use Rattle.definitions.specs.declared.StageTime.{StageTime}
 use Rattle.definitions.specs.Questions.{Reply, refused, replied, reply, ofSet, stageTimeNumber}
-use Rattle.definitions.specs.Calls.{explicit, template, retime, step, accepted, retimed}
+use Rattle.gf.specs.Doubles.{0·0}
+use Rattle.definitions.specs.Track.{Track, Outputs, slots, bakeNumber}
+use Rattle.cell_laws.specs.Unpacked.{samplesOf, sound-set, sound-samples}
+use Rattle.track.specs.declared.bake.Baked.{Baked}
+use Rattle.track.specs.Bakes.{BakeIs, bakedIs, bakedReply, bakes}
+use Rattle.definitions.specs.Calls as calls
+use Rattle.definitions.specs.Calls.{explicit, retime, step, accepted, retimed, bakedOf, outputsAfter, Bakes}
 use Rattle.set_laws.specs.Sound.{Sound}
 use Rattle.set_laws.specs.SoundCalls.{SoundModel}
 use Rattle.clip.specs.declared.ActiveClip.the-variants.{Clip, NoClip}
 use Rattle.clip.specs.Asked.{answered}
 use Rattle.clip.specs.declared.Parsed.{Parsed}
+use Rattle.clip.specs.Parsing as parsing
 use Rattle.clip.specs.Retiming as sets
 use Rattle.clip.specs.Holding.{clipSetOf, Held}
 use Rattle.resolver.specs.declared.Resolver.{Resolver}
 use Rattle.resolver.specs.declared.Accepted.{Accepted}
 use Rattle.resolver.specs.Asked.{Asked}
 use Rattle.resolver.specs.State.{model, Made}
-use Rattle.resolver.specs.Promises.{Retimes, Installable, Installs}
+use Rattle.resolver.specs.Promises.{Accepts, Retimes, Installable, Installs}
 
 -- ---- installing
 
@@ -51,6 +60,16 @@ installs d p b i e = record {
   number = sym e;
   after = accepted-granted (p .number) (model d) (standing b (clipSetOf (p .set))) e;
   made = record { held = i .held; sound = i .sound e };
+}
+
+-- ---- acceptance
+
+pub accepts : (d : Resolver) (f : ExplicitFields) (p : Parsed) (r : Accepted) → parsing.Parses f p → Installs d p false r → Accepts d f r
+unfolding step
+accepts d f p r q i = record {
+  number = i .number ∙ q .number;
+  after = i .after ∙ accepted-same (p .number) (explicitNumber f) (model d) (standing false (clipSetOf (p .set))) (standing false (explicitSet f)) (q .number) (λ e. ap (standing false) (q .made e));
+  made = i .made;
 }
 
 -- ---- retiming
@@ -152,3 +171,64 @@ clip-told x (some y) e = ap (λ (n : ℕ). replied (some n)) (cc)
 pub none-told : (o : Option ℕ) → NoClip ≡ answered o → replied none ≡ replied o
 none-told none e = refl
 none-told (some y) e = other (cc)
+
+-- ---- the bake
+
+-- a track that nobody asks for
+abbrev noTrack : Track
+noTrack = record { initial = record { value = 0·0; mark = 0 }; changes = [] }
+
+pub bakes-20 : (d : Resolver) (s : Samples) (o : Outputs) → d .stands ≡ false → Bakes (model d) s o (refused 20) o
+bakes-20 d s o e = subst (λ (m : Model). Bakes m s o (refused 20) o) (sym (none-stands d e)) (record {
+  track = noTrack;
+  is = λ b set q. other (cc);
+  replies = unfold bakeNumber in refl;
+  writes = unfold bakeNumber in refl;
+})
+
+pub bakes-refused : (d : Resolver) (s : Samples) (o : Outputs) (n : ℕ) → d .stands ≡ true → n ≡ samplesNumber (clipSetOf (d .set)) s → (n ≡ 0 → ⊥) → Bakes (model d) s o (refused n) o
+bakes-refused d s o n e q h = subst (λ (m : Model). Bakes m s o (refused n) o) (sym (stands-as d (d .retimed) e refl)) (record {
+  track = noTrack;
+  is = λ b set p z. absurd (h (q ∙ ap (λ (x : ClipSet). samplesNumber x s) (same b set p) ∙ z));
+  replies = refuses n h ∙ ap (λ (m : ℕ). reply m (bakedOf noTrack)) number-is;
+  writes = keeps n h ∙ ap (λ (m : ℕ). outputsAfter m noTrack o) number-is;
+})
+  where
+    same : (b : Bool) (set : ClipSet) → standing (d .retimed) (clipSetOf (d .set)) ≡ standing b set → clipSetOf (d .set) ≡ set
+    same b set p = cc
+
+    kept : (m k : ℕ) → (m ≡ 0 → ⊥) → m ≡ (m then k)
+    kept zero k g = absurd (g refl)
+    kept (suc m) k g = refl
+
+    number-is : n ≡ bakeNumber (standing (d .retimed) (clipSetOf (d .set))) s (slots o) 0
+    number-is = unfold bakeNumber in kept n (22 if ltb (slots o) 0 else 0) h ∙ ap (λ (m : ℕ). m then 22 if ltb (slots o) 0 else 0) q
+
+    refuses : (m : ℕ) → (m ≡ 0 → ⊥) → refused m ≡ reply m (bakedOf noTrack)
+    refuses zero g = absurd (g refl)
+    refuses (suc m) g = refl
+
+    keeps : (m : ℕ) → (m ≡ 0 → ⊥) → o ≡ outputsAfter m noTrack o
+    keeps zero g = absurd (g refl)
+    keeps (suc m) g = refl
+
+-- a reply with a number that is not 0 is a refusal
+pub reply-refused : (r : Baked) (n : ℕ) → r .number ≡ n → (n ≡ 0 → ⊥) → refused n ≡ bakedReply r
+reply-refused r zero e h = absurd (h refl)
+reply-refused r (suc n) e h = ap (λ (m : ℕ). reply m (bakedIs r)) (sym e)
+
+-- a bake of a set is one of an equal set
+pub bake-as : {x y : ClipSet} {s : Samples} {before after : Outputs} {r : Baked} → x ≡ y → BakeIs x s before after r → BakeIs y s before after r
+bake-as {s = s} {before = before} {after = after} {r = r} e p = subst (λ (z : ClipSet). BakeIs z s before after r) e p
+
+pub bakes-set : (d : Resolver) (times values : List Float) (marks ends : List ℕ) (before after : Outputs) (r : Baked) → d .stands ≡ true → Asked (d .set) times values marks ends
+    → samplesNumber (clipSetOf (d .set)) (samplesOf times values marks ends) ≡ 0 → BakeIs (clipSetOf (d .set)) (samplesOf times values marks ends) before after r
+    → Bakes (model d) (samplesOf times values marks ends) before (bakedReply r) after
+bakes-set d times values marks ends before after r e a z p =
+    subst (λ (m : Model). Bakes m (samplesOf times values marks ends) before (bakedReply r) after) (sym (stands-as d (d .retimed) e refl))
+    (bakes (d .retimed) (clipSetOf (d .set)) (samplesOf times values marks ends) (sound-set (clipSetOf (d .set)) (a .sound)) (sound-samples (clipSetOf (d .set)) (samplesOf times values marks ends) (a .accepted))
+    (record { values = a .numbers; default = a .sound .default .fitting }) z before after r p)
+
+-- the same reply, said otherwise
+pub bakes-reply : {m : Model} {s : Samples} {o p : Outputs} {a b : Reply calls.Baked} → a ≡ b → Bakes m s o a p → Bakes m s o b p
+bakes-reply {m = m} {s = s} {o = o} {p = p} e k = subst (λ (r : Reply calls.Baked). Bakes m s o r p) e k

@@ -2,3 +2,4 @@
 pub mod State
 pub mod Asked
 pub mod Promises
+pub mod WholeList

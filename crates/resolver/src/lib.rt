@@ -6,12 +6,18 @@ use clip::ClipSet;
 use clip::Parsed;
 use definitions::Answer;
 use definitions::ClipTime;
+use definitions::Default;
 use definitions::LayerOffset;
 use definitions::StageTime;
+use track::bake::Baked;
 use value::untimed::ValueState;
+ghost use mathlib.Core.Path.{_≡_};
 ghost use Rattle.cell_laws.specs.Unpacked.{samplesOf};
+ghost use Rattle.clip.specs.Parsing.{explicitFields};
+ghost use Rattle.clip.specs.Parsing.{manifest};
+ghost use Rattle.track.specs.Bakes.{outputs, bakedReply};
 ghost use Rattle.resolver.specs.State.{Made};
-ghost use Rattle.resolver.specs.Promises.{Begins, Retimes, TellsClip, TellsTime, TellsValue, TellsUntimed, Installable, Installs};
+ghost use Rattle.resolver.specs.Promises.{Begins, Accepts, Retimes, BakesTrack, TellsClip, TellsTime, TellsValue, TellsUntimed, Installable, Installs};
 
 #[repr(C)]
 pub struct Resolver {
@@ -59,6 +65,25 @@ impl Resolver {
             retimed: false,
             set,
         }
+    }
+
+    // The set of the fields takes the place of the standing one, unless a number refuses it.
+    pub fn accept(
+        self,
+        clips: u64,
+        starts: &[f64],
+        numbers: &[f64],
+        xs: &[f64],
+        ys: &[f64],
+        blocks: &[f64],
+        default: Default,
+        interpolate: bool,
+    ) -> Accepted
+        requires { ⌜ Made self ⌝ }
+        ensures { λ r. ⌜ Accepts self (explicitFields clips (now (starts .entry)) (now (numbers .entry)) (now (xs .entry)) (now (ys .entry)) (now (blocks .entry)) (manifest default interpolate)) r ⌝ }
+    {
+        let parsed = clip::parse_set(clips, starts, numbers, xs, ys, blocks, default, interpolate);
+        install(self, parsed, false)
     }
 
     // The standing set moved, unless a number refuses it.
@@ -118,7 +143,14 @@ impl Resolver {
     }
 
     // The value at a stage time.
-    pub fn value(self, times: &[f64], values: &[f64], marks: &[u8], ends: &[u64], t: StageTime) -> ValueReply
+    pub fn value(
+        self,
+        times: &[f64],
+        values: &[f64],
+        marks: &[u8],
+        ends: &[u64],
+        t: StageTime,
+    ) -> ValueReply
         requires { ⌜ Made self ⌝ }
         ensures { λ r. ⌜ TellsValue self (samplesOf (now (times .entry)) (now (values .entry)) (now (marks .entry)) (now (ends .entry))) t r ⌝ }
     {
@@ -151,6 +183,40 @@ impl Resolver {
         }
         UntimedReply::Answered(asked::untimed_of(set, times, values, marks, ends))
     }
+
+    // The track of the standing set's value: the head and the count, and the changes written to the lent lists.
+    pub fn bake(
+        self,
+        times: &[f64],
+        values: &[f64],
+        marks: &[u8],
+        ends: &[u64],
+        outtimes: &mut [f64],
+        outvalues: &mut [f64],
+        outmarks: &mut [u8],
+    ) -> Baked
+        requires { ⌜ Made self ⌝ }
+        ensures { λ r. ⌜ BakesTrack self (samplesOf (now (times .entry)) (now (values .entry)) (now (marks .entry)) (now (ends .entry))) (outputs (now (outtimes .entry)) (now (outvalues .entry)) (now (outmarks .entry))) (bakedReply r) (outputs (now (outtimes .exit)) (now (outvalues .exit)) (now (outmarks .exit))) ⌝ }
+    {
+        if !self.stands {
+            return refused_bake(20);
+        }
+        let set = self.set;
+        let number = sdf::samples_number(set.clips, times, values, marks, ends);
+        if number != 0 {
+            return refused_bake(number);
+        }
+        asked::bake_of(
+            set,
+            times,
+            values,
+            marks,
+            ends,
+            outtimes,
+            outvalues,
+            outmarks,
+        )
+    }
 }
 
 // The parsed set stands, unless its number refuses it; then what stood still stands.
@@ -174,5 +240,16 @@ fn install(d: Resolver, parsed: Parsed, retimed: bool) -> Accepted
     Accepted {
         number: 0,
         resolver: next,
+    }
+}
+
+fn refused_bake(number: u8) -> Baked
+    ensures { λ r. ⌜ r .number ≡ number ⌝ }
+{
+    Baked {
+        number,
+        mark: 0,
+        value: 0.0,
+        count: 0,
     }
 }

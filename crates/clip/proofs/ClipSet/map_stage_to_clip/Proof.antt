@@ -30,7 +30,7 @@ slice-aggregate-time-at-2 : tie.Need-slice-aggregate-time-at-2
 slice-aggregate-time-at-2 c = let s = c .before .before .before .before .before .before in sym (lent 512 (s .args .self .knots .count) (c .before .before .before .before .blank .result .ys) (c .before .before .before .before .blank .ensures .ys) (s .pre .0 .knots .few))
 
 time-at-requires : tie.Need-time-at-requires
-time-at-requires c κs = 
+time-at-requires c κs =
     let s = c .before .before .before .before .before .before in
     let n = s .args .self .knots .count in
     let b = c .before .before .before .before .blank in

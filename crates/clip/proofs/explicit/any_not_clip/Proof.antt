@@ -38,7 +38,7 @@ is-clip-number-requires : tie.Need-is-clip-number-requires Inv-loop μ-loop
 is-clip-number-requires c κs = search needs
 
 returns : tie.Need-returns Inv-loop μ-loop
-returns c = 
+returns c =
     let k = c .before .before .before .before .loop in
     let s = c .before .before .before .before .before .before in
     sym (k .inv .1 ∙ any-here (bad (s .args .clips)) (now (s .args .numbers)) (k .i) nan (omega arith) (ap not (sym (c .before .is-clip-number .ensures)) ∙ c .if1 .taken))
@@ -50,13 +50,13 @@ loop-less : tie.Need-loop-less Inv-loop μ-loop
 loop-less c = omega arith
 
 loop-again : tie.Need-loop-again Inv-loop μ-loop
-loop-again c = 
+loop-again c =
     let k = c .before .before .before .before .loop in
     let s = c .before .before .before .before .before .before in
     (omega arith, k .inv .1 ∙ any-later (bad (s .args .clips)) (now (s .args .numbers)) (k .i) nan (omega arith) (ap not (sym (c .before .is-clip-number .ensures)) ∙ c .if1 .left))
 
 returns-2 : tie.Need-returns-2 Inv-loop μ-loop
-returns-2 c = 
+returns-2 c =
     let k = c .before .loop in
     let s = c .before .before .before in
     sym (k .inv .1 ∙ any-end (bad (s .args .clips)) (now (s .args .numbers)) (k .i) (omega arith))

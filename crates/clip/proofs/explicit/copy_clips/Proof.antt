@@ -25,7 +25,7 @@ abbrev μ-loop : tie.MeasureT-loop
 μ-loop numbers clips to₀ i₀ to i = length numbers - i
 
 loop-holds : tie.Need-loop-holds Inv-loop μ-loop
-loop-holds c = 
+loop-holds c =
     let s = c .before .before in
     (fill-start (map truncated (now (s .args .numbers))) (now (s .args .to)) (omega (arith, length-map (now (s .args .numbers)) truncated, s .pre .1)), s .pre .1)
 
@@ -36,7 +36,7 @@ shared-slice-read-to-index : tie.Need-shared-slice-read-to-index Inv-loop μ-loo
 shared-slice-read-to-index c = omega arith
 
 to-index-requires : tie.Need-to-index-requires Inv-loop μ-loop
-to-index-requires c κs = 
+to-index-requires c κs =
     let k = c .before .before .loop in
     let s = c .before .before .before .before .before in
     index-ready (s .args .clips) _ (omega arith) (every-at (λ (x : Float). T (isClipNumber (s .args .clips) x)) (now (s .args .numbers)) (k .i) nan (any-not-every (isClipNumber (s .args .clips)) (now (s .args .numbers)) (s .pre .0)) (omega arith))
@@ -54,7 +54,7 @@ loop-less : tie.Need-loop-less Inv-loop μ-loop
 loop-less c = search needs
 
 loop-again : tie.Need-loop-again Inv-loop μ-loop
-loop-again c = 
+loop-again c =
     let k = c .before .before .before .loop in
     let s = c .before .before .before .before .before .before in
     let n = length-map (now (s .args .numbers)) truncated in
@@ -64,7 +64,7 @@ same-length : tie.Need-same-length Inv-loop μ-loop
 same-length c = search needs
 
 returns : tie.Need-returns Inv-loop μ-loop
-returns c = 
+returns c =
     let k = c .before .loop in
     let s = c .before .before .before .before in
     let n = length-map (now (s .args .numbers)) truncated in

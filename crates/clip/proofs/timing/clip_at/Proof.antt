@@ -37,7 +37,7 @@ same-length-2 : tie.Need-same-length-2
 same-length-2 c = search needs
 
 returns : tie.Need-returns
-returns c = 
+returns c =
     let u = c .before .before .before .before .before .before .before .unpack-active in
     ap₂ (λ (l : List ℕ) (p : ℕ). getD l p 0) (u .ensures .1) (c .before .last-at-most .ensures ∙ ap (λ (l : List Float). lastAtMost l (c .before .before .before .before .before .before .before .before .before .before .before .before .args .t)) (u .ensures .0))
 

@@ -19,7 +19,7 @@ unpack-knots-requires : tie.Need-unpack-knots-requires
 unpack-knots-requires c κs = search needs
 
 map-time-requires : tie.Need-map-time-requires
-map-time-requires c κs = 
+map-time-requires c κs =
     let u = c .before .before .before .before .before .before .unpack-knots in
     let s = c .before .before .before .before .before .before .before .before .before .before .before in
     (subst Ascending (sym (u .ensures .0)) (s .pre .1 .1 .1), u .kept .1 .0 ∙ s .pre .1 .0 ∙ sym (u .kept .1 .1 .0 ∙ s .pre .1 .1 .0))
@@ -31,7 +31,7 @@ same-length-2 : tie.Need-same-length-2
 same-length-2 c = search needs
 
 returns : tie.Need-returns
-returns c = 
+returns c =
     let u = c .before .before .before .before .before .before .before .unpack-knots in
     let s = c .before .before .before .before .before .before .before .before .before .before .before .before in
     c .map-time .ensures ∙ ap (λ (l : List Knot). mapTime l (s .args .t)) (ap₂ knotsOf (u .ensures .0) (u .ensures .1) ∙ knots-again (knotsIn (s .args .knots)))

@@ -43,9 +43,10 @@ returns-3 c =
 
 value-of-requires : tie.Need-value-of-requires
 value-of-requires c κs =
-    let s = c .before .before .before .before .before .before .before .before .before .before .before in
-    (is-asked (s .args .self) _ _ _ _ _ (s .pre) (not-false _ (c .before .before .before .before .before .if1 .left)) (c .before .before .before .samples-number .ensures) (c .before .before .if2 .left),
-    subst T (sym (not-false _ (c .if3 .left)) ∙ c .before .is-finite .ensures) tt)
+    let s = c .before .before .before .before .before .before .before .before .before .before .before in (
+      is-asked (s .args .self) _ _ _ _ _ (s .pre) (not-false _ (c .before .before .before .before .before .if1 .left)) (c .before .before .before .samples-number .ensures) (c .before .before .if2 .left),
+      subst T (sym (not-false _ (c .if3 .left)) ∙ c .before .is-finite .ensures) tt,
+    )
 
 returns-4 : tie.Need-returns-4
 unfolding askValue

@@ -47,13 +47,13 @@ slice-aggregate-untimed-5 : tie.Need-slice-aggregate-untimed-5
 slice-aggregate-untimed-5 c = let h = c .before .before .before .before .before .before .before .before .before .before .before .before .before .before .before .before .before .before .pre .held .blocks in sym (front-long _ _ maxBlocks (h .long) (h .few))
 
 untimed-requires : tie.Need-untimed-requires
-untimed-requires c κs = 
+untimed-requires c κs =
     let s = c .before .before .before .before .before .before .before .before .before .before .before .before .before .before .before .before .before .before in
     let p = s .pre in
     unpacked-ready (s .args .set) _ _ (c .before .before .before .before .before .before .before .before .before .before .before .before .before .unpack-starts .ensures) (c .before .before .before .before .before .before .before .before .before .before .before .before .unpack-knots .ensures) (now (s .args .times)) (now (s .args .values)) (now (s .args .marks)) (now (s .args .ends)) (p .sound) (p .accepted) (p .numbers)
 
 returns : tie.Need-returns
-returns c = 
+returns c =
     let s = c .before .before .before .before .before .before .before .before .before .before .before .before .before .before .before .before .before .before .before in
     let p = s .pre in
     c .untimed .ensures

@@ -47,13 +47,13 @@ slice-aggregate-value-5 : tie.Need-slice-aggregate-value-5
 slice-aggregate-value-5 c = let h = c .before .before .before .before .before .before .before .before .before .before .before .before .before .before .before .before .before .before .pre .0 .held .blocks in sym (front-long _ _ maxBlocks (h .long) (h .few))
 
 value-requires : tie.Need-value-requires
-value-requires c κs = 
+value-requires c κs =
     let s = c .before .before .before .before .before .before .before .before .before .before .before .before .before .before .before .before .before .before in
     let p = s .pre .0 in
     (unpacked-ready (s .args .set) _ _ (c .before .before .before .before .before .before .before .before .before .before .before .before .before .unpack-starts .ensures) (c .before .before .before .before .before .before .before .before .before .before .before .before .unpack-knots .ensures) (now (s .args .times)) (now (s .args .values)) (now (s .args .marks)) (now (s .args .ends)) (p .sound) (p .accepted) (p .numbers), s .pre .1)
 
 returns : tie.Need-returns
-returns c = 
+returns c =
     let s = c .before .before .before .before .before .before .before .before .before .before .before .before .before .before .before .before .before .before .before in
     let p = s .pre .0 in
     c .value .ensures
