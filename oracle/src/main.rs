@@ -21,6 +21,7 @@ mod numbers;
 mod plain;
 mod random;
 mod random_cases;
+mod sample;
 mod short_cases;
 mod text;
 mod track;
@@ -68,14 +69,15 @@ fn answer(input: &mut dyn BufRead, output: &mut dyn Write, check: bool, timed: b
     Ok(differences)
 }
 
-const USAGE: &str = "oracle [check | timed | test | gen SEED REPLIES | short PART OF | compare CASES A B]
+const USAGE: &str = "oracle [check | timed | test | gen SEED REPLIES | short PART OF | compare CASES A B | sample FOLDER]
   (nothing)            case text on standard input, replies on standard output
   check                the same, and every reply worked out from document 01 too; differences go to standard error
   timed                the same, with the time of each reply on standard error
   test                 document 01's figures
   gen SEED REPLIES     case text from a seed, at least that many replies' worth
   short PART OF        every OF-th of all short sets and lists, beginning with PART
-  compare CASES A B    two lists of replies to the same case text";
+  compare CASES A B    two lists of replies to the same case text
+  sample FOLDER        the stored sample";
 
 fn main() -> io::Result<()> {
     let arguments: Vec<String> = std::env::args().skip(1).collect();
@@ -105,6 +107,7 @@ fn main() -> io::Result<()> {
             println!("{} replies, {equal} equal, {} differing, {} missing", counts.replies, counts.differing, counts.missing);
             std::process::exit((counts.differing + counts.missing > 0).into());
         }
+        ["sample", folder] => sample::write(folder.as_ref()),
         ["test"] => std::process::exit((!figures::test()).into()),
         _ => {
             eprintln!("{USAGE}");
