@@ -74,16 +74,39 @@ fn answer(value: Option<Value>) -> Answer {
     }
 }
 
+fn dictionary(filling: &Filling) -> Map {
+    let mut set = Map::new();
+    set.insert(keys::MANIFEST_ASSET_PATH.into(), Value::AssetPath(AssetPath::new("m")));
+    set.insert(keys::INTERPOLATE_MISSING.into(), Value::Bool(filling.flag));
+    set
+}
+
+/// An explicit set's dictionary, as a layer would author it.
+pub fn explicit_dictionary(e: &Explicit) -> Map {
+    let mut set = dictionary(&e.filling);
+    let paths = (0..e.clips as usize).map(clip_path).collect();
+    set.insert(keys::ASSET_PATHS.into(), Value::AssetPathVec(paths));
+    set.insert(keys::ACTIVE.into(), pairs(&e.start_times, &e.start_clips));
+    set.insert(keys::TIMES.into(), pairs(&e.knot_x, &e.knot_y));
+    set
+}
+
+/// A template set's dictionary.
+pub fn template_dictionary(t: &Template) -> Map {
+    let mut set = dictionary(&t.filling);
+    set.insert(keys::TEMPLATE_ASSET_PATH.into(), Value::String(latin(&t.bytes)));
+    set.insert(keys::TEMPLATE_START_TIME.into(), Value::Double(t.start));
+    set.insert(keys::TEMPLATE_END_TIME.into(), Value::Double(t.end));
+    set.insert(keys::TEMPLATE_STRIDE.into(), Value::Double(t.stride));
+    if let Some(offset) = t.offset {
+        set.insert(keys::TEMPLATE_ACTIVE_OFFSET.into(), Value::Double(offset));
+    }
+    set
+}
+
 impl Desk {
     pub fn new(check: bool) -> Self {
-        Desk {
-            set: None,
-            samples: Samples::default(),
-            lent: None,
-            asked: Asked::new(),
-            check,
-            differences: Vec::new(),
-        }
+        Desk { set: None, samples: Samples::default(), lent: None, asked: Asked::new(), check, differences: Vec::new() }
     }
 
     /// Replies to a call; lent samples have no reply.
@@ -138,34 +161,6 @@ impl Desk {
 
     // Acceptance.
 
-    fn dictionary(&self, filling: &Filling) -> Map {
-        let mut set = Map::new();
-        set.insert(keys::MANIFEST_ASSET_PATH.into(), Value::AssetPath(AssetPath::new("m")));
-        set.insert(keys::INTERPOLATE_MISSING.into(), Value::Bool(filling.flag));
-        set
-    }
-
-    fn explicit_dictionary(&self, e: &Explicit) -> Map {
-        let mut set = self.dictionary(&e.filling);
-        let paths = (0..e.clips as usize).map(clip_path).collect();
-        set.insert(keys::ASSET_PATHS.into(), Value::AssetPathVec(paths));
-        set.insert(keys::ACTIVE.into(), pairs(&e.start_times, &e.start_clips));
-        set.insert(keys::TIMES.into(), pairs(&e.knot_x, &e.knot_y));
-        set
-    }
-
-    fn template_dictionary(&self, t: &Template) -> Map {
-        let mut set = self.dictionary(&t.filling);
-        set.insert(keys::TEMPLATE_ASSET_PATH.into(), Value::String(latin(&t.bytes)));
-        set.insert(keys::TEMPLATE_START_TIME.into(), Value::Double(t.start));
-        set.insert(keys::TEMPLATE_END_TIME.into(), Value::Double(t.end));
-        set.insert(keys::TEMPLATE_STRIDE.into(), Value::Double(t.stride));
-        if let Some(offset) = t.offset {
-            set.insert(keys::TEMPLATE_ACTIVE_OFFSET.into(), Value::Double(offset));
-        }
-        set
-    }
-
     fn install(&mut self, mut set: ClipSet, filling: &Filling, plain: plain::Set, out: &mut Line) {
         // A template's names may fall together; a clip is known here by its number.
         set.asset_paths = (0..set.asset_paths.len()).map(clip_path).collect();
@@ -174,8 +169,7 @@ impl Desk {
             self.compare("clips", set.asset_paths.len(), plain.clips);
         }
         let source = ClipAnchor { layer: LayerId(0), prim_path: Path::new("/a").unwrap(), stack: LayerStackId };
-        let resolved =
-            ResolvedClipSet { set, source, manifest_layer: None, active_offset: LayerOffset::IDENTITY };
+        let resolved = ResolvedClipSet { set, source, manifest_layer: None, active_offset: LayerOffset::IDENTITY };
         self.set = Some(Standing { resolved, filling: filling.clone(), retimed: false, plain });
         self.lent = None;
         out.word("ok");
@@ -187,7 +181,7 @@ impl Desk {
         if matches!(number, Err(1)) {
             return number;
         }
-        let parsed = reach::parse_set(&self.explicit_dictionary(e));
+        let parsed = reach::parse_set(&explicit_dictionary(e));
         match (number, parsed) {
             (Ok(()), Some(set)) => {
                 self.install(set, &e.filling, plain::explicit(e), out);
@@ -212,7 +206,7 @@ impl Desk {
             // 8 first: on a t that does not move the Rust never ends.
             if self.check && matches!(number, 6 | 7) && t.bytes.len() <= 255 {
                 let wide = number == 6 && reach::name(&latin(&t.bytes), 0.0).is_some();
-                let set = if number == 7 { reach::expand(&self.template_dictionary(t)) } else { None };
+                let set = if number == 7 { reach::expand(&template_dictionary(t)) } else { None };
                 if set.is_some() {
                     self.differs("template", "a set", number);
                 }
@@ -222,7 +216,7 @@ impl Desk {
             }
             return Err(number);
         }
-        let dictionary = self.template_dictionary(t);
+        let dictionary = template_dictionary(t);
         let Some((_, starts, knots)) = reach::expand(&dictionary) else {
             self.differs("template", "no expansion", "an expansion");
             return Err(0);

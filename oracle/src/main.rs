@@ -12,6 +12,7 @@ mod tf;
 #[path = "standins/vt.rs"]
 mod vt;
 
+mod beyond;
 mod calls;
 mod compare;
 mod desk;
@@ -69,11 +70,12 @@ fn answer(input: &mut dyn BufRead, output: &mut dyn Write, check: bool, timed: b
     Ok(differences)
 }
 
-const USAGE: &str = "oracle [check | timed | test | gen SEED REPLIES | short PART OF | compare CASES A B | sample FOLDER]
+const USAGE: &str =
+    "oracle [check | timed | test | gen SEED REPLIES | short PART OF | compare CASES A B | sample FOLDER]
   (nothing)            case text on standard input, replies on standard output
   check                the same, and every reply worked out from document 01 too; differences go to standard error
   timed                the same, with the time of each reply on standard error
-  test                 document 01's figures
+  test                 document 01's figures, and what the Rust does beyond the document
   gen SEED REPLIES     case text from a seed, at least that many replies' worth
   short PART OF        every OF-th of all short sets and lists, beginning with PART
   compare CASES A B    two lists of replies to the same case text
@@ -104,11 +106,14 @@ fn main() -> io::Result<()> {
         ["compare", cases, left, right] => {
             let counts = compare::compare(cases, left, right, 5)?;
             let equal = counts.replies - counts.differing - counts.missing.min(counts.replies);
-            println!("{} replies, {equal} equal, {} differing, {} missing", counts.replies, counts.differing, counts.missing);
+            println!(
+                "{} replies, {equal} equal, {} differing, {} missing",
+                counts.replies, counts.differing, counts.missing
+            );
             std::process::exit((counts.differing + counts.missing > 0).into());
         }
         ["sample", folder] => sample::write(folder.as_ref()),
-        ["test"] => std::process::exit((!figures::test()).into()),
+        ["test"] => std::process::exit((!(figures::test() & beyond::test())).into()),
         _ => {
             eprintln!("{USAGE}");
             std::process::exit(2);

@@ -549,6 +549,25 @@ fn damage_template(random: &mut Random, t: &mut Template) {
     }
 }
 
+/// Keeps a call within what any program that reads case text can hold.
+fn hold(call: &mut Call) {
+    let (filling, bytes) = match call {
+        Call::Explicit(e) => {
+            e.start_times.truncate(300);
+            e.start_clips.truncate(300);
+            e.knot_x.truncate(600);
+            e.knot_y.truncate(600);
+            (&mut e.filling, None)
+        }
+        Call::Template(t) => (&mut t.filling, Some(&mut t.bytes)),
+        _ => return,
+    };
+    filling.blocks.truncate(300);
+    if let Some(bytes) = bytes {
+        bytes.truncate(400);
+    }
+}
+
 fn damage_samples(random: &mut Random, s: &mut Samples) {
     match random.below(9) {
         0 => spoil(random, &mut s.times),
@@ -606,6 +625,7 @@ fn damaged(random: &mut Random, out: &mut Writer<'_>) {
                 _ => {}
             }
         }
+        hold(&mut call);
         out.call(&call);
         out.call(&Call::Dump);
         set = accepted(&call).unwrap_or(set);

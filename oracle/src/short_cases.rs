@@ -192,17 +192,8 @@ const PATTERNS: [&[u8]; 3] = [b"f.##.usd", b"f.usd", b"#.#"];
 const FROM: [f64; 6] = [0.0, -0.0, 1.0, 0.3, -1.5, FAR];
 const SPANS: [f64; 7] = [0.0, 0.00004, 0.00006, 1.0, 2.0, 1.99996, -1.0];
 const STRIDES: [f64; 9] = [1.0, 0.5, 0.3, 2.0, 1e-5, 0.0, -0.0, 1e305, f64::INFINITY];
-const OFFSETS: [Option<f64>; 9] = [
-    None,
-    Some(0.0),
-    Some(-0.0),
-    Some(0.3),
-    Some(-0.5),
-    Some(1.0),
-    Some(-1.0),
-    Some(2.0),
-    Some(f64::NAN),
-];
+const OFFSETS: [Option<f64>; 9] =
+    [None, Some(0.0), Some(-0.0), Some(0.3), Some(-0.5), Some(1.0), Some(-1.0), Some(2.0), Some(f64::NAN)];
 
 fn templates_size() -> usize {
     PATTERNS.len() * FROM.len() * SPANS.len() * STRIDES.len() * OFFSETS.len() * 2
@@ -284,22 +275,8 @@ fn lent(index: usize, out: &mut Writer<'_>) {
     out.call(&Call::Track(1));
 }
 
-const MOVES: [f64; 14] = [
-    0.0,
-    -0.0,
-    1.0,
-    -1.0,
-    0.1,
-    -3.0,
-    1e12,
-    1e300,
-    -1e-300,
-    5e-324,
-    f64::NAN,
-    f64::INFINITY,
-    FAR,
-    1.0000000000000002,
-];
+const MOVES: [f64; 14] =
+    [0.0, -0.0, 1.0, -1.0, 0.1, -3.0, 1e12, 1e300, -1e-300, 5e-324, f64::NAN, f64::INFINITY, FAR, 1.0000000000000002];
 
 fn retime_size() -> usize {
     MOVES.len() * MOVES.len() * 12
