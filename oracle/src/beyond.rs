@@ -43,7 +43,9 @@ fn claims() -> Vec<(&'static str, bool)> {
     ];
 
     let nan_offset = expand(&template(b"#", 1.0, 2.0, 1.0, Some(f64::NAN)));
-    list.push(("an offset that is NaN makes NaN starts", nan_offset.is_some_and(|set| set.1[0].0.is_nan())));
+    let nan_offset =
+        nan_offset.is_some_and(|(_, starts, knots)| starts[0].0.is_nan() && knots.iter().any(|k| k.x.is_nan()));
+    list.push(("an offset that is NaN makes NaN starts and knots", nan_offset));
 
     let same = reach::parse_set(&template_dictionary(&template(b"f.#.usd", 1.0, 2.0, 0.5, None)));
     let same = same.is_some_and(|set| set.asset_paths[0] == set.asset_paths[1]);

@@ -201,18 +201,11 @@ impl Desk {
     }
 
     fn template(&mut self, t: &Template, out: &mut Line) -> Answered {
-        let number = numbers::template(t);
-        if let Err(number) = number {
-            // 8 first: on a t that does not move the Rust never ends.
-            if self.check && matches!(number, 6 | 7) && t.bytes.len() <= 255 {
-                let wide = number == 6 && reach::name(&latin(&t.bytes), 0.0).is_some();
-                let set = if number == 7 { reach::expand(&template_dictionary(t)) } else { None };
-                if set.is_some() {
-                    self.differs("template", "a set", number);
-                }
-                if wide && numbers_only_width(&t.bytes) {
-                    self.differs("template", "readable", number);
-                }
+        self.check_runs(&t.bytes);
+        if let Err(number) = numbers::template(t) {
+            // 8 is judged before the Rust is asked: on a t that does not move it never ends.
+            if self.check && number == 7 && reach::expand(&template_dictionary(t)).is_some() {
+                self.differs("template", "a set", number);
             }
             return Err(number);
         }
@@ -233,6 +226,14 @@ impl Desk {
         let set = parsed.expect("no two starts and no three knots are equal");
         self.install(set, &t.filling, plain::template(t), out);
         Ok(())
+    }
+
+    /// The Rust reads a template exactly where its runs are such as the document wants, their widths apart.
+    fn check_runs(&mut self, bytes: &[u8]) {
+        if self.check {
+            let rust = reach::name(&latin(bytes), 0.0).is_some();
+            self.compare("template's runs", rust, numbers::template_runs(bytes).is_some());
+        }
     }
 
     fn retime(&mut self, offset: f64, scale: f64, out: &mut Line) -> Answered {
@@ -451,6 +452,7 @@ impl Desk {
     // Questions without a set.
 
     fn name(&mut self, bytes: &[u8], time: f64, slots: u64, out: &mut Line) -> Answered {
+        self.check_runs(bytes);
         numbers::name(bytes, time)?;
         let name = reach::name(&latin(bytes), time).map(|name| name.chars().map(|c| c as u8).collect::<Vec<u8>>());
         if self.check {
@@ -483,12 +485,6 @@ impl Desk {
         }
         Ok(())
     }
-}
-
-/// Whether a template is refused for more than a run's width, so that the Rust must refuse it too.
-fn numbers_only_width(bytes: &[u8]) -> bool {
-    let hashes = bytes.split(|&b| b != b'#').filter(|run| !run.is_empty()).count();
-    hashes == 0 || hashes > 2
 }
 
 /// The manifest and a layer for each clip.

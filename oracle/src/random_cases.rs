@@ -379,6 +379,10 @@ fn moved_numbers(set: &Set) -> Result<(), numbers::Refusal> {
 }
 
 fn retiming(random: &mut Random, set: &Set) -> (f64, f64) {
+    // Zeros of both signs: the moved list is ascending as numbers and perhaps not in the total order.
+    if random.chance(4) {
+        return (random.pick(&[0.0, -0.0]), random.pick(&[0.0, -0.0]));
+    }
     let offset = match random.below(10) {
         0..=3 => random.pick(&[0.0, -0.0, 1.0, -10.0, 0.1]),
         4 => random.edge(),
