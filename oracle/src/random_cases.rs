@@ -108,7 +108,7 @@ fn knots(random: &mut Random, scale: Scale, most: usize) -> Vec<(f64, f64)> {
                 _ => ys[next],
             };
             next += 1;
-            let other_zero = x == 0.0 && random.chance(30);
+            let other_zero = x == 0.0 && random.chance(40);
             list.push((if other_zero { -x } else { x }, y));
         }
     }
@@ -382,6 +382,9 @@ fn retiming(random: &mut Random, set: &Set) -> (f64, f64) {
     // Zeros of both signs: the moved list is ascending as numbers and perhaps not in the total order.
     if random.chance(4) {
         return (random.pick(&[0.0, -0.0]), random.pick(&[0.0, -0.0]));
+    }
+    if random.chance(5) {
+        return (random.pick(&[0.0, -0.0]), 1.0);
     }
     let offset = match random.below(10) {
         0..=3 => random.pick(&[0.0, -0.0, 1.0, -10.0, 0.1]),
