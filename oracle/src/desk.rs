@@ -2,6 +2,7 @@
 //! to, every answer is also worked out from the document's text, and a difference is told.
 
 use crate::calls::{Call, Explicit, Filling, Samples, Template};
+use crate::doubles::{at, place};
 use crate::gf::{Vec2d, vec2d};
 use crate::numbers::{self, Refusal};
 use crate::pcp::clip::reach::{self, Asked, Map};
@@ -39,6 +40,8 @@ pub struct Desk {
     check: bool,
     /// Where Rust and document differ.
     pub differences: Vec<String>,
+    /// Tracks walked by the Rust's values, and by the document's.
+    pub tracks: [u64; 2],
 }
 
 type Answered = Result<(), Refusal>;
@@ -106,14 +109,23 @@ pub fn template_dictionary(t: &Template) -> Map {
 
 impl Desk {
     pub fn new(check: bool) -> Self {
-        Desk { set: None, samples: Samples::default(), lent: None, asked: Asked::new(), check, differences: Vec::new() }
+        Desk {
+            set: None,
+            samples: Samples::default(),
+            lent: None,
+            asked: Asked::new(),
+            check,
+            differences: Vec::new(),
+            tracks: [0; 2],
+        }
     }
 
     /// Replies to a call; lent samples have no reply.
     pub fn answer(&mut self, call: Call, out: &mut Line) {
         match call {
             Call::Case(name) => {
-                *self = Desk { differences: std::mem::take(&mut self.differences), ..Desk::new(self.check) };
+                let differences = std::mem::take(&mut self.differences);
+                *self = Desk { differences, tracks: self.tracks, ..Desk::new(self.check) };
                 out.word("case").word(&name).end();
             }
             Call::Samples(samples) => {
@@ -418,14 +430,32 @@ impl Desk {
         let window = if plain.starts.len() > 1 { plain.knots.len() + 1 } else { 1 };
         let rust_work = candidates.len() * (plain.knots.len() + 200 + longest * window);
         if rust_work > 20_000_000 {
-            return track::walk(&candidates, |t| read.value(t));
+            self.tracks[1] += 1;
+            let track = track::walk(&candidates, |t| read.value(t));
+            if self.check {
+                self.spot_check(&track);
+            }
+            return track;
         }
+        self.tracks[0] += 1;
         let rust = track::walk(&candidates, |t| self.rust_value(t));
         if self.check {
             let text = track::walk(&candidates, |t| read.value(t));
             self.compare("track", (rust.head, track::hash(&rust.changes)), (text.head, track::hash(&text.changes)));
         }
         rust
+    }
+
+    /// The Rust's values at some changes and at the doubles below them.
+    fn spot_check(&mut self, track: &Track) {
+        for i in (0..track.changes.len()).step_by(track.changes.len() / 20 + 1) {
+            let (time, text) = track.changes[i];
+            let below = if i == 0 { track.head } else { track.changes[i - 1].1 };
+            let rust = (self.rust_value(at(place(time) - 1)), self.rust_value(time));
+            self.compare("long track", rust, (below, text));
+        }
+        let rust = self.rust_value(f64::MIN);
+        self.compare("long track's head", rust, track.head);
     }
 
     fn track(&mut self, slots: Option<u64>, out: &mut Line) -> Answered {

@@ -34,8 +34,14 @@ use desk::Desk;
 use text::{Line, Words};
 use writer::Writer;
 
+/// What a run has to tell: differences between Rust and document, and tracks by either's values.
+struct Told {
+    differences: usize,
+    tracks: [u64; 2],
+}
+
 /// Answers the case text of `input`. With `check`, tells on standard error where Rust and document differ.
-fn answer(input: &mut dyn BufRead, output: &mut dyn Write, check: bool, timed: bool) -> io::Result<usize> {
+fn answer(input: &mut dyn BufRead, output: &mut dyn Write, check: bool, timed: bool) -> io::Result<Told> {
     let mut desk = Desk::new(check);
     let mut line = Vec::new();
     let mut case = String::new();
@@ -67,7 +73,7 @@ fn answer(input: &mut dyn BufRead, output: &mut dyn Write, check: bool, timed: b
         line.clear();
     }
     output.flush()?;
-    Ok(differences)
+    Ok(Told { differences, tracks: desk.tracks })
 }
 
 const USAGE: &str =
@@ -91,7 +97,8 @@ fn main() -> io::Result<()> {
         [] => answer(&mut input, &mut output, false, false).map(drop),
         ["timed"] => answer(&mut input, &mut output, false, true).map(drop),
         ["check"] => {
-            let differences = answer(&mut input, &mut output, true, false)?;
+            let Told { differences, tracks } = answer(&mut input, &mut output, true, false)?;
+            eprintln!("{} tracks by the Rust's values, {} by the document's", tracks[0], tracks[1]);
             eprintln!("{differences} differences between Rust and document");
             std::process::exit((differences > 0).into());
         }
