@@ -61,7 +61,10 @@ fn main() {
     let vec = source(&folder, "gf/vec.rs");
     write(
         "gf_items.rs",
-        plain.to_owned() + &item(&vec, "pub struct Vec2d {") + &item(&gf, "pub fn vec2d(") + &item(&gf, "pub fn lerp<T>("),
+        plain.to_owned()
+            + &item(&vec, "pub struct Vec2d {")
+            + &item(&gf, "pub fn vec2d(")
+            + &item(&gf, "pub fn lerp<T>("),
     );
     let sdf = source(&folder, "sdf/mod.rs");
     let offset = "#[derive(Debug, Clone, Copy, PartialEq)]\n".to_owned() + &item(&sdf, "pub struct LayerOffset {");

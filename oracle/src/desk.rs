@@ -2,6 +2,7 @@
 //! to, every answer is also worked out from the document's text, and a difference is told.
 
 use crate::calls::{Call, Explicit, Filling, Samples, Template};
+use crate::doubles::{at, place};
 use crate::gf::{Vec2d, vec2d};
 use crate::numbers::{self, Refusal};
 use crate::pcp::clip::reach::{self, Asked, Map};
@@ -39,6 +40,8 @@ pub struct Desk {
     check: bool,
     /// Where Rust and document differ.
     pub differences: Vec<String>,
+    /// Tracks walked by the Rust's values, and by the document's.
+    pub tracks: [u64; 2],
 }
 
 type Answered = Result<(), Refusal>;
@@ -74,6 +77,36 @@ fn answer(value: Option<Value>) -> Answer {
     }
 }
 
+fn dictionary(filling: &Filling) -> Map {
+    let mut set = Map::new();
+    set.insert(keys::MANIFEST_ASSET_PATH.into(), Value::AssetPath(AssetPath::new("m")));
+    set.insert(keys::INTERPOLATE_MISSING.into(), Value::Bool(filling.flag));
+    set
+}
+
+/// An explicit set's dictionary, as a layer would author it.
+pub fn explicit_dictionary(e: &Explicit) -> Map {
+    let mut set = dictionary(&e.filling);
+    let paths = (0..e.clips as usize).map(clip_path).collect();
+    set.insert(keys::ASSET_PATHS.into(), Value::AssetPathVec(paths));
+    set.insert(keys::ACTIVE.into(), pairs(&e.start_times, &e.start_clips));
+    set.insert(keys::TIMES.into(), pairs(&e.knot_x, &e.knot_y));
+    set
+}
+
+/// A template set's dictionary.
+pub fn template_dictionary(t: &Template) -> Map {
+    let mut set = dictionary(&t.filling);
+    set.insert(keys::TEMPLATE_ASSET_PATH.into(), Value::String(latin(&t.bytes)));
+    set.insert(keys::TEMPLATE_START_TIME.into(), Value::Double(t.start));
+    set.insert(keys::TEMPLATE_END_TIME.into(), Value::Double(t.end));
+    set.insert(keys::TEMPLATE_STRIDE.into(), Value::Double(t.stride));
+    if let Some(offset) = t.offset {
+        set.insert(keys::TEMPLATE_ACTIVE_OFFSET.into(), Value::Double(offset));
+    }
+    set
+}
+
 impl Desk {
     pub fn new(check: bool) -> Self {
         Desk {
@@ -83,6 +116,7 @@ impl Desk {
             asked: Asked::new(),
             check,
             differences: Vec::new(),
+            tracks: [0; 2],
         }
     }
 
@@ -90,7 +124,8 @@ impl Desk {
     pub fn answer(&mut self, call: Call, out: &mut Line) {
         match call {
             Call::Case(name) => {
-                *self = Desk { differences: std::mem::take(&mut self.differences), ..Desk::new(self.check) };
+                let differences = std::mem::take(&mut self.differences);
+                *self = Desk { differences, tracks: self.tracks, ..Desk::new(self.check) };
                 out.word("case").word(&name).end();
             }
             Call::Samples(samples) => {
@@ -138,34 +173,6 @@ impl Desk {
 
     // Acceptance.
 
-    fn dictionary(&self, filling: &Filling) -> Map {
-        let mut set = Map::new();
-        set.insert(keys::MANIFEST_ASSET_PATH.into(), Value::AssetPath(AssetPath::new("m")));
-        set.insert(keys::INTERPOLATE_MISSING.into(), Value::Bool(filling.flag));
-        set
-    }
-
-    fn explicit_dictionary(&self, e: &Explicit) -> Map {
-        let mut set = self.dictionary(&e.filling);
-        let paths = (0..e.clips as usize).map(clip_path).collect();
-        set.insert(keys::ASSET_PATHS.into(), Value::AssetPathVec(paths));
-        set.insert(keys::ACTIVE.into(), pairs(&e.start_times, &e.start_clips));
-        set.insert(keys::TIMES.into(), pairs(&e.knot_x, &e.knot_y));
-        set
-    }
-
-    fn template_dictionary(&self, t: &Template) -> Map {
-        let mut set = self.dictionary(&t.filling);
-        set.insert(keys::TEMPLATE_ASSET_PATH.into(), Value::String(latin(&t.bytes)));
-        set.insert(keys::TEMPLATE_START_TIME.into(), Value::Double(t.start));
-        set.insert(keys::TEMPLATE_END_TIME.into(), Value::Double(t.end));
-        set.insert(keys::TEMPLATE_STRIDE.into(), Value::Double(t.stride));
-        if let Some(offset) = t.offset {
-            set.insert(keys::TEMPLATE_ACTIVE_OFFSET.into(), Value::Double(offset));
-        }
-        set
-    }
-
     fn install(&mut self, mut set: ClipSet, filling: &Filling, plain: plain::Set, out: &mut Line) {
         // A template's names may fall together; a clip is known here by its number.
         set.asset_paths = (0..set.asset_paths.len()).map(clip_path).collect();
@@ -174,8 +181,7 @@ impl Desk {
             self.compare("clips", set.asset_paths.len(), plain.clips);
         }
         let source = ClipAnchor { layer: LayerId(0), prim_path: Path::new("/a").unwrap(), stack: LayerStackId };
-        let resolved =
-            ResolvedClipSet { set, source, manifest_layer: None, active_offset: LayerOffset::IDENTITY };
+        let resolved = ResolvedClipSet { set, source, manifest_layer: None, active_offset: LayerOffset::IDENTITY };
         self.set = Some(Standing { resolved, filling: filling.clone(), retimed: false, plain });
         self.lent = None;
         out.word("ok");
@@ -187,7 +193,7 @@ impl Desk {
         if matches!(number, Err(1)) {
             return number;
         }
-        let parsed = reach::parse_set(&self.explicit_dictionary(e));
+        let parsed = reach::parse_set(&explicit_dictionary(e));
         match (number, parsed) {
             (Ok(()), Some(set)) => {
                 self.install(set, &e.filling, plain::explicit(e), out);
@@ -207,22 +213,15 @@ impl Desk {
     }
 
     fn template(&mut self, t: &Template, out: &mut Line) -> Answered {
-        let number = numbers::template(t);
-        if let Err(number) = number {
-            // 8 first: on a t that does not move the Rust never ends.
-            if self.check && matches!(number, 6 | 7) && t.bytes.len() <= 255 {
-                let wide = number == 6 && reach::name(&latin(&t.bytes), 0.0).is_some();
-                let set = if number == 7 { reach::expand(&self.template_dictionary(t)) } else { None };
-                if set.is_some() {
-                    self.differs("template", "a set", number);
-                }
-                if wide && numbers_only_width(&t.bytes) {
-                    self.differs("template", "readable", number);
-                }
+        self.check_runs(&t.bytes);
+        if let Err(number) = numbers::template(t) {
+            // 8 is judged before the Rust is asked: on a t that does not move it never ends.
+            if self.check && number == 7 && reach::expand(&template_dictionary(t)).is_some() {
+                self.differs("template", "a set", number);
             }
             return Err(number);
         }
-        let dictionary = self.template_dictionary(t);
+        let dictionary = template_dictionary(t);
         let Some((_, starts, knots)) = reach::expand(&dictionary) else {
             self.differs("template", "no expansion", "an expansion");
             return Err(0);
@@ -239,6 +238,14 @@ impl Desk {
         let set = parsed.expect("no two starts and no three knots are equal");
         self.install(set, &t.filling, plain::template(t), out);
         Ok(())
+    }
+
+    /// The Rust reads a template exactly where its runs are such as the document wants, their widths apart.
+    fn check_runs(&mut self, bytes: &[u8]) {
+        if self.check {
+            let rust = reach::name(&latin(bytes), 0.0).is_some();
+            self.compare("template's runs", rust, numbers::template_runs(bytes).is_some());
+        }
     }
 
     fn retime(&mut self, offset: f64, scale: f64, out: &mut Line) -> Answered {
@@ -423,14 +430,32 @@ impl Desk {
         let window = if plain.starts.len() > 1 { plain.knots.len() + 1 } else { 1 };
         let rust_work = candidates.len() * (plain.knots.len() + 200 + longest * window);
         if rust_work > 20_000_000 {
-            return track::walk(&candidates, |t| read.value(t));
+            self.tracks[1] += 1;
+            let track = track::walk(&candidates, |t| read.value(t));
+            if self.check {
+                self.spot_check(&track);
+            }
+            return track;
         }
+        self.tracks[0] += 1;
         let rust = track::walk(&candidates, |t| self.rust_value(t));
         if self.check {
             let text = track::walk(&candidates, |t| read.value(t));
             self.compare("track", (rust.head, track::hash(&rust.changes)), (text.head, track::hash(&text.changes)));
         }
         rust
+    }
+
+    /// The Rust's values at some changes and at the doubles below them.
+    fn spot_check(&mut self, track: &Track) {
+        for i in (0..track.changes.len()).step_by(track.changes.len() / 20 + 1) {
+            let (time, text) = track.changes[i];
+            let below = if i == 0 { track.head } else { track.changes[i - 1].1 };
+            let rust = (self.rust_value(at(place(time) - 1)), self.rust_value(time));
+            self.compare("long track", rust, (below, text));
+        }
+        let rust = self.rust_value(f64::MIN);
+        self.compare("long track's head", rust, track.head);
     }
 
     fn track(&mut self, slots: Option<u64>, out: &mut Line) -> Answered {
@@ -457,6 +482,7 @@ impl Desk {
     // Questions without a set.
 
     fn name(&mut self, bytes: &[u8], time: f64, slots: u64, out: &mut Line) -> Answered {
+        self.check_runs(bytes);
         numbers::name(bytes, time)?;
         let name = reach::name(&latin(bytes), time).map(|name| name.chars().map(|c| c as u8).collect::<Vec<u8>>());
         if self.check {
@@ -489,12 +515,6 @@ impl Desk {
         }
         Ok(())
     }
-}
-
-/// Whether a template is refused for more than a run's width, so that the Rust must refuse it too.
-fn numbers_only_width(bytes: &[u8]) -> bool {
-    let hashes = bytes.split(|&b| b != b'#').filter(|run| !run.is_empty()).count();
-    hashes == 0 || hashes > 2
 }
 
 /// The manifest and a layer for each clip.

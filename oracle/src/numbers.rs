@@ -51,8 +51,8 @@ pub fn explicit(e: &Explicit) -> Result<(), Refusal> {
     refuse(f.mark > 2, 9)
 }
 
-/// The widths of a template's two runs, none where it is not readable.
-pub fn template_widths(bytes: &[u8]) -> Option<(usize, usize, Option<usize>)> {
+/// A template's first `#` and the widths of its one or two runs, however wide; none where the runs are not such.
+pub fn template_runs(bytes: &[u8]) -> Option<(usize, usize, Option<usize>)> {
     let run = |from: usize| bytes[from..].iter().take_while(|&&b| b == b'#').count();
     let first = bytes.iter().position(|&b| b == b'#')?;
     let width = run(first);
@@ -63,8 +63,12 @@ pub fn template_widths(bytes: &[u8]) -> Option<(usize, usize, Option<usize>)> {
         end += 1 + digits;
         fraction = Some(digits);
     }
-    let readable = width <= 32 && fraction.is_none_or(|digits| digits <= 6) && !bytes[end..].contains(&b'#');
-    readable.then_some((first, width, fraction))
+    (!bytes[end..].contains(&b'#')).then_some((first, width, fraction))
+}
+
+/// The same of a readable template, whose runs are at most 32 and 6 wide.
+pub fn template_widths(bytes: &[u8]) -> Option<(usize, usize, Option<usize>)> {
+    template_runs(bytes).filter(|&(_, width, fraction)| width <= 32 && fraction.is_none_or(|digits| digits <= 6))
 }
 
 /// Whether a 257th clip would be made: also where t does not move.

@@ -108,7 +108,7 @@ fn knots(random: &mut Random, scale: Scale, most: usize) -> Vec<(f64, f64)> {
                 _ => ys[next],
             };
             next += 1;
-            let other_zero = x == 0.0 && random.chance(30);
+            let other_zero = x == 0.0 && random.chance(40);
             list.push((if other_zero { -x } else { x }, y));
         }
     }
@@ -379,6 +379,13 @@ fn moved_numbers(set: &Set) -> Result<(), numbers::Refusal> {
 }
 
 fn retiming(random: &mut Random, set: &Set) -> (f64, f64) {
+    // Zeros of both signs: the moved list is ascending as numbers and perhaps not in the total order.
+    if random.chance(4) {
+        return (random.pick(&[0.0, -0.0]), random.pick(&[0.0, -0.0]));
+    }
+    if random.chance(5) {
+        return (random.pick(&[0.0, -0.0]), 1.0);
+    }
     let offset = match random.below(10) {
         0..=3 => random.pick(&[0.0, -0.0, 1.0, -10.0, 0.1]),
         4 => random.edge(),
@@ -549,6 +556,25 @@ fn damage_template(random: &mut Random, t: &mut Template) {
     }
 }
 
+/// Keeps a call within what any program that reads case text can hold.
+fn hold(call: &mut Call) {
+    let (filling, bytes) = match call {
+        Call::Explicit(e) => {
+            e.start_times.truncate(300);
+            e.start_clips.truncate(300);
+            e.knot_x.truncate(600);
+            e.knot_y.truncate(600);
+            (&mut e.filling, None)
+        }
+        Call::Template(t) => (&mut t.filling, Some(&mut t.bytes)),
+        _ => return,
+    };
+    filling.blocks.truncate(300);
+    if let Some(bytes) = bytes {
+        bytes.truncate(400);
+    }
+}
+
 fn damage_samples(random: &mut Random, s: &mut Samples) {
     match random.below(9) {
         0 => spoil(random, &mut s.times),
@@ -606,6 +632,7 @@ fn damaged(random: &mut Random, out: &mut Writer<'_>) {
                 _ => {}
             }
         }
+        hold(&mut call);
         out.call(&call);
         out.call(&Call::Dump);
         set = accepted(&call).unwrap_or(set);

@@ -39,12 +39,7 @@ turns_into_query_error!(ClipLoad PathParseError DataError EditError);
 
 #[derive(Debug)]
 pub enum CompositionDiagnostic {
-    UnreadableClip {
-        asset_path: String,
-        clip_set: String,
-        prim_path: Path,
-        reason: String,
-    },
+    UnreadableClip { asset_path: String, clip_set: String, prim_path: Path, reason: String },
 }
 
 /// No value holds an asset path, so `reaches` says no.

@@ -152,10 +152,7 @@ impl LayerEdit<'_> {
 
 impl Layer {
     pub fn new_anonymous(tag: &str) -> Layer {
-        Layer {
-            identifier: tag.to_owned(),
-            data: Data::default(),
-        }
+        Layer { identifier: tag.to_owned(), data: Data::default() }
     }
 
     pub fn identifier(&self) -> &str {
