@@ -4,7 +4,6 @@ use mathlib.Core.Bool.{Bool}
 use mathlib.Core.List.{List, [], _∷_, map}
 use Prim.Native.Nat.{ℕ, suc, _≤_, _<_, min}
 use native.Mathlib.Omega.{arith}
-use lib.Dec.{ltb}
 use lib.ListN.{length}
 use lib.Ieee.{Float}
 use borrow.Author.Tests.{lt-ltb, le-ltb}
@@ -13,12 +12,10 @@ use Rattle.definitions.specs.Lists.{_if_else_}
 use Rattle.definitions.specs.ClipSet.{ClipSet}
 use Rattle.definitions.specs.Samples.{Samples}
 use Rattle.definitions.specs.Track.{Entry, Change, Outputs, slots, writeTrack}
-use Rattle.definitions.specs.Calls as Calls
 use Rattle.track_laws.specs.Track as steps
 use Rattle.cell_laws.specs.Keys.{entryAtKey}
 use Rattle.cell_laws.specs.Tracks.{writtenChange}
-use Rattle.track.specs.declared.bake.Baked.{Baked}
-use Rattle.track.specs.Bakes.{changesOf, Written, outputs, trackOf, bakedIs, BakeIs}
+use Rattle.track.specs.Bakes.{changesOf, Written, outputs, trackOf, BakeIs}
 
 written-length : (cs : List (steps.Change Entry)) → length (map writtenChange cs) ≡ length cs
 written-length [] = refl

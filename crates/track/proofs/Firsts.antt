@@ -1,23 +1,22 @@
 -- The least of ascending times above t is the one behind those that are at most t. Assumes nothing.
-use mathlib.Core.Path.{_≡_, refl, sym, ap, _∙_, subst}
+use mathlib.Core.Path.{_≡_, refl, sym, ap, subst}
 use mathlib.Core.Logic.{inl, inr}
-use mathlib.Core.Bool.{Bool, true, false, not}
+use mathlib.Core.Bool.{true, false, not}
 use mathlib.Core.List.{List, [], _∷_}
-use Prim.Native.Nat.{ℕ, zero, suc, _+_, _-_, _≤_, _<_}
+use Prim.Native.Nat.{ℕ, zero, suc, _+_, _≤_, _<_}
 use native.Mathlib.Nat.{le-trans, le-of-eq}
 use native.Mathlib.Decide.{decLe}
 use native.Mathlib.Omega.{arith}
-use lib.Dec.{T, leb→le}
+use lib.Dec.{T}
 use lib.ListN.{length, getD}
 use lib.Ieee.{Float, nan, isNan, eq, lt, le}
-use borrow.Author.Tests.{leb-false}
 use Rattle.gf.specs.Key.{key, key→lt, key→le, le→key, key→eq, lt→key, finite-no-nan, le-or-lt}
 use Rattle.definitions.specs.Lists.{any}
 use Rattle.definitions.specs.Doubles.{FiniteDouble}
 use Rattle.definitions.specs.Timing.{lastAtMost}
 use Rattle.set_laws.specs.Tests.{is-true}
 use Rattle.set_laws.specs.Every.{Every, every-at, Chain, chain-far, chain-map}
-use Rattle.set_laws.specs.Places.{Fits, Le, Ascending, atMost, beyond, up-to, last-is, key-at-most, key-above, at-most-length}
+use Rattle.set_laws.specs.Places.{Le, Ascending, atMost, beyond, last-is, key-at-most, key-above}
 use Rattle.cell_laws.specs.Every.{every-by, or-l, or-r}
 use Rattle.cell_laws.specs.Neighbours.{IsUpper}
 

@@ -1,20 +1,18 @@
 -- The stop of a walk at a key, by the piece there: the first step of the place that its cell reads, else its end. Assumes nothing.
 use mathlib.Core.Path.{_≡_, refl, sym, ap, _∙_, subst}
-use mathlib.Core.Bool.{Bool, true, false, not, cond}
+use mathlib.Core.Bool.{Bool, not, cond}
 use mathlib.Core.List.{List}
 use mathlib.Core.Option.{Option, none, some}
-use Prim.Native.Nat.{ℕ, _-_, _≤_, _<_, min}
+use Prim.Native.Nat.{ℕ, _-_, _<_, min}
 use native.Mathlib.Omega.{arith}
-use lib.Dec.{T, leb}
-use lib.ListN.{length}
-use lib.Ieee.{Float, isNan, lt, le}
+use lib.Dec.{T}
+use lib.Ieee.{Float, isNan}
 use borrow.Author.Tests.{lt-leb}
-use Rattle.gf.specs.Key.{key, ofKey, least, most, ofKey-fits, ofKey-no-nan, le→key, lt→le, le-no-nan}
+use Rattle.gf.specs.Key.{key, ofKey, ofKey-fits, ofKey-no-nan, le→key, le-no-nan}
 use Rattle.definitions.specs.ClipSet.{ClipSet, stage}
 use Rattle.definitions.specs.Samples.{Samples, clipTimes}
 use Rattle.definitions.specs.declared.Source.{Source}
 use Rattle.definitions.specs.Timing.{lastAtMost}
-use Rattle.definitions.specs.Value.{upperNeighbour}
 use Rattle.track_laws.specs.Steps.{Once, FirstStep}
 use Rattle.track_laws.specs.declared.Next.{Next}
 use Rattle.track_laws.specs.declared.Next.the-variants as Next

@@ -1,21 +1,19 @@
 -- What holds of lent lists that are ready: the premises of the laws of cells, and the active start. Assumes nothing.
-use mathlib.Core.Path.{_≡_, refl, sym, ap, _∙_, subst}
+use mathlib.Core.Path.{_≡_, ap}
 use mathlib.Core.List.{List}
-use mathlib.Core.Option.{Option, none, some}
-use Prim.Native.Nat.{ℕ, _≤_, _<_}
-use native.Mathlib.Omega.{arith}
+use mathlib.Core.Option.{some}
+use Prim.Native.Nat.{ℕ, _<_}
 use lib.Dec.{ltb}
 use lib.ListN.{length, getD, getElem?}
 use lib.Ieee.{Float, nan}
-use Rattle.definitions.specs.declared.Start.{Start}
 use Rattle.definitions.specs.declared.Manifest.{Manifest}
-use Rattle.definitions.specs.ClipSet.{ClipSet, activeTimes, knotTimes, stage}
+use Rattle.definitions.specs.ClipSet.{ClipSet, stage}
 use Rattle.definitions.specs.Timing.{lastAtMost, activePosition}
-use Rattle.definitions.specs.Samples.{Samples, clipBegin, clipEnd, clipTimes}
+use Rattle.definitions.specs.Samples.{Samples}
 use Rattle.cell_laws.specs.Direct.{SoundSet, SoundSamples}
 use Rattle.cell_laws.specs.Stretches.{severalStarts}
 use Rattle.cell_laws.specs.Tracks.{SoundValues}
-use Rattle.cell_laws.specs.Unpacked.{Ready, setOf, samplesOf, activeOf, knotsOf, start, active-times, knot-times, zip-length, zip-here, sound-set, sound-samples}
+use Rattle.cell_laws.specs.Unpacked.{Ready, setOf, samplesOf, start, active-times, zip-length, zip-here, sound-set, sound-samples}
 
 module _ {starts : List Float} {clips : List ℕ} {xs ys blocks : List Float} {m : Manifest} {times values : List Float} {marks ends : List ℕ} (R : Ready starts clips xs ys blocks m times values marks ends) where
   abbrev set : ClipSet

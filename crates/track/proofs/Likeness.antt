@@ -1,14 +1,13 @@
 -- Likeness of entries by the tests of `alike`, and of bits by those of `same_bits`. Assumes nothing.
-use mathlib.Core.Path.{_≡_, refl, sym, ap, _∙_, subst}
+use mathlib.Core.Path.{_≡_, refl, sym, ap, _∙_}
 use mathlib.Core.Bool.{Bool, true, false, not, false≢true}
-use Prim.Native.Nat.{ℕ}
-use lib.Dec.{T, eqb, eqb→eq, eqb-refl}
+use lib.Dec.{T, eqb}
 use lib.Ieee.{Float, nan, inf, fin, binary64, fits, isNan, ne, toBits}
 use lib.Ieee.Compare.{differs-from-itself}
 use borrow.Author.Tests.{eq-eqb, ne-eqb}
 use Rattle.gf.specs.Units.{same-bits}
 use Rattle.definitions.specs.Track.{Entry, alike}
-use Rattle.set_laws.specs.Tests.{is-true, is-false, holds}
+use Rattle.set_laws.specs.Tests.{holds}
 use Rattle.set_laws.specs.Places.{Fits}
 
 -- ---- a NaN differs from itself, and nothing else does

@@ -1,14 +1,14 @@
 -- The line of a stage time by its tests, with the knots as two lists of numbers: what `line_of` finds at each of its ways out. Assumes nothing.
-use mathlib.Core.Path.{_≡_, refl, sym, ap, ap₂, _∙_, subst}
+use mathlib.Core.Path.{_≡_, refl, sym, ap, ap₂, _∙_}
 use mathlib.Core.Logic.{inl, inr}
-use mathlib.Core.Bool.{Bool, true, false, not, cond, false≢true}
+use mathlib.Core.Bool.{true, false, not, false≢true}
 use mathlib.Core.List.{List, [], _∷_}
-use Prim.Native.Nat.{ℕ, zero, suc, _+_, _-_, _≤_, _<_}
+use Prim.Native.Nat.{ℕ, zero, suc, _+_, _-_, _<_}
 use native.Mathlib.Omega.{arith}
 use native.Mathlib.Numerals.{add-one}
 use lib.Dec.{T}
 use lib.ListN.{length, getD}
-use lib.Ieee.{Float, nan, binary64, fits, isNan, lt, le}
+use lib.Ieee.{Float, nan, isNan, lt, le}
 use Rattle.gf.specs.Key.{le-or-lt, finite-no-nan}
 use Rattle.definitions.specs.declared.Knot.{Knot}
 use Rattle.definitions.specs.Doubles.{FiniteDouble}
@@ -17,9 +17,9 @@ use Rattle.definitions.specs.ClipSet.{knotTimes}
 use Rattle.definitions.specs.Timing.{lastAtMost, lastKnot}
 use Rattle.set_laws.specs.Tests.{is-true}
 use Rattle.set_laws.specs.Every.{every-at}
-use Rattle.set_laws.specs.Places.{Fits, Ascending, atMost, up-to, last-is, fitting}
-use Rattle.cell_laws.specs.Knots.{Line, plain, flat, segment, lineOf}
-use Rattle.cell_laws.specs.Unpacked.{knotsOf, knot-times, zip-length}
+use Rattle.set_laws.specs.Places.{Fits, Ascending, up-to, last-is, fitting}
+use Rattle.cell_laws.specs.Knots.{plain, flat, segment, lineOf}
+use Rattle.cell_laws.specs.Unpacked.{knotsOf, knot-times}
 
 -- ---- the knot at a place
 

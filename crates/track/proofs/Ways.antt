@@ -1,14 +1,14 @@
 -- One law for each way out of `direct_cell` and of `piece_of`: the cell is the one that the laws of cells name. Assumes nothing.
-use mathlib.Core.Path.{_≡_, refl, sym, ap, ap₂, _∙_, subst}
+use mathlib.Core.Path.{_≡_, refl, sym, ap, _∙_, subst}
 use mathlib.Core.Bool.{Bool, true, false, not, _&&_, cond, false≢true}
 use mathlib.Core.List.{List, [], _∷_}
-use mathlib.Core.Option.{Option, none, some}
-use Prim.Native.Nat.{ℕ, zero, suc, _+_, _-_, _≤_, _<_}
+use mathlib.Core.Option.{none, some}
+use Prim.Native.Nat.{ℕ, _-_, _≤_, _<_}
 use native.Mathlib.Omega.{arith}
-use lib.Dec.{T, ltb}
-use lib.ListN.{length, getD, getElem?, take, drop, length-take, length-drop}
+use lib.Dec.{ltb}
+use lib.ListN.{length, getD, getElem?, take, drop, length-drop}
 use lib.Seq.{length-take-le}
-use lib.Ieee.{Float, nan, lt, le, eq}
+use lib.Ieee.{Float, nan, eq}
 use borrow.Author.Tests.{ltb-true, ltb-false, lt-ltb, le-ltb}
 use Rattle.definitions.specs.declared.Start.{Start}
 use Rattle.definitions.specs.declared.Manifest.{Manifest}
@@ -16,11 +16,10 @@ use Rattle.definitions.specs.declared.Source.{Source}
 use Rattle.definitions.specs.declared.Source.the-variants.{Absent}
 use Rattle.definitions.specs.Lists.{any}
 use Rattle.definitions.specs.Doubles.{FiniteDouble}
-use Rattle.definitions.specs.ClipSet.{ClipSet, activeTimes, knotTimes, stage}
+use Rattle.definitions.specs.ClipSet.{ClipSet, knotTimes, stage}
 use Rattle.definitions.specs.Timing.{lastAtMost, activePosition}
 use Rattle.definitions.specs.Samples.{Samples, clipBegin, clipEnd, clipTimes}
 use Rattle.definitions.specs.Value.{contributes, blockedAt, manifestDefault, gapSource, _orElse_, directSource, gathered, jump}
-use Rattle.set_laws.specs.Every.{Every}
 use Rattle.cell_laws.specs.Knots.{lineOf}
 use Rattle.cell_laws.specs.Stretches.{severalStarts, boundaries}
 use Rattle.cell_laws.specs.Cells as Cells
@@ -30,10 +29,11 @@ use Rattle.track.specs.declared.line.Line.{Line}
 use Rattle.track.specs.declared.cell.Cell.{Cell}
 use Rattle.track.specs.declared.cell.Cell.the-variants.{Constant, Reading}
 use Rattle.value.specs.declared.window.Bound.{Bound}
+use Rattle.value.specs.declared.window.Bounds.{Bounds}
 use Rattle.value.specs.declared.window.Bound.the-variants.{At, Nothing}
-use Rattle.value.specs.Bounds.{LowerIs, UpperIs}
+use Rattle.value.specs.Bounds.{LowerIs, UpperIs, NeighboursAre}
 use Rattle.track.specs.Lines.{lineIs}
-use Rattle.track.specs.Pieces.{cellIs, ClipBelow, DirectIs, PieceIs}
+use Rattle.track.specs.Pieces.{heldOf, DirectIs, PieceIs}
 use Rattle.value.specs.Reads.{ready-clip, ready-readable}
 use Rattle.track.proofs.Lent.{sound, samples, several, position, start-at}
 
@@ -186,7 +186,7 @@ module _ {starts : List Float} {clips : List ℕ} {xs ys blocks : List Float} {m
     upper : (e : Bound) → UpperIs (gathered ready lent p) t e → UpperIs (boundaries ready lent (stage t)) t e
     upper e u = subst (λ (l : List Float). UpperIs l t e) bounds u
 
-    pub piece-last : (c : Cell) → DirectIs (setOf (length ends) starts clips xs ys blocks m) (samplesOf times values marks ends) t c
+    piece-last : (c : Cell) → DirectIs (setOf (length ends) starts clips xs ys blocks m) (samplesOf times values marks ends) t c
         → UpperIs (gathered (setOf (length ends) starts clips xs ys blocks m) (samplesOf times values marks ends) p) t Nothing
         → PieceIs (setOf (length ends) starts clips xs ys blocks m) (samplesOf times values marks ends) t c Nothing
     piece-last c d u = record {
@@ -196,7 +196,7 @@ module _ {starts : List Float} {clips : List ℕ} {xs ys blocks : List Float} {m
     }
 
     module _ (h : Float) (u : UpperIs (gathered (setOf (length ends) starts clips xs ys blocks m) (samplesOf times values marks ends) p) t (At h)) where
-      pub piece-below : (c : Cell) → DirectIs (setOf (length ends) starts clips xs ys blocks m) (samplesOf times values marks ends) t c
+      piece-below : (c : Cell) → DirectIs (setOf (length ends) starts clips xs ys blocks m) (samplesOf times values marks ends) t c
           → LowerIs (gathered (setOf (length ends) starts clips xs ys blocks m) (samplesOf times values marks ends) p) t Nothing
           → PieceIs (setOf (length ends) starts clips xs ys blocks m) (samplesOf times values marks ends) t c (At h)
       piece-below c d n = record {
@@ -216,7 +216,7 @@ module _ {starts : List Float} {clips : List ℕ} {xs ys blocks : List Float} {m
         unfolding setOf
         jumping b e = e
 
-        pub piece-jump : (c : Cell) → DirectIs (setOf (length ends) starts clips xs ys blocks m) (samplesOf times values marks ends) t c
+        piece-jump : (c : Cell) → DirectIs (setOf (length ends) starts clips xs ys blocks m) (samplesOf times values marks ends) t c
             → jump (knotsOf xs ys) l h ≡ true
             → PieceIs (setOf (length ends) starts clips xs ys blocks m) (samplesOf times values marks ends) t c (At h)
         piece-jump c d j = record {
@@ -225,7 +225,7 @@ module _ {starts : List Float} {clips : List ℕ} {xs ys blocks : List Float} {m
           ends = upper (At h) u;
         }
 
-        pub piece-held : (r : Source) → r ≡ directSource (setOf (length ends) starts clips xs ys blocks m) (samplesOf times values marks ends) (stage l)
+        piece-held : (r : Source) → r ≡ directSource (setOf (length ends) starts clips xs ys blocks m) (samplesOf times values marks ends) (stage l)
             → jump (knotsOf xs ys) l h ≡ false
             → PieceIs (setOf (length ends) starts clips xs ys blocks m) (samplesOf times values marks ends) t (Constant r) (At h)
         piece-held r e j = record {
@@ -233,3 +233,36 @@ module _ {starts : List Float} {clips : List ℕ} {xs ys blocks : List Float} {m
           clip = tt;
           ends = upper (At h) u;
         }
+
+    -- by the neighbours
+
+    module _ (n : Bounds) (N : NeighboursAre (gathered (setOf (length ends) starts clips xs ys blocks m) (samplesOf times values marks ends) p) t n) where
+      pub piece-direct : (c : Cell) → heldOf (knotsOf xs ys) (n .lower) (n .upper) ≡ Nothing → DirectIs (setOf (length ends) starts clips xs ys blocks m) (samplesOf times values marks ends) t c
+          → PieceIs (setOf (length ends) starts clips xs ys blocks m) (samplesOf times values marks ends) t c (n .upper)
+      piece-direct c e d = go (n .lower) (n .upper) (N .lower) (N .upper) e
+        where
+          go : (l h : Bound) → LowerIs (gathered ready lent p) t l → UpperIs (gathered ready lent p) t h → heldOf (knotsOf xs ys) l h ≡ Nothing → PieceIs ready lent t c h
+          go Nothing Nothing w u q = piece-last c d u
+          go Nothing (At h) w u q = piece-below h u c d w
+          go (At l) Nothing w u q = piece-last c d u
+          go (At l) (At h) w u q = piece-jump h u l w c d (jumped (jump (knotsOf xs ys) l h) q)
+            where
+              jumped : (b : Bool) → cond b Nothing (At l) ≡ Nothing → b ≡ true
+              jumped true q = refl
+              jumped false q = let z : _≡_ {A = ℕ} 0 1 = cc in absurd (omega arith)
+
+      pub piece-constant : (f : Float) (r : Source) → heldOf (knotsOf xs ys) (n .lower) (n .upper) ≡ At f → r ≡ directSource (setOf (length ends) starts clips xs ys blocks m) (samplesOf times values marks ends) (stage f)
+          → PieceIs (setOf (length ends) starts clips xs ys blocks m) (samplesOf times values marks ends) t (Constant r) (n .upper)
+      piece-constant f r e d = go (n .lower) (n .upper) (N .lower) (N .upper) e
+        where
+          none-held : Nothing ≡ At f → ⊥
+          none-held q = let z : _≡_ {A = ℕ} 0 1 = cc in absurd (omega arith)
+
+          go : (l h : Bound) → LowerIs (gathered ready lent p) t l → UpperIs (gathered ready lent p) t h → heldOf (knotsOf xs ys) l h ≡ At f → PieceIs ready lent t (Constant r) h
+          go Nothing h w u q = absurd (none-held q)
+          go (At l) Nothing w u q = absurd (none-held q)
+          go (At l) (At h) w u q = let k = held (jump (knotsOf xs ys) l h) q in piece-held h u l w r (d ∙ ap (λ (x : Float). directSource ready lent (stage x)) (sym (k .1))) (k .0)
+            where
+              held : (b : Bool) → cond b Nothing (At l) ≡ At f → (b ≡ false) × (l ≡ f)
+              held true q = absurd (none-held q)
+              held false q = (refl, cc)

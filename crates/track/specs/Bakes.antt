@@ -7,7 +7,7 @@ use lib.ListN.{length}
 use lib.Ieee.{Float}
 use Rattle.gf.specs.Key.{least, most}
 use Rattle.definitions.specs.Lists.{writtenOver, _then_}
-use Rattle.definitions.specs.ClipSet.{ClipSet, Model, standing}
+use Rattle.definitions.specs.ClipSet.{ClipSet, standing}
 use Rattle.definitions.specs.Samples.{Samples, samplesNumber}
 use Rattle.definitions.specs.Value.{valueInSet}
 use Rattle.definitions.specs.Questions.{Reply, reply, roomNumber}

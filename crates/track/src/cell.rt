@@ -10,6 +10,7 @@ use value::direct::direct_source;
 use value::direct::gap_source;
 use value::jump::is_jump;
 use value::window::Bound;
+use value::window::Bounds;
 use value::window::neighbours;
 ghost use mathlib.Core.Path.{_≡_};
 ghost use mathlib.Core.Bool.{not, _&&_};
@@ -21,9 +22,9 @@ ghost use Rattle.definitions.specs.Lists.{any};
 ghost use Rattle.definitions.specs.Doubles.{FiniteDouble};
 ghost use Rattle.definitions.specs.Samples.{clipBegin, clipEnd};
 ghost use Rattle.set_laws.specs.Places.{Ascending};
-ghost use Rattle.cell_laws.specs.Unpacked.{setOf, samplesOf, Ready};
+ghost use Rattle.cell_laws.specs.Unpacked.{knotsOf, setOf, samplesOf, Ready};
 ghost use Rattle.value.specs.Bounds.{UpperIs};
-ghost use Rattle.track.specs.Pieces.{DirectIs, PieceIs};
+ghost use Rattle.track.specs.Pieces.{heldOf, DirectIs, PieceIs};
 
 // What is read from a stage time on: one source, or a clip's samples held along a line.
 pub enum Cell {
@@ -108,8 +109,28 @@ fn direct_cell(
     ))
 }
 
-// The cell of t and its end. With several starts the value is held from the lower neighbour, unless
-// there is none on one side or a jump before the upper one; else it is direct.
+// The time whose direct value is held between two neighbours: the lower one, unless one of them is
+// missing or two knots share an x between them.
+fn held_from(xs: &[f64], ys: &[f64], near: Bounds) -> Bound
+    requires { ⌜ length (now xs) ≡ length (now ys) ⌝ }
+    ensures { λ r. ⌜ r ≡ heldOf (knotsOf (now (xs .entry)) (now (ys .entry))) (near .lower) (near .upper) ⌝ }
+{
+    let lower = near.lower;
+    let upper = near.upper;
+    let Bound::At(l) = lower else {
+        return Bound::Nothing;
+    };
+    let Bound::At(h) = upper else {
+        return Bound::Nothing;
+    };
+    if is_jump(xs, ys, l, h) {
+        return Bound::Nothing;
+    }
+    Bound::At(l)
+}
+
+// The cell of t and its end. One start: direct, up to the next knot. Several: held from the lower
+// neighbour or direct, up to the upper one.
 pub fn piece_of(
     starts: &[f64],
     clips: &[u64],
@@ -161,9 +182,8 @@ pub fn piece_of(
         p,
         t,
     );
-    let upper = near.upper;
-    let lower = near.lower;
-    let Bound::At(h) = upper else {
+    let end = near.upper;
+    let Bound::At(l) = held_from(xs, ys, near) else {
         let cell = direct_cell(
             starts,
             clips,
@@ -177,49 +197,8 @@ pub fn piece_of(
             ends,
             t,
         );
-        return Piece {
-            cell,
-            end: Bound::Nothing,
-        };
+        return Piece { cell, end };
     };
-    let Bound::At(l) = lower else {
-        let cell = direct_cell(
-            starts,
-            clips,
-            xs,
-            ys,
-            blocks,
-            m,
-            times,
-            values,
-            marks,
-            ends,
-            t,
-        );
-        return Piece {
-            cell,
-            end: Bound::At(h),
-        };
-    };
-    if is_jump(xs, ys, l, h) {
-        let cell = direct_cell(
-            starts,
-            clips,
-            xs,
-            ys,
-            blocks,
-            m,
-            times,
-            values,
-            marks,
-            ends,
-            t,
-        );
-        return Piece {
-            cell,
-            end: Bound::At(h),
-        };
-    }
     let held = direct_source(
         starts,
         clips,
@@ -235,6 +214,6 @@ pub fn piece_of(
     );
     Piece {
         cell: Cell::Constant(held),
-        end: Bound::At(h),
+        end,
     }
 }
