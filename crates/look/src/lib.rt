@@ -1,0 +1,46 @@
+// A clip's samples, seen through a look over the lent lists by the clip's two ends.
+use definitions::Answer;
+ghost use mathlib.Core.Path.{_≡_};
+ghost use Prim.Native.Nat.{_+_};
+ghost use Rattle.definitions.specs.ClipSet.{clip};
+ghost use Rattle.definitions.specs.Samples.{heldPlace};
+ghost use Rattle.look.specs.Reads.{part, Searchable, Inside, heldIs, markedAt};
+
+// The borrow checker covers no function over a struct that holds references, so those below only take the look apart,
+// and leave the work to a covered function of plain lists. Each list has a lifetime of its own, as its lender has.
+pub struct Look<'t, 'v, 'm> {
+    pub times: &'t [f64],
+    pub values: &'v [f64],
+    pub marks: &'m [u8],
+    pub begin: usize,
+    pub end: usize,
+}
+
+// The place of a held reading, counted from the clip's first sample; nothing in a clip without samples.
+pub enum Held {
+    At(usize),
+    Nothing,
+}
+
+// The held reading at the clip time `t`, of the times from `begin` to `end`.
+fn held_place(times: &[f64], begin: usize, end: usize, t: f64) -> Held
+    requires { ⌜ Searchable (now times) begin end ⌝ }
+    ensures { λ r. ⌜ heldIs r ≡ heldPlace (part (now (times .entry)) begin end) (clip t) ⌝ }
+{
+    if begin == end {
+        return Held::Nothing;
+    }
+    Held::At(lists::last_at_most(&times[begin..end], t))
+}
+
+// What the sample at a place behind `begin` says. A block read is a reading.
+fn marked_at(values: &[f64], marks: &[u8], begin: usize, place: usize) -> Answer
+    requires { ⌜ Inside (now values) (now marks) (begin + place) ⌝ }
+    ensures { λ r. ⌜ r ≡ markedAt (now (values .entry)) (now (marks .entry)) (begin + place) ⌝ }
+{
+    let at = begin + place;
+    if marks[at] == 0 {
+        return Answer::Value(values[at]);
+    }
+    Answer::Blocked
+}
