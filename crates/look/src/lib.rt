@@ -44,3 +44,22 @@ fn marked_at(values: &[f64], marks: &[u8], begin: usize, place: usize) -> Answer
     }
     Answer::Blocked
 }
+
+// A look at the samples from `begin` to `end`.
+pub fn over<'t, 'v, 'm>(
+    times: &'t [f64],
+    values: &'v [f64],
+    marks: &'m [u8],
+    begin: usize,
+    end: usize,
+) -> Look<'t, 'v, 'm>
+    ensures { λ r. ⌜ r ≡ record { times = times .entry; values = values .entry; marks = marks .entry; begin = begin; end = end } ⌝ }
+{
+    Look {
+        times,
+        values,
+        marks,
+        begin,
+        end,
+    }
+}
