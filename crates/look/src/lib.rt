@@ -63,3 +63,13 @@ pub fn over<'t, 'v, 'm>(
         end,
     }
 }
+
+impl<'t, 'v, 'm> Look<'t, 'v, 'm> {
+    // The place of the held reading at the clip time `t`.
+    pub fn place(self, t: f64) -> Held
+        requires { ⌜ Searchable (now (self .times)) (self .begin) (self .end) ⌝ }
+        ensures { λ r. ⌜ heldIs r ≡ heldPlace (part (now (self .entry .times)) (self .entry .begin) (self .entry .end)) (clip t) ⌝ }
+    {
+        held_place(self.times, self.begin, self.end, t)
+    }
+}
