@@ -72,4 +72,12 @@ impl<'t, 'v, 'm> Look<'t, 'v, 'm> {
     {
         held_place(self.times, self.begin, self.end, t)
     }
+
+    // What the sample at a place of the clip says.
+    pub fn answer(self, place: usize) -> Answer
+        requires { ⌜ Inside (now (self .values)) (now (self .marks)) (self .begin + place) ⌝ }
+        ensures { λ r. ⌜ r ≡ markedAt (now (self .entry .values)) (now (self .entry .marks)) (self .entry .begin + place) ⌝ }
+    {
+        marked_at(self.values, self.marks, self.begin, place)
+    }
 }
