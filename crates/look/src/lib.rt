@@ -81,3 +81,18 @@ impl<'t, 'v, 'm> Look<'t, 'v, 'm> {
         marked_at(self.values, self.marks, self.begin, place)
     }
 }
+
+// The place of the held reading at the clip time `t`, in the clip from `begin` to `end`.
+pub fn place_in(
+    times: &[f64],
+    values: &[f64],
+    marks: &[u8],
+    begin: usize,
+    end: usize,
+    t: f64,
+) -> Held
+    requires { ⌜ Searchable (now times) begin end ⌝ }
+    ensures { λ r. ⌜ heldIs r ≡ heldPlace (part (now (times .entry)) begin end) (clip t) ⌝ }
+{
+    over(times, values, marks, begin, end).place(t)
+}
