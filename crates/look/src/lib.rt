@@ -96,3 +96,18 @@ pub fn place_in(
 {
     over(times, values, marks, begin, end).place(t)
 }
+
+// What the sample at a place of the clip from `begin` to `end` says.
+pub fn answer_in(
+    times: &[f64],
+    values: &[f64],
+    marks: &[u8],
+    begin: usize,
+    end: usize,
+    place: usize,
+) -> Answer
+    requires { ⌜ Inside (now values) (now marks) (begin + place) ⌝ }
+    ensures { λ r. ⌜ r ≡ markedAt (now (values .entry)) (now (marks .entry)) (begin + place) ⌝ }
+{
+    over(times, values, marks, begin, end).answer(place)
+}
