@@ -4,7 +4,7 @@ ghost use mathlib.Core.Path.{_≡_};
 ghost use Prim.Native.Nat.{_+_};
 ghost use Rattle.definitions.specs.ClipSet.{clip};
 ghost use Rattle.definitions.specs.Samples.{heldPlace};
-ghost use Rattle.look.specs.Reads.{part, Searchable, Inside, heldIs, markedAt};
+ghost use Rattle.look.specs.Reads.{part, Searchable, Inside, Readable, heldIs, markedAt, heldAnswer};
 
 // The borrow checker covers no function over a struct that holds references, so those below only take the look apart,
 // and leave the work to a covered function of plain lists. Each list has a lifetime of its own, as its lender has.
@@ -110,4 +110,22 @@ pub fn answer_in(
     ensures { λ r. ⌜ r ≡ markedAt (now (values .entry)) (now (marks .entry)) (begin + place) ⌝ }
 {
     over(times, values, marks, begin, end).answer(place)
+}
+
+// A clip's held reading at the clip time `t`: what its sample says, and absent in a clip without samples.
+pub fn read_clip(
+    times: &[f64],
+    values: &[f64],
+    marks: &[u8],
+    begin: usize,
+    end: usize,
+    t: f64,
+) -> Answer
+    requires { ⌜ Readable (now times) (now values) (now marks) begin end ⌝ }
+    ensures { λ r. ⌜ r ≡ heldAnswer (now (values .entry)) (now (marks .entry)) begin (heldPlace (part (now (times .entry)) begin end) (clip t)) ⌝ }
+{
+    let Held::At(place) = place_in(times, values, marks, begin, end, t) else {
+        return Answer::Absent;
+    };
+    answer_in(times, values, marks, begin, end, place)
 }
