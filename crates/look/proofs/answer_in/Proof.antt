@@ -57,9 +57,16 @@ use Rattle.look.proofs.answer_in.Statement as stated
 use Rattle.look.proofs.answer_in.Code as code
 
 abbrev stayed : Stays (answer-in.ended .signature .params) (answer-in.ended .kept)
-stayed =
-    (stay-none-slice (0 ∷ []) tt (plain (λ _. f64)) yes, (stay-none-slice (1 ∷ []) tt (plain (λ _. f64)) yes, (stay-none-slice (2 ∷ []) tt (plain (λ _. u8)) yes,
-    (stay-none (λ _. usize) yes, (stay-none (λ _. usize) yes, (stay-none (λ _. usize) yes, tt))))))
+stayed = (
+  stay-none-slice (0 ∷ []) tt (plain (λ _. f64)) yes,
+  (
+    stay-none-slice (1 ∷ []) tt (plain (λ _. f64)) yes,
+    (
+      stay-none-slice (2 ∷ []) tt (plain (λ _. u8)) yes,
+      (stay-none (λ _. usize) yes, (stay-none (λ _. usize) yes, (stay-none (λ _. usize) yes, tt))),
+    ),
+  ),
+)
 
 module _ {M : Type 1} (𝓤 : URA M) (H : Heap 𝓤) (A : Atoms 𝓤) (mem : Memory → SProp 𝓤) (run : Routine → Fun 𝓤) where
   -- the contract that the proof cites, beside that of `over`
@@ -158,9 +165,16 @@ module _ {M : Type 1} (𝓤 : URA M) (H : Heap 𝓤) (A : Atoms 𝓤) (W : Given
 answer-in-meets : {M : Type 1} (𝓤 : URA M) (H : Heap 𝓤) (A : Atoms 𝓤) (W : Given 𝓤 H A) (mem : Memory → SProp 𝓤) (run : Routine → Fun 𝓤) (𝓣 : Tables 𝓤 H)
     → Triple 𝓤 (𝓣 .C #look·over) (Over 𝓤 H A mem run) → Triple 𝓤 (𝓣 .C #look·answer) (AnswerOf 𝓤 H A mem run)
     → Meets 𝓤 H A answer-in.signature (WpFn 𝓤 H (𝓣 .C) (𝓣 .Λ) code.function) (answer-in.spec 𝓤 H A mem run)
-answer-in-meets 𝓤 H A W mem run 𝓣 known-over known-answer = walk-meets 𝓤 H A answer-in.ended stayed W
-    (goes-none-slice 𝓤 H A W 3 (0 ∷ []) tt (plain (λ _. f64)) yes, (goes-none-slice 𝓤 H A W 3 (1 ∷ []) tt (plain (λ _. f64)) yes, (goes-none-slice 𝓤 H A W 3 (2 ∷ []) tt (plain (λ _. u8)) yes,
-    (goes-none 𝓤 H A W 3 (λ _. usize) yes (λ κs x f. refl), (goes-none 𝓤 H A W 3 (λ _. usize) yes (λ κs x f. refl), (goes-none 𝓤 H A W 3 (λ _. usize) yes (λ κs x f. refl), tt))))))
+answer-in-meets 𝓤 H A W mem run 𝓣 known-over known-answer = walk-meets 𝓤 H A answer-in.ended stayed W (
+  goes-none-slice 𝓤 H A W 3 (0 ∷ []) tt (plain (λ _. f64)) yes,
+  (
+    goes-none-slice 𝓤 H A W 3 (1 ∷ []) tt (plain (λ _. f64)) yes,
+    (
+      goes-none-slice 𝓤 H A W 3 (2 ∷ []) tt (plain (λ _. u8)) yes,
+      (goes-none 𝓤 H A W 3 (λ _. usize) yes (λ κs x f. refl), (goes-none 𝓤 H A W 3 (λ _. usize) yes (λ κs x f. refl), (goes-none 𝓤 H A W 3 (λ _. usize) yes (λ κs x f. refl), tt))),
+    ),
+  ),
+)
     (answer-in.clauses 𝓤 H A mem run) (WpFn 𝓤 H (𝓣 .C) (𝓣 .Λ) code.function) (WpFn-mono 𝓤 H (W .laws) 𝓣 code.function)
     (answer-in-walks 𝓤 H A W mem run (𝓣 .C) (𝓣 .Λ) (fmOf 𝓤 H (W .laws) 𝓣) known-over known-answer)
 

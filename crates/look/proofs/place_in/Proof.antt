@@ -62,9 +62,16 @@ use Rattle.look.proofs.place_in.Statement as stated
 use Rattle.look.proofs.place_in.Code as code
 
 abbrev stayed : Stays (place-in.ended .signature .params) (place-in.ended .kept)
-stayed =
-    (stay-none-slice (0 ∷ []) tt (plain (λ _. f64)) yes, (stay-none-slice (1 ∷ []) tt (plain (λ _. f64)) yes, (stay-none-slice (2 ∷ []) tt (plain (λ _. u8)) yes,
-    (stay-none (λ _. usize) yes, (stay-none (λ _. usize) yes, (stay-none (λ _. f64) yes, tt))))))
+stayed = (
+  stay-none-slice (0 ∷ []) tt (plain (λ _. f64)) yes,
+  (
+    stay-none-slice (1 ∷ []) tt (plain (λ _. f64)) yes,
+    (
+      stay-none-slice (2 ∷ []) tt (plain (λ _. u8)) yes,
+      (stay-none (λ _. usize) yes, (stay-none (λ _. usize) yes, (stay-none (λ _. f64) yes, tt))),
+    ),
+  ),
+)
 
 module _ {M : Type 1} (𝓤 : URA M) (H : Heap 𝓤) (A : Atoms 𝓤) (mem : Memory → SProp 𝓤) (run : Routine → Fun 𝓤) where
   -- the contract that the proof cites, beside that of `over`
@@ -163,9 +170,16 @@ module _ {M : Type 1} (𝓤 : URA M) (H : Heap 𝓤) (A : Atoms 𝓤) (W : Given
 place-in-meets : {M : Type 1} (𝓤 : URA M) (H : Heap 𝓤) (A : Atoms 𝓤) (W : Given 𝓤 H A) (mem : Memory → SProp 𝓤) (run : Routine → Fun 𝓤) (𝓣 : Tables 𝓤 H)
     → Triple 𝓤 (𝓣 .C #look·over) (Over 𝓤 H A mem run) → Triple 𝓤 (𝓣 .C #look·place) (Place 𝓤 H A mem run)
     → Meets 𝓤 H A place-in.signature (WpFn 𝓤 H (𝓣 .C) (𝓣 .Λ) code.function) (place-in.spec 𝓤 H A mem run)
-place-in-meets 𝓤 H A W mem run 𝓣 known-over known-place = walk-meets 𝓤 H A place-in.ended stayed W
-    (goes-none-slice 𝓤 H A W 3 (0 ∷ []) tt (plain (λ _. f64)) yes, (goes-none-slice 𝓤 H A W 3 (1 ∷ []) tt (plain (λ _. f64)) yes, (goes-none-slice 𝓤 H A W 3 (2 ∷ []) tt (plain (λ _. u8)) yes,
-    (goes-none 𝓤 H A W 3 (λ _. usize) yes (λ κs x f. refl), (goes-none 𝓤 H A W 3 (λ _. usize) yes (λ κs x f. refl), (goes-none 𝓤 H A W 3 (λ _. f64) yes (λ κs x f. refl), tt))))))
+place-in-meets 𝓤 H A W mem run 𝓣 known-over known-place = walk-meets 𝓤 H A place-in.ended stayed W (
+  goes-none-slice 𝓤 H A W 3 (0 ∷ []) tt (plain (λ _. f64)) yes,
+  (
+    goes-none-slice 𝓤 H A W 3 (1 ∷ []) tt (plain (λ _. f64)) yes,
+    (
+      goes-none-slice 𝓤 H A W 3 (2 ∷ []) tt (plain (λ _. u8)) yes,
+      (goes-none 𝓤 H A W 3 (λ _. usize) yes (λ κs x f. refl), (goes-none 𝓤 H A W 3 (λ _. usize) yes (λ κs x f. refl), (goes-none 𝓤 H A W 3 (λ _. f64) yes (λ κs x f. refl), tt))),
+    ),
+  ),
+)
     (place-in.clauses 𝓤 H A mem run) (WpFn 𝓤 H (𝓣 .C) (𝓣 .Λ) code.function) (WpFn-mono 𝓤 H (W .laws) 𝓣 code.function)
     (place-in-walks 𝓤 H A W mem run (𝓣 .C) (𝓣 .Λ) (fmOf 𝓤 H (W .laws) 𝓣) known-over known-place)
 
