@@ -1,9 +1,7 @@
 -- `look::read_clip` meets its contract: the place that `place_in` finds lies in the clip, and `answer_in` says what the sample there says. Its callees' parameters are plain lists, so it needs no walk by hand.
 -- Assumes nothing.
 use mathlib.Core.Path.{_≡_, sym, ap, _∙_, subst}
-use mathlib.Core.List.{List}
-use mathlib.Core.Option.{Option, some}
-use Prim.Native.Nat.{ℕ}
+use mathlib.Core.Option.{some}
 use native.Mathlib.Omega.{arith}
 use lib.Dec.{T}
 use lib.Ieee.{binary64, fits}
