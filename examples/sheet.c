@@ -22,7 +22,7 @@ int main(void) {
   printf("%zu changes\n", track.count);
 
   /* From here on the set, its clips and its samples are gone: the track is all a sheet program has. */
-  const tavitrozy_entry head = {track.mark, track.value};
+  const tavitrozy_entry head = {track.value, track.mark};
   for (int frame = 24; frame <= 32; frame++) {
     tavitrozy_entry e = tavitrozy_read(head, track_times, track.count, track_values, track.count, track_marks, track.count, frame);
     if (e.mark == 0) printf("%d: drawn at %g\n", frame, e.value);
