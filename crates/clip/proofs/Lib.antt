@@ -8,3 +8,5 @@ pub mod Standing
 pub mod Retimed
 pub mod Timed
 pub mod Fields
+pub mod Promotion
+pub mod Expansion

@@ -1,8 +1,10 @@
 // Clip sets by value, and the operations on them.
+mod expanding;
 mod explicit;
 mod retiming;
 mod settling;
 pub mod storage;
+mod template;
 mod timing;
 
 use definitions::ClipTime;
