@@ -59,10 +59,13 @@ pub record Promotes (x : TemplateTimes) (r : Promoted) : Type 0 where
 abbrev pub clipTimes : List Float → List Float
 clipTimes ts = map (λ (t : Float). t ⊘ 10000·0) ts
 
+abbrev pub bounded : Float → Float → List Float → List Float
+bounded first last ts = first ∷ (clipTimes ts ++ (last ∷ []))
+
 -- the x of the knots, and their y
 abbrev pub knotXs : TemplateTimes → Option Float → List Float → List Float
 knotXs x none ts = clipTimes ts
-knotXs x (some offset) ts = (x .start ⊖ abs offset) ∷ (clipTimes ts ++ ((x .end ⊕ abs offset) ∷ []))
+knotXs x (some offset) ts = bounded (x .start ⊖ abs offset) (x .end ⊕ abs offset) ts
 
 abbrev pub knotCount : Bool → ℕ → ℕ
 knotCount offset n = cond offset (n + 2) n

@@ -10,7 +10,7 @@ ghost use Prim.Native.Nat.{_≤_, _+_};
 ghost use lib.ListN.{length};
 ghost use Rattle.definitions.specs.Template.{stageTime};
 ghost use Rattle.clip.specs.Settling.{Settles};
-ghost use Rattle.clip.specs.Expanding.{offsetOf, Promotes, clipTimes, knotXs, knotCount, counted, Prepared, expandedSet};
+ghost use Rattle.clip.specs.Expanding.{offsetOf, Promotes, clipTimes, bounded, knotXs, knotCount, counted, Prepared, expandedSet};
 
 // The times t and their number; of a 257th only the number tells.
 pub struct Promoted {
@@ -95,6 +95,16 @@ pub fn knot_count(clips: usize, offset: bool) -> usize
     clips
 }
 
+fn write_bounded(ts: &[f64], first: f64, last: f64, xs: &mut [f64])
+    requires { ⌜ length (now xs) ≡ length (now ts) + 2 ⌝ }
+    ensures { λ _. ⌜ now (xs .exit) ≡ bounded first last (now (ts .entry)) ⌝ }
+{
+    let end = ts.len() + 1;
+    write_clip_times(ts, &mut xs[1..end]);
+    xs[0] = first;
+    xs[end] = last;
+}
+
 // A knot for each clip; with an offset one before and one behind them.
 fn write_knots(ts: &[f64], times: TemplateTimes, offset: bool, xs: &mut [f64])
     requires { ⌜ length (now xs) ≡ knotCount offset (length (now ts)) ⌝ }
@@ -102,10 +112,7 @@ fn write_knots(ts: &[f64], times: TemplateTimes, offset: bool, xs: &mut [f64])
 {
     if offset {
         let slack = gf::magnitude::abs(times.offset);
-        let end = ts.len() + 1;
-        write_clip_times(ts, &mut xs[1..end]);
-        xs[0] = times.start - slack;
-        xs[end] = times.end + slack;
+        write_bounded(ts, times.start - slack, times.end + slack, xs);
         return;
     }
     write_clip_times(ts, xs);

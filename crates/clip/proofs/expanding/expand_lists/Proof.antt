@@ -1,53 +1,67 @@
+-- `clip::expanding::expand_lists` meets its contract. Assumes nothing.
+use Prim.Native.Nat.{ℕ, _+_, _-_, _≤_, _<_}
+use mathlib.Core.Path.{_≡_, refl, sym, ap, ap₂, subst, _∙_}
+use mathlib.Core.Bool.{Bool, true, false, not}
+use mathlib.Core.List.{List, [], _∷_, _++_, map}
+use native.Mathlib.Omega.{arith}
 use borrow.Author.Needs.{needs}
+use lib.ListN.{length, length-map}
+use lib.Ieee.{Float}
+use denote.Ref.{now}
+use Rattle.definitions.specs.ClipSet as Definitions
+use Rattle.clip.specs.Settling.{Settles}
+use Rattle.clip.specs.Expanding.{offsetOf}
+use Rattle.clip.proofs.Expansion.{expanded-is, few-knots}
 use Rattle.clip.proofs.expanding.expand_lists.Statement.{statement}
 use Rattle.clip.proofs.expanding.expand_lists.Tie as tie
-use Rattle.clip.proofs.expanding.expand_lists.Reads as reads
-use Rattle.clip.proofs.expanding.expand_lists.Lts as lts
-use Rattle.clip.proofs.expanding.write_knots.Reads as write-knots-reads
-use Rattle.clip.proofs.expanding.write_numbers.Reads as write-numbers-reads
-use Rattle.clip.proofs.expanding.write_starts.Reads as write-starts-reads
-use Rattle.clip.proofs.settling.sort_and_settle.Reads as sort-and-settle-reads
-use Rattle.lists.proofs.writing.copy.Reads as copy-reads
 
--- src/expanding.rt:128:5
 write-starts-requires : tie.Need-write-starts-requires
 write-starts-requires c κs = search needs
 
--- src/expanding.rt:129:5
 write-numbers-requires : tie.Need-write-numbers-requires
 write-numbers-requires c κs = search needs
 
--- src/expanding.rt:130:5
 write-knots-requires : tie.Need-write-knots-requires
 write-knots-requires c κs = search needs
 
--- src/expanding.rt:131:5
 copy-requires : tie.Need-copy-requires
 copy-requires c κs = search needs
 
--- src/expanding.rt:133:5
 sort-and-settle-requires : tie.Need-sort-and-settle-requires
-sort-and-settle-requires c κs = ?
+sort-and-settle-requires c κs = 
+    let s = c .before .before .before .before .before .before .before .before .before .before .before .before .before .before .before .before .before .before .before .before .before .before .before .before .before .before .before in
+    let p = s .pre in
+    let t = c .before .before .before .before .before .before .before .before .before .before .before .before .before .before .before .before .before .before .before .write-starts .kept .1 .1 .1 .0 ∙ p .for-times in
+    let n = c .before .before .before .before .before .before .before .before .before .before .before .before .before .before .before .write-numbers .kept .0 ∙ p .for-numbers in
+    let x = c .before .before .before .before .before .before .before .before .before .before .before .write-knots .kept .1 .1 .1 .0 ∙ p .for-xs in
+    let y = c .before .before .before .before .before .before .copy .kept .1 .0 ∙ p .for-ys in
+    record { starts = t ∙ sym n; knots = x ∙ sym y; few-starts = omega (arith, p .few); few-knots = omega (arith, few-knots (s .args .offset) (length (now (s .args .ts))) (p .few)); few-blocks = p .few-blocks }
 
--- src/expanding.rt:114:1
 same-length : tie.Need-same-length
-same-length c = ?
+same-length c = c .before .before .before .before .before .before .before .before .sort-and-settle .kept .1 .0 ∙ c .before .before .before .before .before .before .before .before .before .before .before .before .before .before .before .before .before .before .before .before .before .before .before .before .before .before .before .before .write-starts .kept .1 .1 .1 .0
 
--- src/expanding.rt:114:1
 same-length-2 : tie.Need-same-length-2
-same-length-2 c = ?
+same-length-2 c = c .before .before .before .before .before .before .before .before .sort-and-settle .kept .1 .1 .0 ∙ c .before .before .before .before .before .before .before .before .before .before .before .before .before .before .before .before .before .before .before .before .before .before .before .before .write-numbers .kept .0
 
--- src/expanding.rt:114:1
 same-length-3 : tie.Need-same-length-3
 same-length-3 c = search needs
 
--- src/expanding.rt:114:1
 same-length-4 : tie.Need-same-length-4
 same-length-4 c = search needs
 
--- src/expanding.rt:114:1
 returns : tie.Need-returns
-returns c = ?
+returns c = 
+    let s = c .before .before .before .before .before .before .before .before .before .before .before .before .before .before .before .before .before .before .before .before .before .before .before .before .before .before .before .before .before .before .before .before .before .before .before .before in
+    let a = s .args in
+    let t = c .before .before .before .before .before .before .before .before .before .before .before .before .before .before .before .before .before .before .before .before .before .before .before .before .before .before .before .before .write-starts in
+    let n = c .before .before .before .before .before .before .before .before .before .before .before .before .before .before .before .before .before .before .before .before .before .before .before .before .write-numbers in
+    let x = c .before .before .before .before .before .before .before .before .before .before .before .before .before .before .before .before .before .before .before .before .write-knots in
+    let y = c .before .before .before .before .before .before .before .before .before .before .before .before .before .before .before .copy in
+    let r = c .before .before .before .before .before .before .before .before .sort-and-settle in
+    subst (λ (set : Definitions.ClipSet). Settles set (r .result))
+    (expanded-is (a .times) (offsetOf (a .times) (a .offset)) (now (a .ts)) (t .last .1 .1 .1 .0) (n .last .0) (now (a .numbers)) (x .last .1 .1 .1 .0) (y .last .1 .0) (now (a .blocks)) (a .manifest)
+    (t .ensures) (n .ensures) (s .pre .for-numbers) (x .ensures) (y .ensures))
+    (r .ensures)
 
 pub expand-lists-spec : {M : Type 1} → statement M
 expand-lists-spec =
