@@ -10,3 +10,4 @@ pub mod Timed
 pub mod Fields
 pub mod Promotion
 pub mod Expansion
+pub mod Templates

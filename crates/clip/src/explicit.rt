@@ -14,7 +14,14 @@ ghost use Rattle.clip.specs.Settling.{Settles};
 ghost use Rattle.clip.specs.Parsing.{Lent, explicitFields, misshapen, anyNotClip, fieldsNumber};
 
 // 1 of the clip count and the lengths.
-fn is_misshapen(clips: u64, starts: usize, numbers: usize, xs: usize, ys: usize, blocks: usize) -> bool
+fn is_misshapen(
+    clips: u64,
+    starts: usize,
+    numbers: usize,
+    xs: usize,
+    ys: usize,
+    blocks: usize,
+) -> bool
     ensures { λ r. ⌜ r ≡ misshapen clips starts numbers xs ys blocks ⌝ }
 {
     if 256 < clips {
@@ -77,7 +84,14 @@ pub fn fields_number(
 ) -> u8
     ensures { λ r. ⌜ r ≡ fieldsNumber (explicitFields clips (now (starts .entry)) (now (numbers .entry)) (now (xs .entry)) (now (ys .entry)) (now (blocks .entry)) manifest) ⌝ }
 {
-    if is_misshapen(clips, starts.len(), numbers.len(), xs.len(), ys.len(), blocks.len()) {
+    if is_misshapen(
+        clips,
+        starts.len(),
+        numbers.len(),
+        xs.len(),
+        ys.len(),
+        blocks.len(),
+    ) {
         return 1;
     }
     if lists::any_unstorable(starts) {

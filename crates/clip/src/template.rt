@@ -41,7 +41,13 @@ fn is_disordered(times: TemplateTimes, offset: bool) -> bool
 }
 
 // 1, 2, 7 and 6, in this order.
-pub fn fields_number(template: &[u8], times: TemplateTimes, offset: bool, blocks: &[f64], manifest: Manifest) -> u8
+pub fn fields_number(
+    template: &[u8],
+    times: TemplateTimes,
+    offset: bool,
+    blocks: &[f64],
+    manifest: Manifest,
+) -> u8
     ensures { λ r. ⌜ r ≡ templateFieldsNumber (templateFields (now (template .entry)) times offset (now (blocks .entry)) manifest) ⌝ }
 {
     if 255 < template.len() {

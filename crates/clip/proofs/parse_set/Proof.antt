@@ -1,10 +1,8 @@
 -- `clip::parse_set` meets its contract: the numbers of its fields, or those of the settled lists. Assumes nothing.
-use Prim.Native.Nat.{ℕ, _-_, _≤_, _<_}
-use mathlib.Core.Path.{_≡_, refl, sym, ap, ap₂, subst, _∙_}
+use mathlib.Core.Path.{_≡_, sym, subst, _∙_}
 use native.Mathlib.Omega.{arith}
 use borrow.Author.Needs.{needs}
 use lib.Dec.{T}
-use lib.ListN.{length}
 use denote.Ref.{now}
 use Rattle.definitions.specs.Explicit.{ExplicitFields}
 use Rattle.set_laws.specs.SoundExplicit.{ExplicitLimits, ExplicitFits}
@@ -43,7 +41,7 @@ refused-requires : tie.Need-refused-requires
 refused-requires c κs = search needs
 
 returns : tie.Need-returns
-returns c = 
+returns c =
     let s = c .before .before .before .before .before .before .before .before in
     parse-refuses (fields s) (c .before .before .fields-number .result) (c .refused .result) (c .before .before .fields-number .ensures) (c .before .if1 .taken) (c .refused .ensures)
 
@@ -75,7 +73,7 @@ slice-aggregate-parse-lists-4 : tie.Need-slice-aggregate-parse-lists-4
 slice-aggregate-parse-lists-4 c = let l = limits (c .before .before .before .before .before .before .before .before .before) in let b = c .before .before .before .before .before .before .before .before .blank in sym (lent 512 _ (b .result .ys) (b .ensures .ys) (l .knots))
 
 parse-lists-requires : tie.Need-parse-lists-requires
-parse-lists-requires c κs = 
+parse-lists-requires c κs =
     let l = limits (c .before .before .before .before .before .before .before .before .before) in
     let b = c .before .before .before .before .before .before .before .before .blank in (
       none (c .before .before .before .before .before .before .before .before .before),
@@ -88,7 +86,7 @@ parse-lists-requires c κs =
     )
 
 returns-2 : tie.Need-returns-2
-returns-2 c = 
+returns-2 c =
     let e = c .before .before .before .before .before .before .before .before .before .before .before .before .before .before in
     parse-settles (fields (e .before .before .before .before .before .before .before)) (c .before .before .before .before .parse-lists .result) (fitting (e .before .before)) (none e) (c .before .before .before .before .parse-lists .ensures)
 

@@ -1,14 +1,10 @@
 -- `clip::ClipSet::active_clip` meets its contract. Assumes nothing.
-use Prim.Native.Nat.{ℕ, _<_}
-use mathlib.Core.Path.{_≡_, refl, sym, ap, ap₂, subst, _∙_}
-use mathlib.Core.List.{List}
+use Prim.Native.Nat.{ℕ}
+use mathlib.Core.Path.{sym, ap, _∙_}
 use native.Mathlib.Omega.{arith}
 use borrow.Author.Needs.{needs}
-use lib.ListN.{length, getD, length-take, length-map}
-use lib.Ieee.{Float}
 use lib.ListN.{take}
 use lib.Seq.{length-take-le}
-use Rattle.definitions.specs.ClipSet.{activeTimes}
 use Rattle.set_laws.specs.Sound.{sound-active}
 use Rattle.clip.specs.Holding.{clipSetOf}
 use Rattle.clip.specs.declared.ActiveClip.the-variants.{Clip}
@@ -18,7 +14,7 @@ use Rattle.clip.proofs.ClipSet.active_clip.Statement.{statement}
 use Rattle.clip.proofs.ClipSet.active_clip.Tie as tie
 
 returns : tie.Need-returns
-returns c = 
+returns c =
     let s = c .before .before in
     sym (no-clip (clipSetOf (s .args .self)) (s .args .t) (ap (λ (n : ℕ). take n (s .args .self .active .items)) (c .if1 .taken)))
 
@@ -38,7 +34,7 @@ slice-aggregate-clip-at-2 : tie.Need-slice-aggregate-clip-at-2
 slice-aggregate-clip-at-2 c = let s = c .before .before .before .before .before .before .before in sym (lent 256 (s .args .self .active .count) (c .before .before .before .before .blank .result .numbers) (c .before .before .before .before .blank .ensures .numbers) (s .pre .0 .active .few))
 
 clip-at-requires : tie.Need-clip-at-requires
-clip-at-requires c κs = 
+clip-at-requires c κs =
     let s = c .before .before .before .before .before .before .before in
     let n = s .args .self .active .count in
     let b = c .before .before .before .before .blank in (
@@ -50,7 +46,7 @@ clip-at-requires c κs =
     )
 
 returns-2 : tie.Need-returns-2
-returns-2 c = 
+returns-2 c =
     let s = c .before .before .before .before .before .before .before .before .before .before in
     let a = s .args .self .active in
     let n = length-take-le (a .count) (a .items) (omega (arith, s .pre .0 .active .long, s .pre .0 .active .few)) in

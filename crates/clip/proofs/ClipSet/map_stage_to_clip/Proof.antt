@@ -1,11 +1,6 @@
 -- `clip::ClipSet::map_stage_to_clip` meets its contract. Assumes nothing.
-use Prim.Native.Nat.{ℕ, _<_}
-use mathlib.Core.Path.{_≡_, refl, sym, ap, ap₂, subst, _∙_}
-use mathlib.Core.List.{List}
-use native.Mathlib.Omega.{arith}
+use mathlib.Core.Path.{sym, ap}
 use borrow.Author.Needs.{needs}
-use lib.ListN.{length, getD, length-take, length-map}
-use lib.Ieee.{Float}
 use Rattle.definitions.specs.ClipSet.{clip}
 use Rattle.definitions.specs.Timing.{mapStageToClip}
 use Rattle.set_laws.specs.Sound.{sound-knots}
@@ -30,7 +25,7 @@ slice-aggregate-time-at-2 : tie.Need-slice-aggregate-time-at-2
 slice-aggregate-time-at-2 c = let s = c .before .before .before .before .before .before in sym (lent 512 (s .args .self .knots .count) (c .before .before .before .before .blank .result .ys) (c .before .before .before .before .blank .ensures .ys) (s .pre .0 .knots .few))
 
 time-at-requires : tie.Need-time-at-requires
-time-at-requires c κs = 
+time-at-requires c κs =
     let s = c .before .before .before .before .before .before in
     let n = s .args .self .knots .count in
     let b = c .before .before .before .before .blank in

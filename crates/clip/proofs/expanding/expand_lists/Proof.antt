@@ -1,12 +1,8 @@
 -- `clip::expanding::expand_lists` meets its contract. Assumes nothing.
-use Prim.Native.Nat.{ℕ, _+_, _-_, _≤_, _<_}
-use mathlib.Core.Path.{_≡_, refl, sym, ap, ap₂, subst, _∙_}
-use mathlib.Core.Bool.{Bool, true, false, not}
-use mathlib.Core.List.{List, [], _∷_, _++_, map}
+use mathlib.Core.Path.{sym, subst, _∙_}
 use native.Mathlib.Omega.{arith}
 use borrow.Author.Needs.{needs}
-use lib.ListN.{length, length-map}
-use lib.Ieee.{Float}
+use lib.ListN.{length}
 use denote.Ref.{now}
 use Rattle.definitions.specs.ClipSet as Definitions
 use Rattle.clip.specs.Settling.{Settles}
@@ -28,7 +24,7 @@ copy-requires : tie.Need-copy-requires
 copy-requires c κs = search needs
 
 sort-and-settle-requires : tie.Need-sort-and-settle-requires
-sort-and-settle-requires c κs = 
+sort-and-settle-requires c κs =
     let s = c .before .before .before .before .before .before .before .before .before .before .before .before .before .before .before .before .before .before .before .before .before .before .before .before .before .before .before in
     let p = s .pre in
     let t = c .before .before .before .before .before .before .before .before .before .before .before .before .before .before .before .before .before .before .before .write-starts .kept .1 .1 .1 .0 ∙ p .for-times in
@@ -50,7 +46,7 @@ same-length-4 : tie.Need-same-length-4
 same-length-4 c = search needs
 
 returns : tie.Need-returns
-returns c = 
+returns c =
     let s = c .before .before .before .before .before .before .before .before .before .before .before .before .before .before .before .before .before .before .before .before .before .before .before .before .before .before .before .before .before .before .before .before .before .before .before .before in
     let a = s .args in
     let t = c .before .before .before .before .before .before .before .before .before .before .before .before .before .before .before .before .before .before .before .before .before .before .before .before .before .before .before .before .write-starts in

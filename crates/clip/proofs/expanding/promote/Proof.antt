@@ -1,14 +1,10 @@
 -- `clip::expanding::promote` meets its contract: the times before t are written, and t begins the rest. Assumes nothing.
-use Prim.Native.Nat.{ℕ, _-_, _≤_, _<_}
-use mathlib.Core.Path.{_≡_, refl, sym, ap, ap₂, subst, _∙_}
-use mathlib.Core.Bool.{Bool, true, false, not, _||_}
+use Prim.Native.Nat.{ℕ, _-_}
+use mathlib.Core.Path.{_≡_, sym, ap, _∙_}
 use native.Mathlib.Omega.{arith}
 use borrow.Author.Needs.{needs}
-use borrow.Author.Tests.{lt-ltb, le-ltb}
-use lib.Dec.{T, ltb}
-use lib.ListN.{length, take}
+use lib.ListN.{take}
 use lib.Ieee.{ofBits}
-use denote.Ref.{now}
 use Rattle.gf.specs.Doubles.{_⊕_, _⊗_, 0·5, 10000·0}
 use Rattle.clip.proofs.Promotion.{Promoting, promote-start, promote-next, promote-ends, promote-length, promote-more, promotes}
 use Rattle.clip.proofs.expanding.promote.Statement.{statement}
@@ -25,7 +21,7 @@ no-blocks-requires c κs = search needs
 
 loop-holds : tie.Need-loop-holds Inv-loop μ-loop
 unfolding ofBits
-loop-holds c = 
+loop-holds c =
     let x = c .before .before .before .before .before .args .times in
     promote-start (x .start ⊗ 10000·0) (x .stride ⊗ 10000·0) (x .end ⊗ 10000·0 ⊕ 0·5) (c .before .before .before .before .no-blocks .result .items) (c .before .before .before .before .no-blocks .ensures .room .long)
 
@@ -43,28 +39,28 @@ loop-less c = search needs
 
 loop-again : tie.Need-loop-again Inv-loop μ-loop
 unfolding ofBits
-loop-again c = 
+loop-again c =
     let k = c .before .before .loop in
     let x = c .before .before .before .before .before .before .before .before .args .times in
     promote-next (x .start ⊗ 10000·0) (x .stride ⊗ 10000·0) (x .end ⊗ 10000·0 ⊕ 0·5) (k .items) (k .t) (k .i) (k .inv) (omega arith) (c .if1 .taken)
 
 returns : tie.Need-returns Inv-loop μ-loop
 unfolding ofBits
-returns c = 
+returns c =
     let k = c .before .before .loop in
     let x = c .before .before .before .before .before .before .before .before .args .times in
     promotes x (k .items) (k .i) (k .inv .long) (promote-length (x .start ⊗ 10000·0) (x .stride ⊗ 10000·0) (x .end ⊗ 10000·0 ⊕ 0·5) (k .items) (k .t) (k .i) (k .inv) (c .if1 .left)) (λ h. promote-ends (x .start ⊗ 10000·0) (x .stride ⊗ 10000·0) (x .end ⊗ 10000·0 ⊕ 0·5) (k .items) (k .t) (k .i) (k .inv) (c .if1 .left))
 
 returns-2 : tie.Need-returns-2 Inv-loop μ-loop
 unfolding ofBits
-returns-2 c = 
+returns-2 c =
     let k = c .before .before .loop in
     let x = c .before .before .before .before .before .before .before .before .args .times in
     promotes x (k .items) 257 (k .inv .long) (promote-more (x .start ⊗ 10000·0) (x .stride ⊗ 10000·0) (x .end ⊗ 10000·0 ⊕ 0·5) (k .items) (k .t) (k .i) (k .inv) (omega arith) (c .if2 .taken)) (λ h. absurd (omega arith))
 
 returns-3 : tie.Need-returns-3 Inv-loop μ-loop
 unfolding ofBits
-returns-3 c = 
+returns-3 c =
     let k = c .before .before .loop in
     let x = c .before .before .before .before .before .before .before .before .args .times in
     let n : k .i ≡ 256 = omega arith in

@@ -1,13 +1,5 @@
 -- `clip::expanding::stage_time` meets its contract. Assumes nothing.
-use Prim.Native.Nat.{ℕ, _-_, _≤_, _<_}
-use mathlib.Core.Path.{_≡_, refl, sym, ap, ap₂, subst, _∙_}
-use mathlib.Core.Bool.{Bool, true, false, not}
-use mathlib.Core.List.{List, map}
-use native.Mathlib.Omega.{arith}
-use borrow.Author.Needs.{needs}
-use lib.ListN.{length, length-set, length-map}
-use lib.Ieee.{Float, nan, ofBits}
-use denote.Ref.{now}
+use lib.Ieee.{ofBits}
 use Rattle.clip.proofs.expanding.stage_time.Statement.{statement}
 use Rattle.clip.proofs.expanding.stage_time.Tie as tie
 

@@ -1,8 +1,6 @@
 -- `clip::expanding::write_bounded` meets its contract. Assumes nothing.
-use Prim.Native.Nat.{ℕ, _+_, _-_, _≤_, _<_}
-use mathlib.Core.Path.{_≡_, refl, sym, ap, ap₂, subst, _∙_}
-use mathlib.Core.Bool.{Bool, true, false, not}
-use mathlib.Core.List.{List, [], _∷_, _++_, map}
+use mathlib.Core.Path.{_≡_, ap, _∙_}
+use mathlib.Core.List.{List, [], _∷_, _++_}
 use native.Mathlib.Omega.{arith}
 use borrow.Author.Needs.{needs}
 use lib.ListN.{length, length-map}
@@ -44,7 +42,7 @@ same-length : tie.Need-same-length
 same-length c = search needs
 
 returns : tie.Need-returns
-returns c = 
+returns c =
     let s = c .before .before .before .before .before .before in
     bounded-is (now (s .args .xs)) (c .before .before .write-clip-times .last .1 .0) (length (now (s .args .ts))) (s .args .first) (s .args .last) (s .pre) (between (c .before .before))
     ∙ ap (λ (l : List Float). s .args .first ∷ (l ++ (s .args .last ∷ []))) (c .before .before .write-clip-times .ensures)

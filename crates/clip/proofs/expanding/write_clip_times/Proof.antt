@@ -1,8 +1,7 @@
 -- `clip::expanding::write_clip_times` meets its contract: the first i entries are written. Assumes nothing.
-use Prim.Native.Nat.{ℕ, _-_, _≤_, _<_}
-use mathlib.Core.Path.{_≡_, refl, sym, ap, ap₂, subst, _∙_}
-use mathlib.Core.Bool.{Bool, true, false, not}
-use mathlib.Core.List.{List, map}
+use Prim.Native.Nat.{_-_}
+use mathlib.Core.Path.{_≡_, sym, _∙_}
+use mathlib.Core.List.{map}
 use native.Mathlib.Omega.{arith}
 use borrow.Author.Needs.{needs}
 use lib.ListN.{length, length-set, length-map}
@@ -21,7 +20,7 @@ abbrev μ-loop : tie.MeasureT-loop
 μ-loop ts to₀ i₀ to i = length ts - i
 
 loop-holds : tie.Need-loop-holds Inv-loop μ-loop
-loop-holds c = 
+loop-holds c =
     let s = c in
     (fill-start (map (λ (t : Float). t ⊘ 10000·0) (now (s .args .ts))) (now (s .args .to)) (omega (arith, length-map (now (s .args .ts)) (λ (t : Float). t ⊘ 10000·0), s .pre)), s .pre)
 
@@ -45,7 +44,7 @@ loop-less c = search needs
 
 loop-again : tie.Need-loop-again Inv-loop μ-loop
 unfolding ofBits
-loop-again c = 
+loop-again c =
     let k = c .before .before .loop in
     let s = c .before .before .before in
     let n = length-map (now (s .args .ts)) (λ (t : Float). t ⊘ 10000·0) in
@@ -55,7 +54,7 @@ same-length : tie.Need-same-length Inv-loop μ-loop
 same-length c = search needs
 
 returns : tie.Need-returns Inv-loop μ-loop
-returns c = 
+returns c =
     let k = c .before .loop in
     let s = c .before .before in
     let n = length-map (now (s .args .ts)) (λ (t : Float). t ⊘ 10000·0) in

@@ -1,12 +1,8 @@
 -- `clip::expanding::write_knots` meets its contract. Assumes nothing.
-use Prim.Native.Nat.{ℕ, _+_, _-_, _≤_, _<_}
-use mathlib.Core.Path.{_≡_, refl, sym, ap, ap₂, subst, _∙_}
-use mathlib.Core.Bool.{Bool, true, false, not}
-use mathlib.Core.List.{List, [], _∷_, _++_, map}
-use native.Mathlib.Omega.{arith}
+use mathlib.Core.Path.{ap, _∙_}
+use mathlib.Core.Bool.{Bool}
 use borrow.Author.Needs.{needs}
-use lib.ListN.{length, length-map}
-use lib.Ieee.{Float}
+use lib.ListN.{length}
 use denote.Ref.{now}
 use Rattle.clip.specs.Expanding.{knotCount}
 use Rattle.clip.proofs.Expansion.{with-bounds, without-bounds}
@@ -23,7 +19,7 @@ same-length : tie.Need-same-length
 same-length c = search needs
 
 returns : tie.Need-returns
-returns c = 
+returns c =
     let s = c .before .before .before .before .before .before .before .before .before .before in
     c .before .before .write-bounded .ensures ∙ with-bounds (s .args .times) (s .args .offset) (now (s .args .ts)) (c .before .before .before .before .before .before .abs .result) (c .before .before .before .before .before .before .before .if1 .taken) (c .before .before .before .before .before .before .abs .ensures)
 
@@ -34,7 +30,7 @@ same-length-2 : tie.Need-same-length-2
 same-length-2 c = search needs
 
 returns-2 : tie.Need-returns-2
-returns-2 c = 
+returns-2 c =
     let s = c .before .before .before .before .before .before .before in
     c .before .before .write-clip-times .ensures ∙ without-bounds (s .args .times) (s .args .offset) (now (s .args .ts)) (c .before .before .before .before .if1 .left)
 

@@ -1,12 +1,9 @@
 -- `clip::expanding::write_numbers` meets its contract: the first i numbers are written. Assumes nothing.
-use Prim.Native.Nat.{ℕ, _-_, _≤_, _<_}
-use mathlib.Core.Path.{_≡_, refl, sym, ap, ap₂, subst, _∙_}
-use mathlib.Core.Bool.{Bool, true, false, not}
-use mathlib.Core.List.{List, map}
+use Prim.Native.Nat.{_-_}
+use mathlib.Core.Path.{_≡_, refl, sym, _∙_}
 use native.Mathlib.Omega.{arith}
 use borrow.Author.Needs.{needs}
-use lib.ListN.{length, length-set, length-map}
-use lib.Ieee.{Float, nan, ofBits}
+use lib.ListN.{length, length-set}
 use denote.Ref.{now}
 use Rattle.clip.specs.Expanding.{counted}
 use Rattle.lists.specs.Filled.{Filled, fill-start, fill-next, fill-whole}
@@ -36,7 +33,7 @@ loop-less : tie.Need-loop-less Inv-loop μ-loop
 loop-less c = search needs
 
 loop-again : tie.Need-loop-again Inv-loop μ-loop
-loop-again c = 
+loop-again c =
     let k = c .before .loop in
     let s = c .before .before in
     let n = counted-length 0 (now (s .args .to)) in
@@ -46,7 +43,7 @@ same-length : tie.Need-same-length Inv-loop μ-loop
 same-length c = search needs
 
 returns : tie.Need-returns Inv-loop μ-loop
-returns c = 
+returns c =
     let k = c .before .loop in
     let s = c .before .before in
     let n = counted-length 0 (now (s .args .to)) in

@@ -1,12 +1,11 @@
 -- `clip::expanding::write_starts` meets its contract: the first i entries are written. Assumes nothing.
-use Prim.Native.Nat.{ℕ, _-_, _≤_, _<_}
-use mathlib.Core.Path.{_≡_, refl, sym, ap, ap₂, subst, _∙_}
-use mathlib.Core.Bool.{Bool, true, false, not}
-use mathlib.Core.List.{List, map}
+use Prim.Native.Nat.{_-_}
+use mathlib.Core.Path.{_≡_, sym, _∙_}
+use mathlib.Core.List.{map}
 use native.Mathlib.Omega.{arith}
 use borrow.Author.Needs.{needs}
 use lib.ListN.{length, length-set, length-map}
-use lib.Ieee.{Float, nan, ofBits}
+use lib.Ieee.{nan, ofBits}
 use denote.Ref.{now}
 use Rattle.definitions.specs.Template.{stageTime}
 use Rattle.clip.specs.Expanding.{offsetOf}
@@ -22,7 +21,7 @@ abbrev μ-loop : tie.MeasureT-loop
 μ-loop ts times offset to₀ i₀ to i = length ts - i
 
 loop-holds : tie.Need-loop-holds Inv-loop μ-loop
-loop-holds c = 
+loop-holds c =
     let s = c .before .before in
     (fill-start (map (stageTime (offsetOf (s .args .times) (s .args .offset))) (now (s .args .ts))) (now (s .args .to)) (omega (arith, length-map (now (s .args .ts)) (stageTime (offsetOf (s .args .times) (s .args .offset))), s .pre)), s .pre)
 
@@ -49,7 +48,7 @@ loop-less c = search needs
 
 loop-again : tie.Need-loop-again Inv-loop μ-loop
 unfolding ofBits
-loop-again c = 
+loop-again c =
     let k = c .before .before .before .loop in
     let s = c .before .before .before .before .before .before in
     let n = length-map (now (s .args .ts)) (stageTime (offsetOf (s .args .times) (s .args .offset))) in
@@ -59,7 +58,7 @@ same-length : tie.Need-same-length Inv-loop μ-loop
 same-length c = search needs
 
 returns : tie.Need-returns Inv-loop μ-loop
-returns c = 
+returns c =
     let k = c .before .loop in
     let s = c .before .before .before .before in
     let n = length-map (now (s .args .ts)) (stageTime (offsetOf (s .args .times) (s .args .offset))) in

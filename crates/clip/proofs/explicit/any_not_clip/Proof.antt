@@ -1,12 +1,10 @@
 -- `clip::explicit::any_not_clip` meets its contract: what is left of the list answers for the whole. Assumes nothing.
-use Prim.Native.Nat.{ℕ, _-_, _≤_, _<_}
-use mathlib.Core.Path.{_≡_, refl, sym, ap, ap₂, subst, _∙_}
-use mathlib.Core.Bool.{Bool, true, false, not}
-use mathlib.Core.List.{List, map}
+use Prim.Native.Nat.{ℕ, _-_, _≤_}
+use mathlib.Core.Path.{_≡_, refl, sym, ap, _∙_}
+use mathlib.Core.Bool.{Bool, not}
 use native.Mathlib.Omega.{arith}
 use borrow.Author.Needs.{needs}
-use borrow.Author.Tests.{lt-ltb, le-ltb, eq-eqb, ne-eqb}
-use lib.ListN.{length, getD, drop, length-set, length-map}
+use lib.ListN.{length, drop}
 use lib.Ieee.{Float, nan}
 use denote.Ref.{now}
 use Rattle.gf.specs.Doubles.{isClipNumber}
@@ -38,7 +36,7 @@ is-clip-number-requires : tie.Need-is-clip-number-requires Inv-loop μ-loop
 is-clip-number-requires c κs = search needs
 
 returns : tie.Need-returns Inv-loop μ-loop
-returns c = 
+returns c =
     let k = c .before .before .before .before .loop in
     let s = c .before .before .before .before .before .before in
     sym (k .inv .1 ∙ any-here (bad (s .args .clips)) (now (s .args .numbers)) (k .i) nan (omega arith) (ap not (sym (c .before .is-clip-number .ensures)) ∙ c .if1 .taken))
@@ -50,13 +48,13 @@ loop-less : tie.Need-loop-less Inv-loop μ-loop
 loop-less c = omega arith
 
 loop-again : tie.Need-loop-again Inv-loop μ-loop
-loop-again c = 
+loop-again c =
     let k = c .before .before .before .before .loop in
     let s = c .before .before .before .before .before .before in
     (omega arith, k .inv .1 ∙ any-later (bad (s .args .clips)) (now (s .args .numbers)) (k .i) nan (omega arith) (ap not (sym (c .before .is-clip-number .ensures)) ∙ c .if1 .left))
 
 returns-2 : tie.Need-returns-2 Inv-loop μ-loop
-returns-2 c = 
+returns-2 c =
     let k = c .before .loop in
     let s = c .before .before .before in
     sym (k .inv .1 ∙ any-end (bad (s .args .clips)) (now (s .args .numbers)) (k .i) (omega arith))

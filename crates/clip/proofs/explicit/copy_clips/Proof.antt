@@ -1,12 +1,10 @@
 -- `clip::explicit::copy_clips` meets its contract: the first i indices are written. Assumes nothing.
-use Prim.Native.Nat.{ℕ, _-_, _≤_, _<_}
-use mathlib.Core.Path.{_≡_, refl, sym, ap, ap₂, subst, _∙_}
-use mathlib.Core.Bool.{Bool, true, false, not}
-use mathlib.Core.List.{List, map}
+use Prim.Native.Nat.{_-_}
+use mathlib.Core.Path.{_≡_, sym, _∙_}
+use mathlib.Core.List.{map}
 use native.Mathlib.Omega.{arith}
 use borrow.Author.Needs.{needs}
-use borrow.Author.Tests.{lt-ltb, le-ltb, eq-eqb, ne-eqb}
-use lib.ListN.{length, getD, drop, length-set, length-map}
+use lib.ListN.{length, length-set, length-map}
 use lib.Ieee.{Float, nan}
 use denote.Ref.{now}
 use lib.Dec.{T}
@@ -25,7 +23,7 @@ abbrev μ-loop : tie.MeasureT-loop
 μ-loop numbers clips to₀ i₀ to i = length numbers - i
 
 loop-holds : tie.Need-loop-holds Inv-loop μ-loop
-loop-holds c = 
+loop-holds c =
     let s = c .before .before in
     (fill-start (map truncated (now (s .args .numbers))) (now (s .args .to)) (omega (arith, length-map (now (s .args .numbers)) truncated, s .pre .1)), s .pre .1)
 
@@ -36,7 +34,7 @@ shared-slice-read-to-index : tie.Need-shared-slice-read-to-index Inv-loop μ-loo
 shared-slice-read-to-index c = omega arith
 
 to-index-requires : tie.Need-to-index-requires Inv-loop μ-loop
-to-index-requires c κs = 
+to-index-requires c κs =
     let k = c .before .before .loop in
     let s = c .before .before .before .before .before in
     index-ready (s .args .clips) _ (omega arith) (every-at (λ (x : Float). T (isClipNumber (s .args .clips) x)) (now (s .args .numbers)) (k .i) nan (any-not-every (isClipNumber (s .args .clips)) (now (s .args .numbers)) (s .pre .0)) (omega arith))
@@ -54,7 +52,7 @@ loop-less : tie.Need-loop-less Inv-loop μ-loop
 loop-less c = search needs
 
 loop-again : tie.Need-loop-again Inv-loop μ-loop
-loop-again c = 
+loop-again c =
     let k = c .before .before .before .loop in
     let s = c .before .before .before .before .before .before in
     let n = length-map (now (s .args .numbers)) truncated in
@@ -64,7 +62,7 @@ same-length : tie.Need-same-length Inv-loop μ-loop
 same-length c = search needs
 
 returns : tie.Need-returns Inv-loop μ-loop
-returns c = 
+returns c =
     let k = c .before .loop in
     let s = c .before .before .before .before in
     let n = length-map (now (s .args .numbers)) truncated in

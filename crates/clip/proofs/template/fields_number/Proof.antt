@@ -1,13 +1,8 @@
 -- `clip::template::fields_number` meets its contract: one test after the other. Assumes nothing.
-use Prim.Native.Nat.{ℕ, _-_, _≤_, _<_}
-use mathlib.Core.Path.{_≡_, refl, sym, ap, ap₂, subst, _∙_}
-use mathlib.Core.Bool.{Bool, true, false, not, _||_}
-use native.Mathlib.Omega.{arith}
+use mathlib.Core.Path.{_≡_, sym, _∙_}
+use mathlib.Core.Bool.{false}
 use borrow.Author.Needs.{needs}
 use borrow.Author.Tests.{lt-ltb, le-ltb}
-use lib.Dec.{T, ltb}
-use lib.ListN.{length}
-use lib.Ieee.{ofBits}
 use denote.Ref.{now}
 use Rattle.definitions.specs.ClipSet.{anyUnstorable}
 use Rattle.definitions.specs.Template.{TemplateFields, template1, template2, template7, template6}

@@ -1,14 +1,7 @@
 -- `clip::template::is_disordered` meets its contract: one test after the other. Assumes nothing.
-use Prim.Native.Nat.{ℕ, _-_, _≤_, _<_}
-use mathlib.Core.Path.{_≡_, refl, sym, ap, ap₂, subst, _∙_}
-use mathlib.Core.Bool.{Bool, true, false, not, _||_}
-use native.Mathlib.Omega.{arith}
+use mathlib.Core.Path.{ap}
 use borrow.Author.Needs.{needs}
-use borrow.Author.Tests.{lt-ltb, le-ltb}
-use lib.Dec.{T, ltb}
-use lib.ListN.{length}
 use lib.Ieee.{ofBits}
-use denote.Ref.{now}
 use lib.Ieee.{Float, lt}
 use Rattle.clip.specs.Expanding.{timesDisordered}
 use Rattle.clip.proofs.template.is_disordered.Statement.{statement}

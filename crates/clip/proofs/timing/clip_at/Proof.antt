@@ -1,10 +1,10 @@
 -- `clip::timing::clip_at` meets its contract. Assumes nothing.
 use Prim.Native.Nat.{ℕ, _<_}
-use mathlib.Core.Path.{_≡_, refl, sym, ap, ap₂, subst, _∙_}
+use mathlib.Core.Path.{sym, ap, ap₂, subst, _∙_}
 use mathlib.Core.List.{List}
 use native.Mathlib.Omega.{arith}
 use borrow.Author.Needs.{needs}
-use lib.ListN.{length, getD, length-take, length-map}
+use lib.ListN.{length, getD}
 use lib.Ieee.{Float}
 use Rattle.definitions.specs.Timing.{lastAtMost}
 use Rattle.set_laws.specs.Places.{Ascending}
@@ -37,7 +37,7 @@ same-length-2 : tie.Need-same-length-2
 same-length-2 c = search needs
 
 returns : tie.Need-returns
-returns c = 
+returns c =
     let u = c .before .before .before .before .before .before .before .unpack-active in
     ap₂ (λ (l : List ℕ) (p : ℕ). getD l p 0) (u .ensures .1) (c .before .last-at-most .ensures ∙ ap (λ (l : List Float). lastAtMost l (c .before .before .before .before .before .before .before .before .before .before .before .before .args .t)) (u .ensures .0))
 

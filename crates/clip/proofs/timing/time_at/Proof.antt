@@ -1,11 +1,7 @@
 -- `clip::timing::time_at` meets its contract. Assumes nothing.
-use Prim.Native.Nat.{ℕ, _<_}
-use mathlib.Core.Path.{_≡_, refl, sym, ap, ap₂, subst, _∙_}
+use mathlib.Core.Path.{sym, ap, ap₂, subst, _∙_}
 use mathlib.Core.List.{List}
-use native.Mathlib.Omega.{arith}
 use borrow.Author.Needs.{needs}
-use lib.ListN.{length, getD, length-take, length-map}
-use lib.Ieee.{Float}
 use Rattle.definitions.specs.declared.Knot.{Knot}
 use Rattle.definitions.specs.Timing.{mapTime}
 use Rattle.set_laws.specs.Places.{Ascending}
@@ -19,7 +15,7 @@ unpack-knots-requires : tie.Need-unpack-knots-requires
 unpack-knots-requires c κs = search needs
 
 map-time-requires : tie.Need-map-time-requires
-map-time-requires c κs = 
+map-time-requires c κs =
     let u = c .before .before .before .before .before .before .unpack-knots in
     let s = c .before .before .before .before .before .before .before .before .before .before .before in
     (subst Ascending (sym (u .ensures .0)) (s .pre .1 .1 .1), u .kept .1 .0 ∙ s .pre .1 .0 ∙ sym (u .kept .1 .1 .0 ∙ s .pre .1 .1 .0))
@@ -31,7 +27,7 @@ same-length-2 : tie.Need-same-length-2
 same-length-2 c = search needs
 
 returns : tie.Need-returns
-returns c = 
+returns c =
     let u = c .before .before .before .before .before .before .before .unpack-knots in
     let s = c .before .before .before .before .before .before .before .before .before .before .before .before in
     c .map-time .ensures ∙ ap (λ (l : List Knot). mapTime l (s .args .t)) (ap₂ knotsOf (u .ensures .0) (u .ensures .1) ∙ knots-again (knotsIn (s .args .knots)))
