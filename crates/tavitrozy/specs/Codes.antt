@@ -3,12 +3,18 @@
 use Prim.Native.Nat.{ℕ}
 use mathlib.Core.Path.{_≡_}
 use mathlib.Core.Bool.{true, false}
+use mathlib.Core.List.{List}
 use Rattle.gf.specs.Doubles.{0·0}
 use Rattle.definitions.specs.declared.Answer.{Answer}
 use Rattle.definitions.specs.declared.Answer.the-variants as answer
 use Rattle.definitions.specs.declared.StageTime.{StageTime}
+use Rattle.definitions.specs.declared.ClipTime.{ClipTime}
 use Rattle.definitions.specs.Samples.{Samples}
 use Rattle.definitions.specs.Track.{markOf, slotOf}
+use Rattle.names.specs.declared.Named.{Named}
+use Rattle.names.specs.declared.Named.the-variants as named
+use Rattle.names.specs.Named.{Names}
+use Rattle.sdf.specs.declared.Counted.{Counted}
 use Rattle.value.specs.declared.untimed.ValueState.{ValueState}
 use Rattle.value.specs.declared.untimed.ValueState.the-variants as state
 use Rattle.resolver.specs.declared.Resolver.{Resolver}
@@ -51,6 +57,10 @@ abbrev pub untimedCode : UntimedReply → UntimedCode
 untimedCode (untimed.Answered s) = record { number = 0; state = stateCode s }
 untimedCode (untimed.Refused n) = record { number = n; state = 0 }
 
+abbrev pub nameCode : Named → Counted
+nameCode (named.Written n) = record { number = 0; count = n }
+nameCode (named.Refused n) = record { number = n; count = 0 }
+
 -- ---- the questions' promises
 
 pub record TellsClip (d : Resolver) (t : StageTime) (a : ClipCode) : Type 0 where
@@ -72,3 +82,8 @@ pub record TellsUntimed (d : Resolver) (s : Samples) (a : UntimedCode) : Type 0 
   pub reply : UntimedReply
   pub told : promises.TellsUntimed d s reply
   pub code : a ≡ untimedCode reply
+
+pub record SaysName (template : List ℕ) (t : ClipTime) (before after : List ℕ) (a : Counted) : Type 0 where
+  pub reply : Named
+  pub said : Names template t before after reply
+  pub code : a ≡ nameCode reply

@@ -1,29 +1,35 @@
 // The resolver for C and Rust callers: structs go by value, a slice as a pointer and a length, an enum
 // as a struct of numbers. Each call's contract is the operation's promise.
 use definitions::Answer;
+use definitions::ClipTime;
 use definitions::Default;
 use definitions::LayerOffset;
 use definitions::StageTime;
+use definitions::TemplateTimes;
+use names::Named;
 use resolver::Accepted;
 use resolver::ClipReply;
 use resolver::Resolver;
 use resolver::TimeReply;
 use resolver::UntimedReply;
 use resolver::ValueReply;
+use sdf::Counted;
 use track::bake::Baked;
 use track::entry::Entry;
 use value::untimed::ValueState;
 ghost use mathlib.Core.Path.{_≡_};
-ghost use Rattle.definitions.specs.ClipSet.{stage};
+ghost use Rattle.definitions.specs.ClipSet.{stage, clip};
 ghost use Rattle.definitions.specs.Track.{readTrack};
 ghost use Rattle.cell_laws.specs.Unpacked.{samplesOf};
+ghost use Rattle.clip.specs.Expanding.{templateFields};
 ghost use Rattle.clip.specs.Parsing.{explicitFields, manifest};
+ghost use Rattle.sdf.specs.Normalizing.{Normalizes};
 ghost use Rattle.track.specs.Bakes.{outputs, bakedReply};
 ghost use Rattle.track.specs.Entries.{entryIs};
 ghost use Rattle.track.specs.Held.{trackOfLists};
 ghost use Rattle.resolver.specs.State.{Made};
-ghost use Rattle.resolver.specs.Promises.{Begins, Accepts, Retimes, BakesTrack};
-ghost use Rattle.tavitrozy.specs.Codes.{clipCode, timeCode, valueCode, untimedCode, TellsClip, TellsTime, TellsValue, TellsUntimed};
+ghost use Rattle.resolver.specs.Promises.{Begins, Accepts, Expands, Retimes, BakesTrack};
+ghost use Rattle.tavitrozy.specs.Codes.{clipCode, timeCode, valueCode, untimedCode, TellsClip, TellsTime, TellsValue, TellsUntimed, nameCode, SaysName};
 
 // A clip is active, unless `found` is false.
 #[repr(C)]
@@ -159,6 +165,22 @@ pub extern "C" fn tavitrozy_accept(
 }
 
 #[no_mangle]
+pub extern "C" fn tavitrozy_accept_template(
+    resolver: Resolver,
+    pattern: &[u8],
+    times: TemplateTimes,
+    offset: bool,
+    blocks: &[f64],
+    fallback: Default,
+    interpolate: bool,
+) -> Accepted
+    requires { ⌜ Made resolver ⌝ }
+    ensures { λ r. ⌜ Expands resolver (templateFields (now (pattern .entry)) times offset (now (blocks .entry)) (manifest fallback interpolate)) r ⌝ }
+{
+    resolver.accept_template(pattern, times, offset, blocks, fallback, interpolate)
+}
+
+#[no_mangle]
 pub extern "C" fn tavitrozy_retime(resolver: Resolver, offset: LayerOffset) -> Accepted
     requires { ⌜ Made resolver ⌝ }
     ensures { λ r. ⌜ Retimes resolver offset r ⌝ }
@@ -236,4 +258,42 @@ pub extern "C" fn tavitrozy_read(head: Entry, times: &[f64], values: &[f64], mar
     ensures { λ r. ⌜ entryIs r ≡ readTrack (trackOfLists (head .value) (head .mark) (now (times .entry)) (now (values .entry)) (now (marks .entry))) time ⌝ }
 {
     track::held::read_held(head.mark, head.value, times, values, marks, time)
+}
+
+// The count is the name's length.
+fn name_code(r: Named) -> Counted
+    ensures { λ a. ⌜ a ≡ nameCode r ⌝ }
+{
+    match r {
+        Named::Written(n) => Counted {
+            number: 0,
+            count: n,
+        },
+        Named::Refused(n) => Counted {
+            number: n,
+            count: 0,
+        },
+    }
+}
+
+#[no_mangle]
+pub extern "C" fn tavitrozy_name(pattern: &[u8], time: f64, out: &mut [u8]) -> Counted
+    ensures { λ a. ⌜ SaysName (now (pattern .entry)) (clip time) (now (out .entry)) (now (out .exit)) a ⌝ }
+{
+    let t = ClipTime(time);
+    name_code(names::name(pattern, t, out))
+}
+
+#[no_mangle]
+pub extern "C" fn tavitrozy_normalize(
+    times: &[f64],
+    values: &[f64],
+    marks: &[u8],
+    outtimes: &mut [f64],
+    outvalues: &mut [f64],
+    outmarks: &mut [u8],
+) -> Counted
+    ensures { λ r. ⌜ Normalizes (now (times .entry)) (now (values .entry)) (now (marks .entry)) (outputs (now (outtimes .entry)) (now (outvalues .entry)) (now (outmarks .entry))) (outputs (now (outtimes .exit)) (now (outvalues .exit)) (now (outmarks .exit))) r ⌝ }
+{
+    sdf::normalize(times, values, marks, outtimes, outvalues, outmarks)
 }
