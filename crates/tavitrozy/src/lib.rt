@@ -23,7 +23,7 @@ ghost use Rattle.definitions.specs.Track.{readTrack};
 ghost use Rattle.cell_laws.specs.Unpacked.{samplesOf};
 ghost use Rattle.clip.specs.Expanding.{templateFields};
 ghost use Rattle.clip.specs.Parsing.{explicitFields, manifest};
-ghost use Rattle.sdf.specs.Normalizing.{Normalizes};
+ghost use Rattle.sdf.specs.Normalizes.{Normalizes};
 ghost use Rattle.track.specs.Bakes.{outputs, bakedReply};
 ghost use Rattle.track.specs.Entries.{entryIs};
 ghost use Rattle.track.specs.Held.{trackOfLists};
@@ -131,11 +131,23 @@ fn untimed_code(r: UntimedReply) -> UntimedCode
 {
     match r {
         UntimedReply::Answered(s) => match s {
-            ValueState::Present => UntimedCode { number: 0, state: 0 },
-            ValueState::Blocked => UntimedCode { number: 0, state: 1 },
-            ValueState::Absent => UntimedCode { number: 0, state: 2 },
+            ValueState::Present => UntimedCode {
+                number: 0,
+                state: 0,
+            },
+            ValueState::Blocked => UntimedCode {
+                number: 0,
+                state: 1,
+            },
+            ValueState::Absent => UntimedCode {
+                number: 0,
+                state: 2,
+            },
         },
-        UntimedReply::Refused(n) => UntimedCode { number: n, state: 0 },
+        UntimedReply::Refused(n) => UntimedCode {
+            number: n,
+            state: 0,
+        },
     }
 }
 
@@ -161,7 +173,16 @@ pub extern "C" fn tavitrozy_accept(
     requires { ⌜ Made resolver ⌝ }
     ensures { λ r. ⌜ Accepts resolver (explicitFields clips (now (starts .entry)) (now (numbers .entry)) (now (xs .entry)) (now (ys .entry)) (now (blocks .entry)) (manifest fallback interpolate)) r ⌝ }
 {
-    resolver.accept(clips, starts, numbers, xs, ys, blocks, fallback, interpolate)
+    resolver.accept(
+        clips,
+        starts,
+        numbers,
+        xs,
+        ys,
+        blocks,
+        fallback,
+        interpolate,
+    )
 }
 
 #[no_mangle]
@@ -254,7 +275,13 @@ pub extern "C" fn tavitrozy_bake(
 }
 
 #[no_mangle]
-pub extern "C" fn tavitrozy_read(head: Entry, times: &[f64], values: &[f64], marks: &[u8], time: f64) -> Entry
+pub extern "C" fn tavitrozy_read(
+    head: Entry,
+    times: &[f64],
+    values: &[f64],
+    marks: &[u8],
+    time: f64,
+) -> Entry
     ensures { λ r. ⌜ entryIs r ≡ readTrack (trackOfLists (head .value) (head .mark) (now (times .entry)) (now (values .entry)) (now (marks .entry))) time ⌝ }
 {
     track::held::read_held(head.mark, head.value, times, values, marks, time)
