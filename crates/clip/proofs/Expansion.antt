@@ -20,29 +20,29 @@ use Rattle.definitions.specs.Explicit.{knot}
 use Rattle.definitions.specs.Template.{stageTime, activations, diagonal, clipKnots, withBounds}
 use Rattle.definitions.specs.Retime.{sorted}
 use Rattle.cell_laws.specs.Unpacked.{start, setOf}
-use Rattle.clip.specs.Expanding.{offsetOf, clipTimes, bounded, knotXs, knotCount, counted, expandedSet}
+use Rattle.clip.specs.Expanding.{offsetOf, timesOfClips, bounded, knotXs, knotCount, numbered, expandedSet}
 
 module _ {A : Type 0} where
-  pub counted-length : (k : ℕ) (xs : List A) → length (counted k xs) ≡ length xs
-  counted-length k [] = refl
-  counted-length k (x ∷ xs) = ap suc (counted-length (suc k) xs)
+  pub numbered-length : (k : ℕ) (xs : List A) → length (numbered k xs) ≡ length xs
+  numbered-length k [] = refl
+  numbered-length k (x ∷ xs) = ap suc (numbered-length (suc k) xs)
 
-  counted-from : (k : ℕ) (xs : List A) (i d : ℕ) → i < length xs → k + i ≡ getD (counted k xs) i d
-  counted-from k [] i d h = absurd (omega arith)
-  counted-from k (x ∷ xs) zero d h = omega arith
-  counted-from k (x ∷ xs) (suc i) d h = omega (arith, counted-from (suc k) xs i d (omega arith))
+  numbered-from : (k : ℕ) (xs : List A) (i d : ℕ) → i < length xs → k + i ≡ getD (numbered k xs) i d
+  numbered-from k [] i d h = absurd (omega arith)
+  numbered-from k (x ∷ xs) zero d h = omega arith
+  numbered-from k (x ∷ xs) (suc i) d h = omega (arith, numbered-from (suc k) xs i d (omega arith))
 
-  pub counted-at : (xs : List A) (i d : ℕ) → i < length xs → i ≡ getD (counted 0 xs) i d
-  counted-at xs i d h = omega (arith, counted-from 0 xs i d h)
+  pub numbered-at : (xs : List A) (i d : ℕ) → i < length xs → i ≡ getD (numbered 0 xs) i d
+  numbered-at xs i d h = omega (arith, numbered-from 0 xs i d h)
 
-  -- any list as long is counted alike
-  pub counted-alike : {B : Type 0} (k : ℕ) (xs : List A) (ys : List B) → length xs ≡ length ys → counted k xs ≡ counted k ys
-  counted-alike k [] [] e = refl
-  counted-alike k [] (y ∷ ys) e = absurd (omega arith)
-  counted-alike k (x ∷ xs) [] e = absurd (omega arith)
-  counted-alike k (x ∷ xs) (y ∷ ys) e = ap (λ (l : List ℕ). k ∷ l) (counted-alike (suc k) xs ys (omega arith))
+  -- any list as long is numbered alike
+  pub numbered-alike : {B : Type 0} (k : ℕ) (xs : List A) (ys : List B) → length xs ≡ length ys → numbered k xs ≡ numbered k ys
+  numbered-alike k [] [] e = refl
+  numbered-alike k [] (y ∷ ys) e = absurd (omega arith)
+  numbered-alike k (x ∷ xs) [] e = absurd (omega arith)
+  numbered-alike k (x ∷ xs) (y ∷ ys) e = ap (λ (l : List ℕ). k ∷ l) (numbered-alike (suc k) xs ys (omega arith))
 
-starts-are : (o : Option Float) (k : ℕ) (ts : List Float) → zipWith start (map (stageTime o) ts) (counted k ts) ≡ activations o k ts
+starts-are : (o : Option Float) (k : ℕ) (ts : List Float) → zipWith start (map (stageTime o) ts) (numbered k ts) ≡ activations o k ts
 unfolding activations
 starts-are o k [] = refl
 starts-are o k (t ∷ ts) = ap (λ (l : List Start). start (stageTime o t) k ∷ l) (starts-are o (suc k) ts)
@@ -51,7 +51,7 @@ same-both : (ts : List Float) → zipWith knot ts ts ≡ map diagonal ts
 same-both [] = refl
 same-both (t ∷ ts) = ap (λ (l : List Knot). diagonal t ∷ l) (same-both ts)
 
-diagonals : (ts : List Float) → map diagonal (clipTimes ts) ≡ clipKnots ts
+diagonals : (ts : List Float) → map diagonal (timesOfClips ts) ≡ clipKnots ts
 diagonals [] = refl
 diagonals (t ∷ ts) = ap (λ (l : List Knot). diagonal (t ⊘ 10000·0) ∷ l) (diagonals ts)
 
@@ -60,18 +60,18 @@ map-end [] ys = refl
 map-end (x ∷ xs) ys = ap (λ (l : List Knot). diagonal x ∷ l) (map-end xs ys)
 
 knots-are : (x : TemplateTimes) (o : Option Float) (ts : List Float) → zipWith knot (knotXs x o ts) (knotXs x o ts) ≡ withBounds x o (clipKnots ts)
-knots-are x none ts = same-both (clipTimes ts) ∙ diagonals ts
+knots-are x none ts = same-both (timesOfClips ts) ∙ diagonals ts
 knots-are x (some offset) ts =
     let last = x .end ⊕ abs offset in
     ap (λ (l : List Knot). diagonal (x .start ⊖ abs offset) ∷ l)
-    (same-both (clipTimes ts ++ (last ∷ [])) ∙ map-end (clipTimes ts) (last ∷ []) ∙ ap (λ (l : List Knot). l ++ (diagonal last ∷ [])) (diagonals ts))
+    (same-both (timesOfClips ts ++ (last ∷ [])) ∙ map-end (timesOfClips ts) (last ∷ []) ∙ ap (λ (l : List Knot). l ++ (diagonal last ∷ [])) (diagonals ts))
 
 pub expanded-is : (x : TemplateTimes) (o : Option Float) (ts starts : List Float) (numbers empty : List ℕ) (xs ys blocks : List Float) (m : Manifest)
-    → starts ≡ map (stageTime o) ts → numbers ≡ counted 0 empty → length empty ≡ length ts → xs ≡ knotXs x o ts → ys ≡ xs
+    → starts ≡ map (stageTime o) ts → numbers ≡ numbered 0 empty → length empty ≡ length ts → xs ≡ knotXs x o ts → ys ≡ xs
     → sorted (setOf (length ts) starts numbers xs ys blocks m) ≡ expandedSet ts x o blocks m
 unfolding sorted setOf expandedSet
 expanded-is x o ts starts numbers empty xs ys blocks m s n e k l =
-    rw (l, s, n, k, counted-alike 0 empty ts e, starts-are o 0 ts, knots-are x o ts)
+    rw (l, s, n, k, numbered-alike 0 empty ts e, starts-are o 0 ts, knots-are x o ts)
 
 -- ---- the two bounds around what is written between them
 
@@ -98,7 +98,7 @@ module _ (x : TemplateTimes) (offset : Bool) (ts : List Float) where
   pub with-bounds : (slack : Float) → offset ≡ true → slack ≡ abs (x .offset) → bounded (x .start ⊖ slack) (x .end ⊕ slack) ts ≡ knotXs x (offsetOf x offset) ts
   with-bounds slack e s = rw (e, s)
 
-  pub without-bounds : offset ≡ false → clipTimes ts ≡ knotXs x (offsetOf x offset) ts
+  pub without-bounds : offset ≡ false → timesOfClips ts ≡ knotXs x (offsetOf x offset) ts
   without-bounds e = rw e
 
 pub few-knots : (offset : Bool) (n : ℕ) → n ≤ 256 → knotCount offset n ≤ 512

@@ -1,7 +1,7 @@
 -- What each way out of an explicit acceptance shows. Assumes nothing.
 use Prim.Native.Nat.{ℕ}
 use mathlib.Core.Path.{_≡_, refl, sym, ap, subst, _∙_}
-use mathlib.Core.Bool.{Bool, true, false}
+use mathlib.Core.Bool.{false}
 use mathlib.Core.List.{List, [], _∷_, map}
 use lib.Dec.{T, lit<}
 use lib.Ieee.{Float}
@@ -21,6 +21,7 @@ use Rattle.cell_laws.specs.Unpacked.{start, setOf}
 use Rattle.clip.specs.declared.Parsed.{Parsed}
 use Rattle.clip.specs.Settling.{settleNumber, Refuses, Settles}
 use Rattle.clip.specs.Parsing.{explicitFields, anyNotClip, fieldsNumber, Parses}
+use Rattle.clip.proofs.Settled.{same-number}
 use Rattle.clip.proofs.Standing.{every-storable}
 
 -- ---- fields without 1, 2 and 3
@@ -79,15 +80,9 @@ unfolding settleNumber explicitNumber explicitSet
 number-is f p = rw (p .not1, p .not2, p .not3, within f (p .not2))
 
 -- where the fields have a number it is the acceptance's
-first : (a b c : Bool) (rest : ℕ) → ((1 if a else 2 if b else 3 if c else 0) ≡ 0 → ⊥) → (1 if a else 2 if b else 3 if c else 0) ≡ (1 if a else 2 if b else 3 if c else rest)
-first true b c rest h = refl
-first false true c rest h = refl
-first false false true rest h = refl
-first false false false rest h = absurd (h refl)
-
 fields-first : (f : ExplicitFields) → (fieldsNumber f ≡ 0 → ⊥) → fieldsNumber f ≡ explicitNumber f
 unfolding fieldsNumber explicitNumber
-fields-first f h = first (explicit1 f) (explicit2 f) (explicit3 f) _ h
+fields-first f h = same-number 1 (explicit1 f) _ _ h (λ h. same-number 2 (explicit2 f) _ _ h (λ h. same-number 3 (explicit3 f) _ _ h (λ h. absurd (h refl))))
 
 pub parse-refuses : (f : ExplicitFields) (n : ℕ) (r : Parsed) → n ≡ fieldsNumber f → (n ≡ 0 → ⊥) → Refuses n r → Parses f r
 parse-refuses f n r e h q = record {

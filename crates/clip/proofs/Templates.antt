@@ -1,7 +1,7 @@
 -- What each way out of a template acceptance shows. Assumes nothing.
 use Prim.Native.Nat.{ℕ, _≤_, _<_}
 use mathlib.Core.Path.{_≡_, refl, sym, ap, subst, _∙_}
-use mathlib.Core.Bool.{Bool, true, false}
+use mathlib.Core.Bool.{false}
 use native.Mathlib.Omega.{arith}
 use lib.Dec.{ltb, lit<}
 use lib.ListN.{length}
@@ -16,6 +16,7 @@ use Rattle.clip.specs.declared.Parsed.{Parsed}
 use Rattle.clip.specs.Settling.{settleNumber, Refuses, Settles}
 use Rattle.clip.specs.Parsing.{manifest}
 use Rattle.clip.specs.Expanding.{templateFieldsNumber, expandedSet, Expands}
+use Rattle.clip.proofs.Settled.{same-number}
 
 -- ---- fields without 1, 2, 7 and 6
 
@@ -39,16 +40,11 @@ unfolding template1
 few-blocks f e = ltb-false maxBlocks (length (f .blocks)) (or-false (ltb maxTemplate (length (f .template))) (ltb maxBlocks (length (f .blocks))) (fields-pass f e .not1) .1)
 
 -- where the fields have a number it is the acceptance's
-first : (a b c d : Bool) (rest : ℕ) → ((1 if a else 2 if b else 7 if c else 6 if d else 0) ≡ 0 → ⊥) → (1 if a else 2 if b else 7 if c else 6 if d else 0) ≡ (1 if a else 2 if b else 7 if c else 6 if d else rest)
-first true b c d rest h = refl
-first false true c d rest h = refl
-first false false true d rest h = refl
-first false false false true rest h = refl
-first false false false false rest h = absurd (h refl)
-
 fields-first : (f : TemplateFields) → (templateFieldsNumber f ≡ 0 → ⊥) → templateFieldsNumber f ≡ templateNumber f
 unfolding templateFieldsNumber templateNumber
-fields-first f h = first (template1 f) (template2 f) (template7 f) (template6 f) _ h
+fields-first f h =
+    same-number 1 (template1 f) _ _ h
+    (λ h. same-number 2 (template2 f) _ _ h (λ h. same-number 7 (template7 f) _ _ h (λ h. same-number 6 (template6 f) _ _ h (λ h. absurd (h refl)))))
 
 refuses : (f : TemplateFields) (n : ℕ) (r : Parsed) → n ≡ templateNumber f → (n ≡ 0 → ⊥) → Refuses n r → Expands f r
 refuses f n r e h q = record {

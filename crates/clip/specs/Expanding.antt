@@ -56,24 +56,24 @@ pub record Promotes (x : TemplateTimes) (r : Promoted) : Type 0 where
 
 -- ---- the lists of the times t
 
-abbrev pub clipTimes : List Float → List Float
-clipTimes ts = map (λ (t : Float). t ⊘ 10000·0) ts
+abbrev pub timesOfClips : List Float → List Float
+timesOfClips ts = map (λ (t : Float). t ⊘ 10000·0) ts
 
 abbrev pub bounded : Float → Float → List Float → List Float
-bounded first last ts = first ∷ (clipTimes ts ++ (last ∷ []))
+bounded first last ts = first ∷ (timesOfClips ts ++ (last ∷ []))
 
 -- the x of the knots, and their y
 abbrev pub knotXs : TemplateTimes → Option Float → List Float → List Float
-knotXs x none ts = clipTimes ts
+knotXs x none ts = timesOfClips ts
 knotXs x (some offset) ts = bounded (x .start ⊖ abs offset) (x .end ⊕ abs offset) ts
 
 abbrev pub knotCount : Bool → ℕ → ℕ
 knotCount offset n = cond offset (n + 2) n
 
 -- i, i + 1, .., as many as there are entries
-abbrev pub counted : {A : Type 0} → ℕ → List A → List ℕ
-counted i [] = []
-counted i (x ∷ xs) = i ∷ counted (suc i) xs
+abbrev pub numbered : {A : Type 0} → ℕ → List A → List ℕ
+numbered i [] = []
+numbered i (x ∷ xs) = i ∷ numbered (suc i) xs
 
 -- lists as long as the clips, and as their knots
 pub record Prepared (offset : Bool) (ts times : List Float) (numbers : List ℕ) (xs ys blocks : List Float) : Type 0 where

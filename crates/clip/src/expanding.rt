@@ -10,7 +10,7 @@ ghost use Prim.Native.Nat.{_≤_, _+_};
 ghost use lib.ListN.{length};
 ghost use Rattle.definitions.specs.Template.{stageTime};
 ghost use Rattle.clip.specs.Settling.{Settles};
-ghost use Rattle.clip.specs.Expanding.{offsetOf, Promotes, clipTimes, bounded, knotXs, knotCount, counted, Prepared, expandedSet};
+ghost use Rattle.clip.specs.Expanding.{offsetOf, Promotes, timesOfClips, bounded, knotXs, knotCount, numbered, Prepared, expandedSet};
 
 // The times t and their number; of a 257th only the number tells.
 pub struct Promoted {
@@ -65,7 +65,7 @@ fn write_starts(ts: &[f64], times: TemplateTimes, offset: bool, to: &mut [f64])
 
 // The clips are numbered in order.
 fn write_numbers(to: &mut [u64])
-    ensures { λ _. ⌜ now (to .exit) ≡ counted 0 (now (to .entry)) ⌝ }
+    ensures { λ _. ⌜ now (to .exit) ≡ numbered 0 (now (to .entry)) ⌝ }
 {
     let mut i: usize = 0;
     while i < to.len() {
@@ -76,7 +76,7 @@ fn write_numbers(to: &mut [u64])
 
 fn write_clip_times(ts: &[f64], to: &mut [f64])
     requires { ⌜ length (now to) ≡ length (now ts) ⌝ }
-    ensures { λ _. ⌜ now (to .exit) ≡ clipTimes (now (ts .entry)) ⌝ }
+    ensures { λ _. ⌜ now (to .exit) ≡ timesOfClips (now (ts .entry)) ⌝ }
 {
     let mut i: usize = 0;
     while i < ts.len() {

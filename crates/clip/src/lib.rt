@@ -195,6 +195,7 @@ impl ClipSet {
             &mut blocks[..b],
         )
     }
+
     // The clip of the last start at or before t, of the first start if there is none: the Rust's `active_entry`.
     pub fn active_clip(self, t: StageTime) -> ActiveClip
         requires { ⌜ Held self ⌝ ∗ ⌜ Sound (clipSetOf self) ⌝ }

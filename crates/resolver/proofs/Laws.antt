@@ -1,9 +1,11 @@
 -- What stands after a call, by its number; one law for each return of an operation. Assumes nothing.
-use Prim.Native.Nat.{ℕ, zero, suc}
+use Prim.Native.Nat.{ℕ, zero, suc, min, _≤_, _<_}
 use mathlib.Core.Path.{_≡_, refl, sym, ap, _∙_, subst}
 use mathlib.Core.Bool.{Bool, true, false, not, cond}
 use native.Mathlib.Omega.{arith}
-use mathlib.Core.List.{List, []}
+use mathlib.Core.List.{List, [], _∷_, map}
+use lib.ListN.{length}
+use borrow.Author.Tests.{le-ltb, lt-ltb}
 use lib.Dec.{ltb}
 use mathlib.Core.Option.{Option, none, some}
 use lib.Ieee.{Float}
@@ -13,11 +15,16 @@ use Rattle.definitions.specs.ClipSet.{ClipSet, Model, noSet, standing}
 use Rattle.definitions.specs.Explicit.{ExplicitFields, explicitNumber, explicitSet}
 use Rattle.definitions.specs.Template.{TemplateFields, templateNumber, templateSet}
 use Rattle.definitions.specs.Retime.{retimeNumber, retimeStageTimes}
-use Rattle.definitions.specs.Lists.{_if_else_, _then_}
+use Rattle.definitions.specs.Lists.{_if_else_, _then_, writtenOver}
+use Rattle.definitions.specs.StageSamples.{StageSample}
+use Rattle.sdf.specs.declared.Counted.{Counted}
+use Rattle.stage.specs.declared.Written.{Written}
+use Rattle.stage.specs.declared.Written.the-variants.{Count, NoRoom}
+use Rattle.stage.specs.Promises.{TimesWritten, SamplesWritten}
 use Rattle.definitions.specs.Samples.{Samples, samplesNumber}
 use Rattle.sdf.specs.Judged.{Judged, judged-accepted}
 use Rattle.definitions.specs.declared.StageTime.{StageTime}
-use Rattle.definitions.specs.Questions.{Reply, refused, replied, reply, ofSet, stageTimeNumber}
+use Rattle.definitions.specs.Questions.{Reply, refused, replied, reply, ofSet, stageTimeNumber, roomNumber, askStageSampleTimes, askStageSamples}
 use Rattle.gf.specs.Doubles.{0·0}
 use Rattle.definitions.specs.Track.{Track, Outputs, slots, bakeNumber}
 use Rattle.cell_laws.specs.Unpacked.{samplesOf, sound-set, sound-samples}
@@ -37,8 +44,9 @@ use Rattle.clip.specs.Holding.{clipSetOf, Held}
 use Rattle.resolver.specs.declared.Resolver.{Resolver}
 use Rattle.resolver.specs.declared.Accepted.{Accepted}
 use Rattle.resolver.specs.Asked.{Asked}
+use Rattle.resolver.specs.Lists.{counted, listed, itself, timeOf, markIn, countOf, ListsTimes, ListsSamples}
 use Rattle.resolver.specs.State.{model, Made}
-use Rattle.resolver.specs.Promises.{Accepts, Expands, Retimes, Installable, Installs}
+use Rattle.resolver.specs.Promises.{Accepts, Expands, Retimes, TellsTimes, TellsSamples, Installable, Installs}
 
 -- ---- installing
 
@@ -242,3 +250,82 @@ bakes-set d times values marks ends before after r e a z p =
 -- the same reply, said otherwise
 pub bakes-reply : {m : Model} {s : Samples} {o p : Outputs} {a b : Reply calls.Baked} → a ≡ b → Bakes m s o a p → Bakes m s o b p
 bakes-reply {m = m} {s = s} {o = o} {p = p} e k = subst (λ (r : Reply calls.Baked). Bakes m s o r p) e k
+
+-- ---- replies that are lists
+
+mapped-itself : (l : List Float) → map itself l ≡ l
+mapped-itself [] = refl
+mapped-itself (x ∷ l) = ap (λ (m : List Float). x ∷ m) (mapped-itself l)
+
+mapped-length : {A B : Type 0} (f : A → B) (l : List A) → length (map f l) ≡ length l
+mapped-length f [] = refl
+mapped-length f (x ∷ l) = ap suc (mapped-length f l)
+
+room-enough : (room count : ℕ) → count ≤ room → 0 ≡ roomNumber room count
+room-enough room count h = sym (ap (λ (b : Bool). 22 if b else 0) (le-ltb room count h))
+
+room-short : (room count : ℕ) → room < count → 22 ≡ roomNumber room count
+room-short room count h = sym (ap (λ (b : Bool). 22 if b else 0) (lt-ltb room count h))
+
+pub times-listed : (l before after : List Float) (w : Written) → TimesWritten l before after w → ListsTimes l before after (countOf w)
+times-listed l before after (Count n) (e, h, q) =
+    let z = room-enough (length before) (length l) h in
+    record {
+      count = ap (λ (k : ℕ). record { number = 0; count = k }) e ∙ ap (λ (k : ℕ). counted (reply k l)) z;
+      times = q ∙ ap (λ (k : List Float). writtenOver k before) (sym (mapped-itself l)) ∙ ap (λ (k : ℕ). listed itself (reply k l) before) z;
+    }
+times-listed l before after NoRoom (h, q) =
+    let z = room-short (length before) (length l) h in
+    record {
+      count = ap (λ (k : ℕ). counted (reply k l)) z;
+      times = q ∙ ap (λ (k : ℕ). listed itself (reply k l) before) z;
+    }
+
+pub samples-listed : (l : List StageSample) (ts ts′ : List Float) (ms ms′ : List ℕ) (w : Written) → SamplesWritten (map timeOf l) (map markIn l) ts ts′ ms ms′ w → ListsSamples l ts ts′ ms ms′ (countOf w)
+samples-listed l ts ts′ ms ms′ (Count n) (e, h, p, q) =
+    let z = room-enough (min (length ts) (length ms)) (length l) (subst (λ (k : ℕ). k ≤ min (length ts) (length ms)) (mapped-length timeOf l) h) in
+    record {
+      count = ap (λ (k : ℕ). record { number = 0; count = k }) (e ∙ mapped-length timeOf l) ∙ ap (λ (k : ℕ). counted (reply k l)) z;
+      written-times = p ∙ ap (λ (k : ℕ). listed timeOf (reply k l) ts) z;
+      written-marks = q ∙ ap (λ (k : ℕ). listed markIn (reply k l) ms) z;
+    }
+samples-listed l ts ts′ ms ms′ NoRoom (h, p, q) =
+    let z = room-short (min (length ts) (length ms)) (length l) (subst (λ (k : ℕ). min (length ts) (length ms) < k) (mapped-length timeOf l) h) in
+    record {
+      count = ap (λ (k : ℕ). counted (reply k l)) z;
+      written-times = p ∙ ap (λ (k : ℕ). listed timeOf (reply k l) ts) z;
+      written-marks = q ∙ ap (λ (k : ℕ). listed markIn (reply k l) ms) z;
+    }
+
+-- a refusal's count is 0
+pub counted-refused : (r : Counted) (n : ℕ) → r .number ≡ n → r .count ≡ 0 → r ≡ record { number = n; count = 0 }
+counted-refused r n e f = λ i. record { number = e i; count = f i }
+
+pub times-told : (l l′ before after : List Float) (w : Written) (r : Counted) → l ≡ l′ → r ≡ countOf w → TimesWritten l before after w → ListsTimes l′ before after r
+times-told l l′ before after w r e q p = subst (λ (x : Counted). ListsTimes l′ before after x) (sym q) (times-listed l′ before after w (subst (λ (x : List Float). TimesWritten x before after w) e p))
+
+pub samples-told : (l l′ : List StageSample) (ts ts′ : List Float) (ms ms′ : List ℕ) (w : Written) (r : Counted) → l ≡ l′ → r ≡ countOf w → SamplesWritten (map timeOf l) (map markIn l) ts ts′ ms ms′ w → ListsSamples l′ ts ts′ ms ms′ r
+samples-told l l′ ts ts′ ms ms′ w r e q p = subst (λ (x : Counted). ListsSamples l′ ts ts′ ms ms′ x) (sym q) (samples-listed l′ ts ts′ ms ms′ w (subst (λ (x : List StageSample). SamplesWritten (map timeOf x) (map markIn x) ts ts′ ms ms′ w) e p))
+
+-- ---- the questions whose reply is a list, by their replies
+
+pub times-refused : (d : Resolver) (s : Samples) (before : List Float) (r : Counted) (n : ℕ) → (r .number ≡ n) × (r .count ≡ 0) → refused n ≡ askStageSampleTimes (model d) s (length before) → TellsTimes d s before before r
+times-refused d s before r n (e, f) q = record { count = counted-refused r n e f ∙ ap counted q; times = ap (λ (x : Reply (List Float)). listed itself x before) q }
+
+pub times-replied : (d : Resolver) (s : Samples) (l before after : List Float) (r : Counted) → ListsTimes l before after r → reply (roomNumber (length before) (length l)) l ≡ askStageSampleTimes (model d) s (length before) → TellsTimes d s before after r
+times-replied d s l before after r p q = record { count = p .count ∙ ap counted q; times = p .times ∙ ap (λ (x : Reply (List Float)). listed itself x before) q }
+
+pub list-refused : (d : Resolver) (s : Samples) (ts : List Float) (ms : List ℕ) (r : Counted) (n : ℕ) → (r .number ≡ n) × (r .count ≡ 0) → refused n ≡ askStageSamples (model d) s (min (length ts) (length ms)) → TellsSamples d s ts ts ms ms r
+list-refused d s ts ms r n (e, f) q = record {
+  count = counted-refused r n e f ∙ ap counted q;
+  written-times = ap (λ (x : Reply (List StageSample)). listed timeOf x ts) q;
+  written-marks = ap (λ (x : Reply (List StageSample)). listed markIn x ms) q;
+}
+
+pub list-replied : (d : Resolver) (s : Samples) (l : List StageSample) (ts ts′ : List Float) (ms ms′ : List ℕ) (r : Counted) → ListsSamples l ts ts′ ms ms′ r
+    → reply (roomNumber (min (length ts) (length ms)) (length l)) l ≡ askStageSamples (model d) s (min (length ts) (length ms)) → TellsSamples d s ts ts′ ms ms′ r
+list-replied d s l ts ts′ ms ms′ r p q = record {
+  count = p .count ∙ ap counted q;
+  written-times = p .written-times ∙ ap (λ (x : Reply (List StageSample)). listed timeOf x ts) q;
+  written-marks = p .written-marks ∙ ap (λ (x : Reply (List StageSample)). listed markIn x ms) q;
+}

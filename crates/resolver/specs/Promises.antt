@@ -2,14 +2,18 @@
 use mathlib.Core.Path.{_≡_}
 use mathlib.Core.Bool.{Bool}
 use mathlib.Core.Option.{Option, none, some}
-use Prim.Native.Nat.{ℕ}
+use Prim.Native.Nat.{ℕ, min}
+use mathlib.Core.List.{List}
+use lib.ListN.{length}
+use lib.Ieee.{Float}
 use Rattle.definitions.specs.declared.LayerOffset.{LayerOffset}
 use Rattle.definitions.specs.declared.StageTime.{StageTime}
 use Rattle.definitions.specs.declared.ClipTime.{ClipTime}
-use Rattle.definitions.specs.Questions.{Reply, refused, replied, askActiveClip, askClipTime, askValue, askUntimed}
+use Rattle.definitions.specs.Questions.{Reply, refused, replied, askActiveClip, askClipTime, askValue, askUntimed, askStageSampleTimes, askStageSamples}
 use Rattle.definitions.specs.declared.Answer.{Answer}
 use Rattle.definitions.specs.StageSamples as Stage
 use Rattle.value.specs.Untimed.{stateIs}
+use Rattle.sdf.specs.declared.Counted.{Counted}
 use Rattle.definitions.specs.ClipSet.{noSet, standing}
 use Rattle.definitions.specs.Explicit.{ExplicitFields, explicitNumber}
 use Rattle.definitions.specs.Template.{TemplateFields, templateNumber}
@@ -31,6 +35,7 @@ use Rattle.resolver.specs.declared.ValueReply.{ValueReply}
 use Rattle.resolver.specs.declared.ValueReply.the-variants.{Answered, Refused as ValueRefused}
 use Rattle.resolver.specs.declared.UntimedReply.{UntimedReply}
 use Rattle.resolver.specs.declared.UntimedReply.the-variants.{Answered as Told, Refused as UntimedRefused}
+use Rattle.resolver.specs.Lists.{counted, listed, itself, timeOf, markIn}
 use Rattle.resolver.specs.State.{model, Made}
 
 -- ---- calls that may change what stands
@@ -85,6 +90,17 @@ TellsValue d s t r = valueReply r ≡ askValue (model d) s t
 
 abbrev pub TellsUntimed : Resolver → Samples → UntimedReply → Type 0
 TellsUntimed d s r = untimedReply r ≡ askUntimed (model d) s
+
+-- ---- questions whose reply is a list: the number, the count and every lent list after it
+
+pub record TellsTimes (d : Resolver) (s : Samples) (before after : List Float) (r : Counted) : Type 0 where
+  pub count : r ≡ counted (askStageSampleTimes (model d) s (length before))
+  pub times : after ≡ listed itself (askStageSampleTimes (model d) s (length before)) before
+
+pub record TellsSamples (d : Resolver) (s : Samples) (times times′ : List Float) (marks marks′ : List ℕ) (r : Counted) : Type 0 where
+  pub count : r ≡ counted (askStageSamples (model d) s (min (length times) (length marks)))
+  pub written-times : times′ ≡ listed timeOf (askStageSamples (model d) s (min (length times) (length marks))) times
+  pub written-marks : marks′ ≡ listed markIn (askStageSamples (model d) s (min (length times) (length marks))) marks
 
 -- ---- the bake
 

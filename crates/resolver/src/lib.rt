@@ -10,6 +10,7 @@ use definitions::Default;
 use definitions::LayerOffset;
 use definitions::StageTime;
 use definitions::TemplateTimes;
+use sdf::Counted;
 use track::bake::Baked;
 use value::untimed::ValueState;
 ghost use mathlib.Core.Path.{_≡_};
@@ -20,7 +21,7 @@ ghost use Rattle.clip.specs.Expanding.{templateFields};
 ghost use Rattle.clip.specs.Parsing.{manifest};
 ghost use Rattle.track.specs.Bakes.{outputs, bakedReply};
 ghost use Rattle.resolver.specs.State.{Made};
-ghost use Rattle.resolver.specs.Promises.{Begins, Accepts, Expands, Retimes, BakesTrack, TellsClip, TellsTime, TellsValue, TellsUntimed, Installable, Installs};
+ghost use Rattle.resolver.specs.Promises.{Begins, Accepts, Expands, Retimes, BakesTrack, TellsTimes, TellsSamples, TellsClip, TellsTime, TellsValue, TellsUntimed, Installable, Installs};
 
 #[repr(C)]
 pub struct Resolver {
@@ -205,6 +206,53 @@ impl Resolver {
         UntimedReply::Answered(asked::untimed_of(set, times, values, marks, ends))
     }
 
+    // The stage sample times, written to the lent list.
+    pub fn stage_sample_times(
+        self,
+        times: &[f64],
+        values: &[f64],
+        marks: &[u8],
+        ends: &[u64],
+        out: &mut [f64],
+    ) -> Counted
+        requires { ⌜ Made self ⌝ }
+        ensures { λ r. ⌜ TellsTimes self (samplesOf (now (times .entry)) (now (values .entry)) (now (marks .entry)) (now (ends .entry))) (now (out .entry)) (now (out .exit)) r ⌝ }
+    {
+        if !self.stands {
+            return refused_list(20);
+        }
+        let set = self.set;
+        let number = sdf::samples_number(set.clips, times, values, marks, ends);
+        if number != 0 {
+            return refused_list(number);
+        }
+        asked::times_of(set, times, values, marks, ends, out)
+    }
+
+    // The stage samples: each stage sample time, with the mark of what is supplied there.
+    pub fn stage_samples(
+        self,
+        times: &[f64],
+        values: &[f64],
+        marks: &[u8],
+        ends: &[u64],
+        outtimes: &mut [f64],
+        outmarks: &mut [u8],
+    ) -> Counted
+        requires { ⌜ Made self ⌝ }
+        ensures { λ r. ⌜ TellsSamples self (samplesOf (now (times .entry)) (now (values .entry)) (now (marks .entry)) (now (ends .entry))) (now (outtimes .entry)) (now (outtimes .exit)) (now (outmarks .entry)) (now (outmarks .exit)) r ⌝ }
+    {
+        if !self.stands {
+            return refused_list(20);
+        }
+        let set = self.set;
+        let number = sdf::samples_number(set.clips, times, values, marks, ends);
+        if number != 0 {
+            return refused_list(number);
+        }
+        asked::samples_of(set, times, values, marks, ends, outtimes, outmarks)
+    }
+
     // The track of the standing set's value: the head and the count, and the changes written to the lent lists.
     pub fn bake(
         self,
@@ -273,4 +321,10 @@ fn refused_bake(number: u8) -> Baked
         value: 0.0,
         count: 0,
     }
+}
+
+fn refused_list(number: u8) -> Counted
+    ensures { λ r. ⌜ (r .number ≡ number) × (r .count ≡ 0) ⌝ }
+{
+    Counted { number, count: 0 }
 }

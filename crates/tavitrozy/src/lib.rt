@@ -28,7 +28,7 @@ ghost use Rattle.track.specs.Bakes.{outputs, bakedReply};
 ghost use Rattle.track.specs.Entries.{entryIs};
 ghost use Rattle.track.specs.Held.{trackOfLists};
 ghost use Rattle.resolver.specs.State.{Made};
-ghost use Rattle.resolver.specs.Promises.{Begins, Accepts, Expands, Retimes, BakesTrack};
+ghost use Rattle.resolver.specs.Promises.{Begins, Accepts, Expands, Retimes, BakesTrack, TellsTimes, TellsSamples};
 ghost use Rattle.tavitrozy.specs.Codes.{clipCode, timeCode, valueCode, untimedCode, TellsClip, TellsTime, TellsValue, TellsUntimed, nameCode, SaysName};
 
 // A clip is active, unless `found` is false.
@@ -255,6 +255,37 @@ pub extern "C" fn tavitrozy_untimed(
     ensures { λ a. ⌜ TellsUntimed resolver (samplesOf (now (times .entry)) (now (values .entry)) (now (marks .entry)) (now (ends .entry))) a ⌝ }
 {
     untimed_code(resolver.untimed(times, values, marks, ends))
+}
+
+#[no_mangle]
+pub extern "C" fn tavitrozy_stage_sample_times(
+    resolver: Resolver,
+    times: &[f64],
+    values: &[f64],
+    marks: &[u8],
+    ends: &[u64],
+    out: &mut [f64],
+) -> Counted
+    requires { ⌜ Made resolver ⌝ }
+    ensures { λ r. ⌜ TellsTimes resolver (samplesOf (now (times .entry)) (now (values .entry)) (now (marks .entry)) (now (ends .entry))) (now (out .entry)) (now (out .exit)) r ⌝ }
+{
+    resolver.stage_sample_times(times, values, marks, ends, out)
+}
+
+#[no_mangle]
+pub extern "C" fn tavitrozy_stage_samples(
+    resolver: Resolver,
+    times: &[f64],
+    values: &[f64],
+    marks: &[u8],
+    ends: &[u64],
+    outtimes: &mut [f64],
+    outmarks: &mut [u8],
+) -> Counted
+    requires { ⌜ Made resolver ⌝ }
+    ensures { λ r. ⌜ TellsSamples resolver (samplesOf (now (times .entry)) (now (values .entry)) (now (marks .entry)) (now (ends .entry))) (now (outtimes .entry)) (now (outtimes .exit)) (now (outmarks .entry)) (now (outmarks .exit)) r ⌝ }
+{
+    resolver.stage_samples(times, values, marks, ends, outtimes, outmarks)
 }
 
 #[no_mangle]

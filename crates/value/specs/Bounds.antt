@@ -88,6 +88,11 @@ abbrev pub In : Float → List Float → Type 0
 In x [] = ⊥
 In x (y ∷ l) = (x ≡ y) ⊎ In x l
 
+-- the first of the times above t in the order of `total_cmp`, or none is above it
+abbrev pub NextIs : List Float → Float → Bound → Type 0
+NextIs l t (At h) = In h l × T (lt t h) × Every (λ (x : Float). T (lt t x) → totalKey h ≤ totalKey x) l
+NextIs l t Nothing = Every (λ (x : Float). T (lt t x) → ⊥) l
+
 -- a bound is one of the times, on its side of t
 abbrev LowerAmong : List Float → Float → Bound → Type 0
 LowerAmong g t (At l) = In l g × T (le l t)
@@ -227,7 +232,7 @@ scanned-end t p xs i h l = subst (λ (k : List Float). Scanned t (keep p k) h h)
 
 -- ---- a pass over all of them
 
-in-every : (P : Float → Type 0) (x : Float) (l : List Float) → Every P l → In x l → P x
+pub in-every : (P : Float → Type 0) (x : Float) (l : List Float) → Every P l → In x l → P x
 in-every P x [] h i = absurd i
 in-every P x (y ∷ l) h (inl e) = subst P (sym e) (h .0)
 in-every P x (y ∷ l) h (inr i) = in-every P x l (h .1) i
@@ -278,6 +283,18 @@ module _ (t : Float) (ft : Fits t) (l : List Float) (fit : Every Fits l) where
         above = m .1;
         first = every-zip Fits (λ (y : Float). T (not (le y t)) → T (lt t y) → totalKey x ≤ totalKey y) (λ (y : Float). T (lt t y) → T (le x y)) (λ y g c u. total-le x y f g n (le-no-nan t y (lt→le t y u) .1) (c (beyond y g u) u)) l fit k;
       }
+
+  -- the least of the times above t by `total_cmp`
+  pub next-of : (r : Bounds) → Scanned t l nothing r → NextIs l t (r .upper)
+  next-of r S = next (r .upper) (S .among l (every-in l) (tt, tt) .1) (every-map (Past t r) (λ (x : Float). T (not (le x t)) → T (lt t x) → UpperPast (r .upper) x) (λ x p. p .1) l (S .known))
+    where
+      next : (b : Bound) → UpperAmong l t b → Every (λ (x : Float). T (not (le x t)) → T (lt t x) → UpperPast b x) l → NextIs l t b
+      next Nothing m k = every-zip Fits (λ (y : Float). T (not (le y t)) → T (lt t y) → ⊥) (λ (y : Float). T (lt t y) → ⊥) (λ y g c u. c (beyond y g u) u) l fit k
+      next (At x) m k = (
+        m .0,
+        m .1,
+        every-zip Fits (λ (y : Float). T (not (le y t)) → T (lt t y) → totalKey x ≤ totalKey y) (λ (y : Float). T (lt t y) → totalKey x ≤ totalKey y) (λ y g c u. c (beyond y g u) u) l fit k,
+      )
 
   pub neighbours-of : (r : Bounds) → Scanned t l nothing r → NeighboursAre l t r
   neighbours-of r S =

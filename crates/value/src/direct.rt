@@ -121,9 +121,9 @@ fn nearest_before(
     requires { ⌜ Ready (now starts) (now clips) (now xs) (now ys) (now blocks) m (now times) (now values) (now marks) (now ends) ⌝ ∗ ⌜ p ≤ length (now starts) ⌝ }
     ensures { λ r. ⌜ readingIs r ≡ firstReading (setOf (length (now (ends .entry))) (now (starts .entry)) (now (clips .entry)) (now (xs .entry)) (now (ys .entry)) (now (blocks .entry)) m) (samplesOf (now (times .entry)) (now (values .entry)) (now (marks .entry)) (now (ends .entry))) (reverse (take p (activeOf (now (starts .entry)) (now (clips .entry))))) ⌝ }
 {
-    let mut i = p;
-    while i > 0 {
-        i -= 1;
+    let mut left = p;
+    while left > 0 {
+        left -= 1;
         let found = read_start(
             starts,
             clips,
@@ -135,7 +135,7 @@ fn nearest_before(
             values,
             marks,
             ends,
-            i,
+            left,
         );
         if let Reading::Of(clip, place) = found {
             return Reading::Of(clip, place);

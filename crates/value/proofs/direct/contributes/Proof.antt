@@ -1,5 +1,4 @@
 -- `value::direct::contributes` meets its contract. Assumes nothing.
-use mathlib.Core.Bool.{not, _&&_}
 use borrow.Author.Needs.{needs}
 use Rattle.value.proofs.direct.contributes.Statement.{statement}
 use Rattle.value.proofs.direct.contributes.Tie as tie

@@ -1,6 +1,5 @@
 -- `value::direct::read_start` meets its contract. Assumes nothing.
-use mathlib.Core.Path.{_≡_, refl, sym, ap, _∙_}
-use denote.Ref.{now}
+use mathlib.Core.Path.{sym, _∙_}
 use Rattle.value.specs.Reads.{ready-clip, ready-readable, start-blocked, start-read}
 use borrow.Author.Needs.{needs}
 use Rattle.value.proofs.direct.read_start.Statement.{statement}

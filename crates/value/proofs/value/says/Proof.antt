@@ -1,10 +1,9 @@
 -- `value::value::says` meets its contract. Assumes nothing.
-use mathlib.Core.Path.{_≡_, sym, ap, _∙_, subst}
-use Prim.Native.Nat.{ℕ, _+_, _<_}
+use mathlib.Core.Path.{subst}
+use Prim.Native.Nat.{_+_, _<_}
 use native.Mathlib.Omega.{arith}
-use lib.ListN.{length, getD}
+use lib.ListN.{length}
 use denote.Ref.{now}
-use Rattle.definitions.specs.declared.Source.{Source}
 use Rattle.definitions.specs.Samples.{clipBegin}
 use Rattle.value.specs.Says.{Sayable, says-value, says-block, says-default, says-blocked, says-absent}
 use borrow.Author.Needs.{needs}

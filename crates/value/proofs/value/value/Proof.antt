@@ -1,8 +1,7 @@
 -- `value::value::value` meets its contract: what the source says. Assumes nothing.
-use mathlib.Core.Path.{_≡_, sym, ap, _∙_, subst}
+use mathlib.Core.Path.{sym, ap, _∙_, subst}
 use lib.ListN.{length}
 use denote.Ref.{now}
-use Rattle.definitions.specs.declared.Source.{Source}
 use Rattle.definitions.specs.ClipSet.{stage}
 use Rattle.definitions.specs.Value.{says, valueInSet}
 use Rattle.cell_laws.specs.Unpacked.{setOf, samplesOf}

@@ -1,6 +1,6 @@
 -- `value::value::value_source` meets its contract, case by case as document 01 has them. Assumes nothing.
-use mathlib.Core.Path.{_≡_, sym, ap, _∙_, subst}
-use Prim.Native.Nat.{_<_, _≤_}
+use mathlib.Core.Path.{_≡_, sym, _∙_, subst}
+use Prim.Native.Nat.{_<_}
 use native.Mathlib.Omega.{arith}
 use lib.Dec.{T}
 use lib.ListN.{length}
@@ -8,7 +8,6 @@ use lib.Ieee.{binary64, fits}
 use denote.Ref.{now}
 use Rattle.definitions.specs.Value.{gathered}
 use Rattle.cell_laws.specs.Unpacked.{setOf, samplesOf}
-use Rattle.cell_laws.specs.Neighbours.{IsLower, IsUpper}
 use Rattle.value.specs.declared.window.Bound.{Bound}
 use Rattle.value.specs.Bounds.{LowerIs, UpperIs}
 use Rattle.value.specs.Reads.{last-short, ready-starts}

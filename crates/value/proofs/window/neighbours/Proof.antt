@@ -1,6 +1,5 @@
 -- `value::window::neighbours` meets its contract: a pass over the window, and the next start. Assumes nothing.
-use mathlib.Core.Path.{_≡_, sym, ap, ap₂, _∙_, subst}
-use native.Mathlib.Omega.{arith}
+use mathlib.Core.Path.{sym, subst}
 use lib.Dec.{T}
 use lib.ListN.{length}
 use lib.Ieee.{binary64, fits}

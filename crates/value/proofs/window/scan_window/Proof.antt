@@ -1,8 +1,5 @@
 -- `value::window::scan_window` meets its contract: the start, the knots, the samples. Assumes nothing.
-use mathlib.Core.Path.{_≡_, sym, ap, ap₂, _∙_, subst}
-use mathlib.Core.Bool.{Bool}
-use mathlib.Core.List.{List, []}
-use native.Mathlib.Omega.{arith}
+use mathlib.Core.Path.{_≡_, ap₂}
 use lib.ListN.{getD}
 use lib.Ieee.{Float}
 use denote.Ref.{now}

@@ -1,5 +1,4 @@
 -- `value::window::window_min` meets its contract. Assumes nothing.
-use mathlib.Core.Path.{refl}
 use lib.Ieee.{ofBits, neg, div}
 use borrow.Author.Tests.{eq-eqb, ne-eqb}
 use borrow.Author.Needs.{needs}

@@ -1,5 +1,5 @@
 -- `value::window::with_inside` meets its contract. Assumes nothing.
-use mathlib.Core.Path.{_≡_, refl, sym, ap, _∙_}
+use mathlib.Core.Path.{sym, _∙_}
 use borrow.Author.Needs.{needs}
 use Rattle.value.proofs.window.with_inside.Statement.{statement}
 use Rattle.value.proofs.window.with_inside.Tie as tie

@@ -1,5 +1,5 @@
 -- `value::window::with_time` meets its contract. Assumes nothing.
-use mathlib.Core.Path.{_≡_, refl, sym, ap, _∙_}
+use mathlib.Core.Path.{ap}
 use Rattle.value.specs.Bounds.{withTime, withLower, withUpper}
 use borrow.Author.Needs.{needs}
 use Rattle.value.proofs.window.with_time.Statement.{statement}

@@ -1,0 +1,46 @@
+-- A reply that is a list: its number and count, and the lent lists after it. Assumes nothing.
+use Prim.Native.Nat.{ℕ, min}
+use mathlib.Core.Path.{_≡_}
+use mathlib.Core.List.{List, map}
+use lib.ListN.{length}
+use lib.Ieee.{Float}
+use Rattle.definitions.specs.Lists.{writtenOver}
+use Rattle.definitions.specs.Questions.{Reply, refused, replied, reply, roomNumber}
+use Rattle.definitions.specs.StageSamples.{StageSample}
+use Rattle.sdf.specs.declared.Counted.{Counted}
+use Rattle.stage.specs.declared.Written.{Written}
+use Rattle.stage.specs.declared.Written.the-variants.{Count, NoRoom}
+
+-- the number, and the count, 0 where it is refused
+abbrev pub counted : {A : Type 0} → Reply (List A) → Counted
+counted (refused n) = record { number = n; count = 0 }
+counted (replied l) = record { number = 0; count = length l }
+
+-- a lent list after it: the entries' parts written to its front, or as it was
+abbrev pub listed : {A B : Type 0} → (A → B) → Reply (List A) → List B → List B
+listed f (refused n) old = old
+listed f (replied l) old = writtenOver (map f l) old
+
+abbrev pub itself : Float → Float
+itself t = t
+
+abbrev pub timeOf : StageSample → Float
+timeOf x = x .time
+
+abbrev pub markIn : StageSample → ℕ
+markIn x = x .mark
+
+-- ---- within: the lists where the samples are accepted
+
+abbrev pub countOf : Written → Counted
+countOf (Count n) = record { number = 0; count = n }
+countOf NoRoom = record { number = 22; count = 0 }
+
+pub record ListsTimes (l before after : List Float) (r : Counted) : Type 0 where
+  pub count : r ≡ counted (reply (roomNumber (length before) (length l)) l)
+  pub times : after ≡ listed itself (reply (roomNumber (length before) (length l)) l) before
+
+pub record ListsSamples (l : List StageSample) (times times′ : List Float) (marks marks′ : List ℕ) (r : Counted) : Type 0 where
+  pub count : r ≡ counted (reply (roomNumber (min (length times) (length marks)) (length l)) l)
+  pub written-times : times′ ≡ listed timeOf (reply (roomNumber (min (length times) (length marks)) (length l)) l) times
+  pub written-marks : marks′ ≡ listed markIn (reply (roomNumber (min (length times) (length marks)) (length l)) l) marks

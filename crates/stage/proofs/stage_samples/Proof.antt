@@ -1,0 +1,113 @@
+-- `stage::stage_samples` meets its contract: the times are counted, then written, then the marks at them. Assumes nothing.
+use Prim.Native.Nat.{_≤_, min}
+use native.Mathlib.Nat.{min-le-left, min-le-right, le-trans}
+use mathlib.Core.Path.{_≡_, refl, sym, ap, _∙_}
+use mathlib.Core.List.{List}
+use native.Mathlib.Omega.{arith}
+use lib.Dec.{leb}
+use lib.ListN.{length}
+use lib.Seq.{length-take-le}
+use lib.Ieee.{Float}
+use denote.Ref.{now}
+use borrow.Author.Tests.{leb-true, leb-false}
+use Rattle.definitions.specs.ClipSet.{ClipSet}
+use Rattle.definitions.specs.Samples.{Samples}
+use Rattle.definitions.specs.StageSamples.{stageSampleTimes}
+use Rattle.cell_laws.specs.Unpacked.{setOf, samplesOf}
+use Rattle.stage.specs.Writing.{length-written}
+use Rattle.stage.specs.Samples.{samples-written, samples-none}
+use borrow.Author.Needs.{needs}
+use Rattle.stage.proofs.stage_samples.Statement.{statement}
+use Rattle.stage.proofs.stage_samples.Tie as tie
+
+abbrev entry : tie.After-shorter → tie.Start
+entry k = k .before .before .before .before .before .before .before .before .before .before .before .before
+
+abbrev set : tie.Start → ClipSet
+set s = setOf (length (now (s .args .ends))) (now (s .args .starts)) (now (s .args .clips)) (now (s .args .xs)) (now (s .args .ys)) (now (s .args .blocks)) (s .args .m)
+
+abbrev lent : tie.Start → Samples
+lent s = samplesOf (now (s .args .times)) (now (s .args .values)) (now (s .args .marks)) (now (s .args .ends))
+
+abbrev all : tie.Start → List Float
+all s = stageSampleTimes (set s) (lent s)
+
+-- the shorter list has room for all
+room : (c : tie.Then1) → let s = entry (c .before .before) in length (all s) ≤ min (length (now (s .args .outtimes))) (length (now (s .args .outmarks)))
+room c =
+    let k = c .before .before in
+    let s = entry k in
+    leb-true (length (all s)) (min (length (now (s .args .outtimes))) (length (now (s .args .outmarks)))) (ap (leb (length (all s))) (sym (k .shorter .ensures)) ∙ sym (c .before .fits2 .ensures) ∙ c .if1 .taken)
+
+times-room : (c : tie.Then1) → let s = entry (c .before .before) in length (all s) ≤ length (now (s .args .outtimes))
+times-room c = let s = entry (c .before .before) in le-trans (room c) (min-le-left (length (now (s .args .outtimes))) (length (now (s .args .outmarks))))
+
+marks-room : (c : tie.Then1) → let s = entry (c .before .before) in length (all s) ≤ length (now (s .args .outmarks))
+marks-room c = let s = entry (c .before .before) in le-trans (room c) (min-le-right (length (now (s .args .outtimes))) (length (now (s .args .outmarks))))
+
+shorter-requires : tie.Need-shorter-requires
+shorter-requires c κs = search needs
+
+fits-requires : tie.Need-fits-requires
+fits-requires c κs = search needs
+
+write-times-requires : tie.Need-write-times-requires
+write-times-requires c κs = let k = c .before in (entry (k .before .before) .pre, times-room k)
+
+-- the times as they were written
+abbrev then : tie.After-write-times → tie.Then1
+then w = w .before .before
+
+times-long : (w : tie.After-write-times) → length (w .write-times .last .1 .1 .1 .1 .1 .1 .1 .1 .1 .1 .0) ≡ length (now (entry (then w .before .before) .args .outtimes))
+times-long w = let s = entry (then w .before .before) in ap length (w .write-times .ensures .1) ∙ length-written (all s) (now (s .args .outtimes)) (times-room (then w))
+
+count-room : (w : tie.After-write-times) → w .write-times .result ≤ length (w .write-times .last .1 .1 .1 .1 .1 .1 .1 .1 .1 .1 .0)
+count-room w = omega (arith, times-long w, times-room (then w), w .write-times .ensures .0)
+
+slice-reshare-prefix-write-marks : tie.Need-slice-reshare-prefix-write-marks
+slice-reshare-prefix-write-marks c = count-room (c .before .before)
+
+slice-aggregate-write-marks : tie.Need-slice-aggregate-write-marks
+slice-aggregate-write-marks c = let w = c .before .before .before in sym (length-take-le (w .write-times .result) (w .write-times .last .1 .1 .1 .1 .1 .1 .1 .1 .1 .1 .0) (count-room w))
+
+write-marks-requires : tie.Need-write-marks-requires
+write-marks-requires c κs =
+    let w = c .before .before .before .before in (
+      entry (then w .before .before) .pre,
+      omega (arith, length-take-le (w .write-times .result) (w .write-times .last .1 .1 .1 .1 .1 .1 .1 .1 .1 .1 .0) (count-room w), marks-room (then w), w .write-times .ensures .0),
+    )
+
+same-length : tie.Need-same-length
+same-length c = search needs
+
+same-length-2 : tie.Need-same-length-2
+same-length-2 c = search needs
+
+returns : tie.Need-returns
+returns c =
+    let b = c .before .before in
+    let w = b .before .before .before .before .before in
+    let s = entry (then w .before .before) in
+    samples-written (set s) (lent s) (now (s .args .outtimes)) (w .write-times .last .1 .1 .1 .1 .1 .1 .1 .1 .1 .1 .0) (now (s .args .outmarks)) _ (w .write-times .result) (w .write-times .ensures .0) (room (then w)) (w .write-times .ensures .1) (b .write-marks .ensures)
+
+returns-2 : tie.Need-returns-2
+returns-2 c =
+    let k = c .before .before in
+    let s = entry k in
+    samples-none (set s) (lent s) (now (s .args .outtimes)) (now (s .args .outtimes)) (now (s .args .outmarks)) (now (s .args .outmarks))
+    (leb-false (length (all s)) (min (length (now (s .args .outtimes))) (length (now (s .args .outmarks)))) (ap (leb (length (all s))) (sym (k .shorter .ensures)) ∙ sym (c .before .fits2 .ensures) ∙ c .if1 .left)) refl refl
+
+pub stage-samples-spec : {M : Type 1} → statement M
+stage-samples-spec =
+    tie.close
+    (tie.spec
+    shorter-requires
+    fits-requires
+    write-times-requires
+    slice-reshare-prefix-write-marks
+    slice-aggregate-write-marks
+    write-marks-requires
+    same-length
+    same-length-2
+    returns
+    returns-2)

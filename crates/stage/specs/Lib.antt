@@ -1,0 +1,13 @@
+-- What the contracts of this crate cite, and the laws that its proofs share.
+-- Times in order, equals dropped, one after the other
+pub mod Ordered
+-- The stage sample times over the lent lists
+pub mod Times
+-- Entries written to the front of a lent list one after the other
+pub mod Writing
+-- What is promised of lent output lists
+pub mod Promises
+-- The mark of a stage sample
+pub mod Marks
+-- The stage samples written out
+pub mod Samples
