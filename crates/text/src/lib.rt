@@ -1,0 +1,32 @@
+// The case text: the words, numbers and lists of a line, and the replies. Nothing here asks anything of its caller.
+mod lists;
+mod numbers;
+mod output;
+mod words;
+
+pub use lists::Listed;
+pub use lists::first_bytes;
+pub use lists::first_doubles;
+pub use lists::first_numbers;
+pub use lists::read_bytes;
+pub use lists::read_doubles;
+pub use lists::read_marks;
+pub use lists::read_numbers;
+pub use numbers::Byte;
+pub use numbers::Double;
+pub use numbers::Number;
+pub use numbers::read_byte;
+pub use numbers::read_decimal;
+pub use numbers::read_double;
+pub use output::flush;
+pub use output::put;
+pub use output::put_byte;
+pub use output::put_bytes;
+pub use output::put_decimal;
+pub use output::put_double;
+pub use words::NOWHERE;
+pub use words::after;
+pub use words::is_end;
+pub use words::skip_blanks;
+pub use words::without_comment;
+pub use words::word_end;
