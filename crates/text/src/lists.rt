@@ -82,7 +82,14 @@ pub fn read_bytes(line: &[u8], at: usize, out: &mut [u8]) -> Listed {
     if none != NOWHERE {
         return Listed { at: none, count: 0 };
     }
-    pairs(line, skip_blanks(line, at), out)
+    let from = skip_blanks(line, at);
+    if from >= line.len() {
+        return Listed {
+            at: NOWHERE,
+            count: 0,
+        };
+    }
+    pairs(line, from, out)
 }
 
 // Hex pairs up to the word's end.
@@ -132,4 +139,14 @@ pub fn first_bytes(list: &[u8], count: usize) -> &[u8] {
         return &list[0..count];
     }
     list
+}
+
+// The bytes from `from` to `to`, none if there are no such.
+pub fn part(list: &[u8], from: usize, to: usize) -> &[u8] {
+    if from <= to {
+        if to <= list.len() {
+            return &list[from..to];
+        }
+    }
+    &list[0..0]
 }

@@ -1,6 +1,9 @@
 // The words of a line, parted by blanks. A place is an index into the line. `NOWHERE` is the place behind a word that could
 // not be read; whatever is read from there is not readable either, so a call is read straight through and judged at its end.
 
+use crate::lists::first_bytes;
+use crate::lists::part;
+
 pub const NOWHERE: usize = 0xffff_ffff_ffff_ffff;
 
 // A space, a tab or the carriage return of a line that ends in two bytes.
@@ -35,8 +38,8 @@ pub fn word_end(line: &[u8], at: usize) -> usize {
     i
 }
 
-// The length of the line up to its comment.
-pub fn without_comment(line: &[u8]) -> usize {
+// The place of the line's comment, its end if it has none.
+fn comment(line: &[u8]) -> usize {
     let mut i: usize = 0;
     while i < line.len() {
         if line[i] == b';' {
@@ -45,6 +48,17 @@ pub fn without_comment(line: &[u8]) -> usize {
         i += 1;
     }
     i
+}
+
+// The line up to its comment.
+pub fn without_comment(line: &[u8]) -> &[u8] {
+    first_bytes(line, comment(line))
+}
+
+// The next word, empty if there is none.
+pub fn word(line: &[u8], at: usize) -> &[u8] {
+    let from = skip_blanks(line, at);
+    part(line, from, word_end(line, from))
 }
 
 // Nothing but blanks is left.

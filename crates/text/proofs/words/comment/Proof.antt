@@ -1,9 +1,9 @@
--- `text::words::without_comment` is safe and ends: each turn passes a byte of the line. Assumes nothing.
+-- `text::words::comment` is safe and ends: each turn passes a byte of the line. Assumes nothing.
 use borrow.Author.Needs.{needs}
 use Prim.Native.Nat.{_-_}
 use lib.ListN.{length}
-use Rattle.text.proofs.words.without_comment.Statement.{statement}
-use Rattle.text.proofs.words.without_comment.Tie as tie
+use Rattle.text.proofs.words.comment.Statement.{statement}
+use Rattle.text.proofs.words.comment.Tie as tie
 
 abbrev Inv-loop : tie.InvT-loop
 Inv-loop line i₀ i = Unit {0}
@@ -32,8 +32,8 @@ loop-again c = search needs
 returns-2 : tie.Need-returns-2 Inv-loop μ-loop
 returns-2 c = search needs
 
-pub without-comment-spec : {M : Type 1} → statement M
-without-comment-spec =
+pub comment-spec : {M : Type 1} → statement M
+comment-spec =
     tie.close
     (tie.spec
     Inv-loop
