@@ -5,14 +5,14 @@ mod output;
 mod words;
 
 pub use lists::Listed;
+pub use lists::doubles_after;
 pub use lists::first_bytes;
 pub use lists::first_doubles;
 pub use lists::first_numbers;
+pub use lists::marks_after;
+pub use lists::numbers_after;
 pub use lists::part;
 pub use lists::read_bytes;
-pub use lists::read_doubles;
-pub use lists::read_marks;
-pub use lists::read_numbers;
 pub use numbers::Byte;
 pub use numbers::Double;
 pub use numbers::Number;

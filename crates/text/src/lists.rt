@@ -32,7 +32,7 @@ fn counted(line: &[u8], at: usize, most: usize) -> Listed
 }
 
 // A count and that many doubles.
-pub fn read_doubles(line: &[u8], at: usize, out: &mut [f64]) -> Listed {
+fn read_doubles(line: &[u8], at: usize, out: &mut [f64]) -> Listed {
     let n = counted(line, at, out.len());
     let count = n.count;
     let mut place = n.at;
@@ -47,7 +47,7 @@ pub fn read_doubles(line: &[u8], at: usize, out: &mut [f64]) -> Listed {
 }
 
 // A count and that many decimal numbers.
-pub fn read_numbers(line: &[u8], at: usize, out: &mut [u64]) -> Listed {
+fn read_numbers(line: &[u8], at: usize, out: &mut [u64]) -> Listed {
     let n = counted(line, at, out.len());
     let count = n.count;
     let mut place = n.at;
@@ -62,7 +62,7 @@ pub fn read_numbers(line: &[u8], at: usize, out: &mut [u64]) -> Listed {
 }
 
 // A count and that many bytes in decimal.
-pub fn read_marks(line: &[u8], at: usize, out: &mut [u8]) -> Listed {
+fn read_marks(line: &[u8], at: usize, out: &mut [u8]) -> Listed {
     let n = counted(line, at, out.len());
     let count = n.count;
     let mut place = n.at;
@@ -74,6 +74,19 @@ pub fn read_marks(line: &[u8], at: usize, out: &mut [u8]) -> Listed {
         i += 1;
     }
     Listed { at: place, count }
+}
+
+// The same lists behind the word that names them.
+pub fn doubles_after(line: &[u8], at: usize, word: &[u8], out: &mut [f64]) -> Listed {
+    read_doubles(line, after(line, at, word), out)
+}
+
+pub fn numbers_after(line: &[u8], at: usize, word: &[u8], out: &mut [u64]) -> Listed {
+    read_numbers(line, after(line, at, word), out)
+}
+
+pub fn marks_after(line: &[u8], at: usize, word: &[u8], out: &mut [u8]) -> Listed {
+    read_marks(line, after(line, at, word), out)
 }
 
 // The next word, bytes as hex pairs, or `-` for none.
