@@ -14,10 +14,10 @@ use Rattle.gf.specs.Lerp.{lerp, share}
 use Rattle.definitions.specs.declared.Knot.{Knot}
 use Rattle.definitions.specs.declared.LayerOffset.{LayerOffset}
 use Rattle.definitions.specs.declared.Answer.the-variants.{Value, Blocked, Absent}
-use Rattle.gf.specs.Doubles.{abs, isWhole, truncated, signBit, totalKey}
+use Rattle.gf.specs.Doubles.{abs, isWhole, truncated, isClipNumber, signBit, totalKey}
 use Rattle.definitions.specs.Doubles.{lowest, nextLower}
 use Rattle.definitions.specs.ClipSet.{ClipSet, noSet, standing, stage, clip, nanDefault, beyondLimits, equalStarts, equalKnots, badDefaultMark, activeTimes}
-use Rattle.definitions.specs.Explicit.{ExplicitFields, explicitSet, explicitNumber, explicit1, explicit2, explicit3, isClipNumber}
+use Rattle.definitions.specs.Explicit.{ExplicitFields, explicitSet, explicitNumber, explicit1, explicit2, explicit3}
 use Rattle.definitions.specs.Names.{beforeHash, hashRun, withFraction, split, readable, digits, placesBy, places, padded, wholeBody, decimals, fractionBody, format, name, nameNumber}
 use Rattle.definitions.specs.Template.{TemplateFields, repeated, promoted, activations, templateSet, templateNumber, template1, template2, template6, template7, template8}
 use Rattle.definitions.specs.Retime.{apply, isIdentity, moved, sorted, retimeStageTimes, retimeNumber}

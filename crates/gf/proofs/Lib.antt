@@ -1,2 +1,6 @@
 -- What the proofs of src/ share.
 pub mod Tests
+pub mod SignCleared
+pub mod Fields
+pub mod ClassArms
+pub mod ClassFigures

@@ -2,10 +2,10 @@
 -- Numeric order and equality are `le`, `lt` and `eq` of `lib.Ieee`: "-0.0 and 0.0 are one time" for them, and no test holds of a NaN.
 -- Assumes nothing.
 use Prim.Native.Nat.{ℕ, _+_, _-_, _*_, _/_, _%_}
-use mathlib.Core.Bool.{Bool, false, cond}
+use mathlib.Core.Bool.{Bool, false, _&&_, _||_, cond}
 use lib.IntN.{pos, negsuc}
 use lib.Dec.{eqb, ltb}
-use lib.Ieee.{Float, nan, inf, fin, binary64, up, down, add, sub, mul, div, toBits}
+use lib.Ieee.{Float, nan, inf, fin, binary64, up, down, add, sub, mul, div, lt, le, toBits}
 use Rattle.gf.specs.Exactly.{within}
 
 -- ---- arithmetic: "each operation rounded"
@@ -43,6 +43,14 @@ abs nan = nan
 abs (inf s) = inf false
 abs (fin s m e) = fin false m e
 
+-- sa + (c − ca)/(cb − ca)·(sb − sa)
+abbrev pub inverseOf : Float → Float → Float → Float → Float → Float
+inverseOf sa sb ca cb c = sa ⊕ (c ⊖ ca) ⊘ (cb ⊖ ca) ⊗ (sb ⊖ sa)
+
+-- c lies between ca and cb, whichever is greater, "with ca ≠ cb"
+abbrev pub spansOf : Float → Float → Float → Bool
+spansOf ca cb c = (lt ca cb && le ca c && le c cb) || (lt cb ca && le cb c && le c ca)
+
 -- ---- finite, magnitude, whole
 
 -- "magnitude at most 2^40 for every stored time": finite, and from -2^40 to 2^40, both included
@@ -60,6 +68,10 @@ unfoldable pub truncated : Float → ℕ
 truncated nan = 0
 truncated (inf s) = 0
 truncated (fin s m e) = m * up e / down e
+
+-- a clip number that serves: whole, so finite, not negative (-0.0 is not), and below the clip count
+unfoldable pub isClipNumber : ℕ → Float → Bool
+isClipNumber clips number = isWhole number && le 0·0 number && ltb (truncated number) clips
 
 -- the sign bit: set also in -0.0
 unfoldable pub signBit : Float → Bool

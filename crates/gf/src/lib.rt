@@ -1,5 +1,11 @@
 // Doubles by their order keys, and linear interpolation between two points.
 
+pub mod class;
+pub mod clip_number;
+pub mod interval;
+pub mod magnitude;
+pub mod segment;
+
 ghost use mathlib.Core.Path.{_≡_};
 ghost use mathlib.Core.Bool.{not};
 ghost use Prim.Native.Nat.{_≤_, _<_};

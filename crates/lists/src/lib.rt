@@ -1,8 +1,17 @@
 // Lists of times as they are lent: tests over the whole list, and the search in an ascending one.
+pub mod sorting;
+pub mod writing;
+
 ghost use mathlib.Core.Path.{_≡_};
+ghost use mathlib.Core.Bool.{_&&_};
+ghost use lib.ListN.{length};
+ghost use lib.Ieee.{eq};
+ghost use Rattle.definitions.specs.Doubles.{twoEqual, threeEqual};
 ghost use Rattle.definitions.specs.ClipSet.{anyUnstorable};
-ghost use Rattle.definitions.specs.Timing.{lastAtMost};
+ghost use Rattle.definitions.specs.Explicit.{knot};
+ghost use Rattle.definitions.specs.Timing.{lastAtMost, onSegment, mapTime};
 ghost use Rattle.set_laws.specs.Places.{Ascending};
+ghost use Rattle.cell_laws.specs.Unpacked.{knotsOf};
 
 // A time that is not finite, or beyond 2^40, is among them.
 pub fn any_unstorable(times: &[f64]) -> bool
@@ -11,6 +20,43 @@ pub fn any_unstorable(times: &[f64]) -> bool
     let mut i: usize = 0;
     while i < times.len() {
         if !gf::is_storable(times[i]) {
+            return true;
+        }
+        i += 1;
+    }
+    false
+}
+
+// Two neighbours are equal. In a sorted list all equals are neighbours.
+pub fn two_equal(times: &[f64]) -> bool
+    ensures { λ r. ⌜ r ≡ twoEqual (now (times .entry)) ⌝ }
+{
+    let mut i: usize = 0;
+    while i + 1 < times.len() {
+        if times[i] == times[i + 1] {
+            return true;
+        }
+        i += 1;
+    }
+    false
+}
+
+fn are_equal(a: f64, b: f64, c: f64) -> bool
+    ensures { λ r. ⌜ r ≡ (eq a b && eq b c) ⌝ }
+{
+    if a == b {
+        return b == c;
+    }
+    false
+}
+
+// Three neighbours are equal.
+pub fn three_equal(times: &[f64]) -> bool
+    ensures { λ r. ⌜ r ≡ threeEqual (now (times .entry)) ⌝ }
+{
+    let mut i: usize = 0;
+    while i + 2 < times.len() {
+        if are_equal(times[i], times[i + 1], times[i + 2]) {
             return true;
         }
         i += 1;
@@ -34,4 +80,39 @@ pub fn last_at_most(times: &[f64], t: f64) -> usize
         }
     }
     if lo > 0 { lo - 1 } else { 0 }
+}
+
+// The clip time at `t` of the segment from (x0, y0) to (x1, y1), whose beginning is kept as it is.
+fn on_segment(x0: f64, x1: f64, y0: f64, y1: f64, t: f64) -> f64
+    ensures { λ r. ⌜ r ≡ onSegment (knot x0 y0) (knot x1 y1) t ⌝ }
+{
+    if t == x0 {
+        return y0;
+    }
+    gf::lerp(x0, x1, y0, y1, t)
+}
+
+// The clip time at `t` by the knots (x, y): the Rust's `map_stage_to_clip`.
+pub fn map_time(xs: &[f64], ys: &[f64], t: f64) -> f64
+    requires { ⌜ Ascending (now xs) ⌝ ∗ ⌜ length (now xs) ≡ length (now ys) ⌝ }
+    ensures { λ r. ⌜ r ≡ mapTime (knotsOf (now (xs .entry)) (now (ys .entry))) t ⌝ }
+{
+    let n = xs.len();
+    if n == 0 {
+        return t;
+    }
+    if t < xs[0] {
+        return ys[0];
+    }
+    let last = n - 1;
+    if xs[last] <= t {
+        return ys[last];
+    }
+    let lo = last_at_most(xs, t);
+    // A NaN, which lies on no side of a single knot.
+    if lo == last {
+        return on_segment(xs[lo], xs[lo], ys[lo], ys[lo], t);
+    }
+    let hi = lo + 1;
+    on_segment(xs[lo], xs[hi], ys[lo], ys[hi], t)
 }

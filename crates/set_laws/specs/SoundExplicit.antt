@@ -11,10 +11,10 @@ use lib.Ieee.Fits.{and-r}
 use borrow.Author.Tests.{ltb-false}
 use Rattle.definitions.specs.declared.Knot.{Knot}
 use Rattle.definitions.specs.Lists.{zipWith}
-use Rattle.gf.specs.Doubles.{totalKey, 0·0, isWhole, truncated}
+use Rattle.gf.specs.Doubles.{totalKey, 0·0, isWhole, truncated, isClipNumber}
 use Rattle.definitions.specs.declared.Start.{Start}
 use Rattle.definitions.specs.ClipSet.{maxClips, maxActive, maxKnots, maxBlocks, activeTimes, knotTimes, sortActive, sortKnots, anyUnstorable, nanDefault, equalStarts, equalKnots, badDefaultMark}
-use Rattle.definitions.specs.Explicit.{ExplicitFields, activation, knot, explicitSet, explicit1, explicit2, isClipNumber, explicit3, explicitNumber}
+use Rattle.definitions.specs.Explicit.{ExplicitFields, activation, knot, explicitSet, explicit1, explicit2, explicit3, explicitNumber}
 use Rattle.set_laws.specs.Tests.{or-false, not-false, passed}
 use Rattle.set_laws.specs.Every.{Every, every-map, any-not-every, every-to-map, length-zip, every-zip-left, every-zip-right}
 use Rattle.set_laws.specs.Places.{Fits}

@@ -1,0 +1,134 @@
+-- `clip::ClipSet::retime_stage_times` meets its contract: 2 for its numbers, the identity, or the moved lists. Assumes nothing.
+use mathlib.Core.Path.{_≡_, sym, subst, _∙_}
+use mathlib.Core.Bool.{true}
+use native.Mathlib.Omega.{arith}
+use borrow.Author.Needs.{needs}
+use lib.Dec.{T}
+use lib.ListN.{length-take}
+use lib.Ieee.Scale.{finite}
+use Rattle.set_laws.specs.Places.{Fits}
+use Rattle.clip.proofs.Answers.{untrue, holding}
+use Rattle.clip.proofs.Packing.{lent}
+use Rattle.clip.proofs.Retimed.{retime-refuses, retime-identity, retime-settles}
+use Rattle.clip.proofs.ClipSet.retime_stage_times.Statement.{statement}
+use Rattle.clip.proofs.ClipSet.retime_stage_times.Tie as tie
+
+offset-finite : (c : tie.Else1) → finite (c .before .before .args .o .offset) ≡ true
+offset-finite c = holding _ _ (c .before .is-finite .ensures) (c .if1 .left)
+
+scale-finite : (c : tie.Else2) → finite (c .before .before .before .before .args .o .scale) ≡ true
+scale-finite c = holding _ _ (c .before .is-finite2 .ensures) (c .if2 .left)
+
+-- what owning an `f64` tells: the format holds it
+fitting : (c : tie.Start) → Fits (c .args .o .scale)
+fitting c = subst T (sym (c .good .1 .0 .1 .1 .1 .0 .1)) tt
+
+is-finite-requires : tie.Need-is-finite-requires
+is-finite-requires c κs = search needs
+
+refused-requires : tie.Need-refused-requires
+refused-requires c κs = search needs
+
+returns : tie.Need-returns
+returns c =
+    let s = c .before .before .before in
+    retime-refuses (s .args .self) (s .args .o) (c .refused .result) (rw (untrue _ _ (c .before .before .is-finite .ensures) (c .before .if1 .taken))) (c .refused .ensures)
+
+is-finite-requires-2 : tie.Need-is-finite-requires-2
+is-finite-requires-2 c κs = search needs
+
+refused-requires-2 : tie.Need-refused-requires-2
+refused-requires-2 c κs = search needs
+
+returns-2 : tie.Need-returns-2
+returns-2 c =
+    let s = c .before .before .before .before .before in
+    retime-refuses (s .args .self) (s .args .o) (c .refused2 .result) (rw (offset-finite (c .before .before .before), untrue _ _ (c .before .before .is-finite2 .ensures) (c .before .if2 .taken))) (c .refused2 .ensures)
+
+is-identity-requires : tie.Need-is-identity-requires
+is-identity-requires c κs = search needs
+
+returns-3 : tie.Need-returns-3
+returns-3 c =
+    let s = c .before .before .before .before .before .before in
+    retime-identity (s .args .self) (s .args .o) (s .pre .1) (offset-finite (c .before .before .before .before)) (scale-finite (c .before .before)) (s .pre .0) (sym (c .before .is-identity .ensures) ∙ c .if3 .taken)
+
+blank-requires : tie.Need-blank-requires
+blank-requires c κs = search needs
+
+array-borrow-prefix-times : tie.Need-array-borrow-prefix-times
+array-borrow-prefix-times c = search needs
+
+slice-aggregate-retime-lists : tie.Need-slice-aggregate-retime-lists
+slice-aggregate-retime-lists c = simp length-take (omega arith)
+
+array-borrow-prefix-numbers : tie.Need-array-borrow-prefix-numbers
+array-borrow-prefix-numbers c = search needs
+
+slice-aggregate-retime-lists-2 : tie.Need-slice-aggregate-retime-lists-2
+slice-aggregate-retime-lists-2 c = simp length-take (omega arith)
+
+array-borrow-prefix-xs : tie.Need-array-borrow-prefix-xs
+array-borrow-prefix-xs c = search needs
+
+slice-aggregate-retime-lists-3 : tie.Need-slice-aggregate-retime-lists-3
+slice-aggregate-retime-lists-3 c = simp length-take (omega arith)
+
+array-borrow-prefix-ys : tie.Need-array-borrow-prefix-ys
+array-borrow-prefix-ys c = search needs
+
+slice-aggregate-retime-lists-4 : tie.Need-slice-aggregate-retime-lists-4
+slice-aggregate-retime-lists-4 c = simp length-take (omega arith)
+
+array-borrow-prefix-blocks : tie.Need-array-borrow-prefix-blocks
+array-borrow-prefix-blocks c = search needs
+
+slice-aggregate-retime-lists-5 : tie.Need-slice-aggregate-retime-lists-5
+slice-aggregate-retime-lists-5 c = simp length-take (omega arith)
+
+retime-lists-requires : tie.Need-retime-lists-requires
+retime-lists-requires c κs =
+    let s = c .before .before .before .before .before .before .before .before .before .before .before .before .before .before .before .before .before .before .before .before in
+    let a = s .args .self in
+    let b = c .before .before .before .before .before .before .before .before .before .before .blank in (
+      s .pre .0,
+      record {
+        times = lent 256 (a .active .count) (b .result .times) (b .ensures .times) (s .pre .0 .active .few);
+        numbers = lent 256 (a .active .count) (b .result .numbers) (b .ensures .numbers) (s .pre .0 .active .few);
+        xs = lent 512 (a .knots .count) (b .result .xs) (b .ensures .xs) (s .pre .0 .knots .few);
+        ys = lent 512 (a .knots .count) (b .result .ys) (b .ensures .ys) (s .pre .0 .knots .few);
+        blocks = lent 256 (a .blocks .count) (b .result .blocks) (b .ensures .blocks) (s .pre .0 .blocks .few);
+      },
+    )
+
+returns-4 : tie.Need-returns-4
+returns-4 c =
+    let s = c .before .before .before .before .before .before .before .before .before .before .before .before .before .before .before .before .before .before .before .before .before .before .before .before .before .before in
+    let i = c .before .before .before .before .before .before .before .before .before .before .before .before .before .before .before .before .before .before .before .before in
+    retime-settles (s .args .self) (s .args .o) (s .pre .1) (offset-finite (i .before .before .before .before)) (scale-finite (i .before .before)) (c .before .before .before .before .before .retime-lists .result) (fitting s) (sym (i .before .is-identity .ensures) ∙ i .if3 .left) (c .before .before .before .before .before .retime-lists .ensures)
+
+pub retime-stage-times-spec : {M : Type 1} → statement M
+retime-stage-times-spec =
+    tie.close
+    (tie.spec
+    is-finite-requires
+    refused-requires
+    returns
+    is-finite-requires-2
+    refused-requires-2
+    returns-2
+    is-identity-requires
+    returns-3
+    blank-requires
+    array-borrow-prefix-times
+    slice-aggregate-retime-lists
+    array-borrow-prefix-numbers
+    slice-aggregate-retime-lists-2
+    array-borrow-prefix-xs
+    slice-aggregate-retime-lists-3
+    array-borrow-prefix-ys
+    slice-aggregate-retime-lists-4
+    array-borrow-prefix-blocks
+    slice-aggregate-retime-lists-5
+    retime-lists-requires
+    returns-4)

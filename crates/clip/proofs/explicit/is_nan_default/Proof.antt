@@ -1,0 +1,26 @@
+-- `clip::explicit::is_nan_default` meets its contract. Assumes nothing.
+use Prim.Native.Nat.{ℕ, _-_, _≤_, _<_}
+use mathlib.Core.Path.{_≡_, refl, sym, ap, ap₂, subst, _∙_}
+use mathlib.Core.Bool.{Bool, true, false, not}
+use mathlib.Core.List.{List, map}
+use native.Mathlib.Omega.{arith}
+use borrow.Author.Needs.{needs}
+use borrow.Author.Tests.{lt-ltb, le-ltb, eq-eqb, ne-eqb}
+use lib.ListN.{length, getD, drop, length-set, length-map}
+use lib.Ieee.{Float, nan}
+use denote.Ref.{now}
+use Rattle.definitions.specs.ClipSet.{nanDefault}
+use Rattle.clip.proofs.Answers.{differs-is}
+use Rattle.clip.proofs.explicit.is_nan_default.Statement.{statement}
+use Rattle.clip.proofs.explicit.is_nan_default.Tie as tie
+
+returns : tie.Need-returns
+unfolding nanDefault
+returns c = rw (eq-eqb _ _ (c .before .if1 .taken)) (differs-is (c .before .before .before .args .default .value))
+
+returns-2 : tie.Need-returns-2
+unfolding nanDefault
+returns-2 c = rw (ne-eqb _ _ (c .if1 .left))
+
+pub is-nan-default-spec : {M : Type 1} → statement M
+is-nan-default-spec = tie.close (tie.spec returns returns-2)

@@ -1,0 +1,86 @@
+-- `clip::storage::pack_active` meets its contract: the first i entries are written. Assumes nothing.
+use Prim.Native.Nat.{_-_}
+use mathlib.Core.Path.{_≡_, sym, _∙_}
+use native.Mathlib.Omega.{arith}
+use borrow.Author.Needs.{needs}
+use lib.ListN.{length, length-set}
+use lib.Ieee.{nan}
+use denote.Ref.{now}
+use Rattle.set_laws.specs.Every.{zip-at}
+use Rattle.definitions.specs.ClipSet.{maxActive}
+use Rattle.cell_laws.specs.Unpacked.{start, activeOf, zip-length}
+use Rattle.lists.specs.Filled.{Filled, fill-start, fill-next}
+use Rattle.clip.proofs.Packing.{packed}
+use Rattle.clip.proofs.storage.pack_active.Statement.{statement}
+use Rattle.clip.proofs.storage.pack_active.Tie as tie
+
+abbrev Inv-loop : tie.InvT-loop
+Inv-loop times clips items₀ n i₀ items i = Filled (activeOf times clips) items i × (length items ≡ maxActive)
+
+abbrev μ-loop : tie.MeasureT-loop
+μ-loop times clips items₀ n i₀ items i = n - i
+
+no-active-requires : tie.Need-no-active-requires Inv-loop μ-loop
+no-active-requires c κs = search needs
+
+loop-holds : tie.Need-loop-holds Inv-loop μ-loop
+loop-holds c =
+    let s = c .before .before .before .before in
+    let n = zip-length start (now (s .args .times)) (now (s .args .clips)) (s .pre .0) in
+    (fill-start (activeOf (now (s .args .times)) (now (s .args .clips))) (c .before .no-active .result .items) (omega (arith, c .before .no-active .ensures .room .long, s .pre .1)), c .before .no-active .ensures .room .long)
+
+mul-t8 : tie.Need-mul-t8 Inv-loop μ-loop
+mul-t8 c = omega arith
+
+shared-slice-read-t10 : tie.Need-shared-slice-read-t10 Inv-loop μ-loop
+shared-slice-read-t10 c = omega arith
+
+mul-t11 : tie.Need-mul-t11 Inv-loop μ-loop
+mul-t11 c = omega arith
+
+shared-slice-read-t13 : tie.Need-shared-slice-read-t13 Inv-loop μ-loop
+shared-slice-read-t13 c = omega arith
+
+mul-items : tie.Need-mul-items Inv-loop μ-loop
+mul-items c = omega arith
+
+array-set-from-items : tie.Need-array-set-from-items Inv-loop μ-loop
+array-set-from-items c = omega arith
+
+add-i : tie.Need-add-i Inv-loop μ-loop
+add-i c = omega arith
+
+loop-less : tie.Need-loop-less Inv-loop μ-loop
+loop-less c = omega arith
+
+loop-again : tie.Need-loop-again Inv-loop μ-loop
+loop-again c =
+    let k = c .before .before .before .loop in
+    let s = c .before .before .before .before .before .before .before .before in
+    let n = zip-length start (now (s .args .times)) (now (s .args .clips)) (s .pre .0) in
+    (fill-next (activeOf (now (s .args .times)) (now (s .args .clips))) (k .items) (k .i) _ (start nan 0) (k .inv .0) (omega arith) (sym (zip-at start (now (s .args .times)) (now (s .args .clips)) (k .i) nan 0 (start nan 0) (omega arith) (omega arith))), length-set (k .items) (k .i) _ ∙ k .inv .1)
+
+returns : tie.Need-returns Inv-loop μ-loop
+returns c =
+    let k = c .before .loop in
+    let s = c .before .before .before .before .before .before in
+    packed maxActive (activeOf (now (s .args .times)) (now (s .args .clips))) (k .items) _ (k .i) (k .inv .0) (k .inv .1) (zip-length start (now (s .args .times)) (now (s .args .clips)) (s .pre .0)) (omega arith)
+
+pub pack-active-spec : {M : Type 1} → statement M
+pack-active-spec =
+    tie.close
+    (tie.spec
+    Inv-loop
+    μ-loop
+    no-active-requires
+    loop-holds
+    mul-t8
+    shared-slice-read-t10
+    mul-t11
+    shared-slice-read-t13
+    mul-items
+    array-set-from-items
+    add-i
+    loop-less
+    loop-again
+    returns)

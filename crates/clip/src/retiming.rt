@@ -1,0 +1,73 @@
+// Retiming: the Rust's `retime_stage_times`. The lists of a set are moved in lists that are lent for it, and settle as any others.
+use crate::ClipSet;
+use crate::Parsed;
+use crate::settling;
+use crate::storage;
+use definitions::LayerOffset;
+use definitions::Manifest;
+ghost use mathlib.Core.Path.{_≡_};
+ghost use Rattle.definitions.specs.Retime.{isIdentity, moved};
+ghost use Rattle.cell_laws.specs.Unpacked.{setOf};
+ghost use Rattle.clip.specs.Holding.{Held, clipSetOf, manifestOf};
+ghost use Rattle.clip.specs.Settling.{Settles};
+ghost use Rattle.clip.specs.Retiming.{Spacious, movedAndSorted};
+
+// Tested, since to apply it would make 0.0 of -0.0.
+pub fn is_identity(o: LayerOffset) -> bool
+    ensures { λ r. ⌜ r ≡ isIdentity o ⌝ }
+{
+    if o.offset == 0.0 {
+        return o.scale == 1.0;
+    }
+    false
+}
+
+// The lists of a set, their stage times moved.
+fn unpack_moved(
+    set: ClipSet,
+    o: LayerOffset,
+    times: &mut [f64],
+    numbers: &mut [u64],
+    xs: &mut [f64],
+    ys: &mut [f64],
+    blocks: &mut [f64],
+)
+    requires { ⌜ Held set ⌝ ∗ ⌜ Spacious set (now times) (now numbers) (now xs) (now ys) (now blocks) ⌝ }
+    ensures { λ _. ⌜ setOf (set .clips) (now (times .exit)) (now (numbers .exit)) (now (xs .exit)) (now (ys .exit)) (now (blocks .exit)) (manifestOf set) ≡ moved o (clipSetOf set) ⌝ }
+{
+    let active = set.active;
+    let knots = set.knots;
+    let held = set.blocks;
+    storage::unpack_active(active, times, numbers);
+    storage::unpack_knots(knots, xs, ys);
+    storage::unpack_blocks(held, blocks);
+    lists::writing::move_times(times, o);
+    lists::writing::move_times(xs, o);
+    lists::writing::move_times(blocks, o);
+}
+
+// Only a negative scale turns the order.
+pub fn retime_lists(
+    set: ClipSet,
+    o: LayerOffset,
+    times: &mut [f64],
+    numbers: &mut [u64],
+    xs: &mut [f64],
+    ys: &mut [f64],
+    blocks: &mut [f64],
+) -> Parsed
+    requires { ⌜ Held set ⌝ ∗ ⌜ Spacious set (now times) (now numbers) (now xs) (now ys) (now blocks) ⌝ }
+    ensures { λ r. ⌜ Settles (movedAndSorted o (clipSetOf set)) r ⌝ }
+{
+    unpack_moved(set, o, times, numbers, xs, ys, blocks);
+    let clips = set.clips;
+    let default = set.default;
+    let manifest = Manifest {
+        default,
+        interpolate: set.interpolate,
+    };
+    if o.scale < 0.0 {
+        return settling::sort_and_settle(clips, times, numbers, xs, ys, blocks, manifest);
+    }
+    settling::settle(clips, times, numbers, xs, ys, blocks, manifest)
+}

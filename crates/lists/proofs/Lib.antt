@@ -1,0 +1,4 @@
+-- Laws that belong to no one function.
+pub mod ClipTimes
+pub mod Neighbours
+pub mod Sorts

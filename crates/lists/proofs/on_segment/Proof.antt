@@ -1,0 +1,19 @@
+-- `lists::on_segment` meets its contract. Assumes nothing.
+use borrow.Author.Needs.{needs}
+use Rattle.definitions.specs.Timing.{onSegment}
+use Rattle.lists.proofs.on_segment.Statement.{statement}
+use Rattle.lists.proofs.on_segment.Tie as tie
+
+returns : tie.Need-returns
+unfolding onSegment
+returns c = rw (c .if1 .taken)
+
+lerp-requires : tie.Need-lerp-requires
+lerp-requires c κs = search needs
+
+returns-2 : tie.Need-returns-2
+unfolding onSegment
+returns-2 c = rw (c .before .if1 .left) (c .lerp .ensures)
+
+pub on-segment-spec : {M : Type 1} → statement M
+on-segment-spec = tie.close (tie.spec returns lerp-requires returns-2)

@@ -1,0 +1,28 @@
+// Lists written over lent ones of their length.
+use definitions::LayerOffset;
+ghost use mathlib.Core.Path.{_≡_};
+ghost use mathlib.Core.List.{map};
+ghost use lib.ListN.{length};
+ghost use Rattle.definitions.specs.Retime.{apply};
+
+pub fn copy(from: &[f64], to: &mut [f64])
+    requires { ⌜ length (now to) ≡ length (now from) ⌝ }
+    ensures { λ _. ⌜ now (to .exit) ≡ now (from .entry) ⌝ }
+{
+    let mut i: usize = 0;
+    while i < from.len() {
+        to[i] = from[i];
+        i += 1;
+    }
+}
+
+// Each time becomes offset + scale·time, two roundings: the Rust's `LayerOffset::apply`.
+pub fn move_times(times: &mut [f64], o: LayerOffset)
+    ensures { λ _. ⌜ now (times .exit) ≡ map (apply o) (now (times .entry)) ⌝ }
+{
+    let mut i: usize = 0;
+    while i < times.len() {
+        times[i] = o.offset + o.scale * times[i];
+        i += 1;
+    }
+}

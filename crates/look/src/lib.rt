@@ -1,0 +1,131 @@
+// A clip's samples, seen through a look over the lent lists by the clip's two ends.
+use definitions::Answer;
+ghost use mathlib.Core.Path.{_≡_};
+ghost use Prim.Native.Nat.{_+_};
+ghost use Rattle.definitions.specs.ClipSet.{clip};
+ghost use Rattle.definitions.specs.Samples.{heldPlace};
+ghost use Rattle.look.specs.Reads.{part, Searchable, Inside, Readable, heldIs, markedAt, heldAnswer};
+
+// The borrow checker covers no function over a struct that holds references, so those below only take the look apart,
+// and leave the work to a covered function of plain lists. Each list has a lifetime of its own, as its lender has.
+pub struct Look<'t, 'v, 'm> {
+    pub times: &'t [f64],
+    pub values: &'v [f64],
+    pub marks: &'m [u8],
+    pub begin: usize,
+    pub end: usize,
+}
+
+// The place of a held reading, counted from the clip's first sample; nothing in a clip without samples.
+pub enum Held {
+    At(usize),
+    Nothing,
+}
+
+// The held reading at the clip time `t`, of the times from `begin` to `end`.
+fn held_place(times: &[f64], begin: usize, end: usize, t: f64) -> Held
+    requires { ⌜ Searchable (now times) begin end ⌝ }
+    ensures { λ r. ⌜ heldIs r ≡ heldPlace (part (now (times .entry)) begin end) (clip t) ⌝ }
+{
+    if begin == end {
+        return Held::Nothing;
+    }
+    Held::At(lists::last_at_most(&times[begin..end], t))
+}
+
+// What the sample at a place behind `begin` says. A block read is a reading.
+fn marked_at(values: &[f64], marks: &[u8], begin: usize, place: usize) -> Answer
+    requires { ⌜ Inside (now values) (now marks) (begin + place) ⌝ }
+    ensures { λ r. ⌜ r ≡ markedAt (now (values .entry)) (now (marks .entry)) (begin + place) ⌝ }
+{
+    let at = begin + place;
+    if marks[at] == 0 {
+        return Answer::Value(values[at]);
+    }
+    Answer::Blocked
+}
+
+// A look at the samples from `begin` to `end`.
+pub fn over<'t, 'v, 'm>(
+    times: &'t [f64],
+    values: &'v [f64],
+    marks: &'m [u8],
+    begin: usize,
+    end: usize,
+) -> Look<'t, 'v, 'm>
+    ensures { λ r. ⌜ r ≡ record { times = times .entry; values = values .entry; marks = marks .entry; begin = begin; end = end } ⌝ }
+{
+    Look {
+        times,
+        values,
+        marks,
+        begin,
+        end,
+    }
+}
+
+impl<'t, 'v, 'm> Look<'t, 'v, 'm> {
+    // The place of the held reading at the clip time `t`.
+    pub fn place(self, t: f64) -> Held
+        requires { ⌜ Searchable (now (self .times)) (self .begin) (self .end) ⌝ }
+        ensures { λ r. ⌜ heldIs r ≡ heldPlace (part (now (self .entry .times)) (self .entry .begin) (self .entry .end)) (clip t) ⌝ }
+    {
+        held_place(self.times, self.begin, self.end, t)
+    }
+
+    // What the sample at a place of the clip says.
+    pub fn answer(self, place: usize) -> Answer
+        requires { ⌜ Inside (now (self .values)) (now (self .marks)) (self .begin + place) ⌝ }
+        ensures { λ r. ⌜ r ≡ markedAt (now (self .entry .values)) (now (self .entry .marks)) (self .entry .begin + place) ⌝ }
+    {
+        marked_at(self.values, self.marks, self.begin, place)
+    }
+}
+
+// The place of the held reading at the clip time `t`, in the clip from `begin` to `end`.
+pub fn place_in(
+    times: &[f64],
+    values: &[f64],
+    marks: &[u8],
+    begin: usize,
+    end: usize,
+    t: f64,
+) -> Held
+    requires { ⌜ Searchable (now times) begin end ⌝ }
+    ensures { λ r. ⌜ heldIs r ≡ heldPlace (part (now (times .entry)) begin end) (clip t) ⌝ }
+{
+    over(times, values, marks, begin, end).place(t)
+}
+
+// What the sample at a place of the clip from `begin` to `end` says.
+pub fn answer_in(
+    times: &[f64],
+    values: &[f64],
+    marks: &[u8],
+    begin: usize,
+    end: usize,
+    place: usize,
+) -> Answer
+    requires { ⌜ Inside (now values) (now marks) (begin + place) ⌝ }
+    ensures { λ r. ⌜ r ≡ markedAt (now (values .entry)) (now (marks .entry)) (begin + place) ⌝ }
+{
+    over(times, values, marks, begin, end).answer(place)
+}
+
+// A clip's held reading at the clip time `t`: what its sample says, and absent in a clip without samples.
+pub fn read_clip(
+    times: &[f64],
+    values: &[f64],
+    marks: &[u8],
+    begin: usize,
+    end: usize,
+    t: f64,
+) -> Answer
+    requires { ⌜ Readable (now times) (now values) (now marks) begin end ⌝ }
+    ensures { λ r. ⌜ r ≡ heldAnswer (now (values .entry)) (now (marks .entry)) begin (heldPlace (part (now (times .entry)) begin end) (clip t)) ⌝ }
+{
+    let Held::At(place) = place_in(times, values, marks, begin, end, t) else {
+        return Answer::Absent;
+    };
+    answer_in(times, values, marks, begin, end, place)
+}

@@ -1,0 +1,47 @@
+-- `names::put_name` meets its contract: the three parts, one after the other. Assumes nothing.
+use borrow.Author.Needs.{needs}
+use mathlib.Core.Path.{ap}
+use Prim.Native.Nat.{ℕ, _+_}
+use Rattle.names.specs.Body.{bodyOf}
+use Rattle.names.proofs.NameLaws.{name-put}
+use Rattle.names.proofs.put_name.Statement.{statement}
+use Rattle.names.proofs.put_name.Tie as tie
+
+body-length-requires : tie.Need-body-length-requires
+body-length-requires c κs = search needs
+
+add-rest : tie.Need-add-rest
+add-rest c = search needs
+
+put-bytes-requires : tie.Need-put-bytes-requires
+put-bytes-requires c κs = search needs
+
+put-body-requires : tie.Need-put-body-requires
+put-body-requires c κs = search needs
+
+put-bytes-requires-2 : tie.Need-put-bytes-requires-2
+put-bytes-requires-2 c κs = search needs
+
+same-length : tie.Need-same-length
+same-length c = search needs
+
+returns : tie.Need-returns
+returns c =
+    let d = c .before .before .before .before .before .before in
+    let b = d .before .before .before .before in
+    let n = b .before .before in
+    let s = n .before .before .before in
+    name-put (s .args .out .now) (s .args .template .now) (s .args .p) (bodyOf (s .args .b)) (s .pre .0 .0) (s .pre .0 .1) (s .pre .1 .0) _ _ _ _
+    (b .put-bytes .ensures) (d .put-body .ensures) (ap (λ (k : ℕ). s .args .p .first + k) (n .body-length .ensures)) (c .before .before .put-bytes2 .ensures)
+
+pub put-name-spec : {M : Type 1} → statement M
+put-name-spec =
+    tie.close
+    (tie.spec
+    body-length-requires
+    add-rest
+    put-bytes-requires
+    put-body-requires
+    put-bytes-requires-2
+    same-length
+    returns)

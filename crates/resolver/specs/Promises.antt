@@ -1,0 +1,105 @@
+-- What each operation promises: its number for every argument, what stands after it, what it replies, and what every lent list holds. Assumes nothing.
+use mathlib.Core.Path.{_≡_}
+use mathlib.Core.Bool.{Bool}
+use mathlib.Core.Option.{Option, none, some}
+use Prim.Native.Nat.{ℕ}
+use Rattle.definitions.specs.declared.LayerOffset.{LayerOffset}
+use Rattle.definitions.specs.declared.StageTime.{StageTime}
+use Rattle.definitions.specs.declared.ClipTime.{ClipTime}
+use Rattle.definitions.specs.Questions.{Reply, refused, replied, askActiveClip, askClipTime, askValue, askUntimed}
+use Rattle.definitions.specs.declared.Answer.{Answer}
+use Rattle.definitions.specs.StageSamples as Stage
+use Rattle.value.specs.Untimed.{stateIs}
+use Rattle.definitions.specs.ClipSet.{noSet, standing}
+use Rattle.definitions.specs.Explicit.{ExplicitFields, explicitNumber}
+use Rattle.definitions.specs.Template.{TemplateFields, templateNumber}
+use Rattle.definitions.specs.Retime.{retimeNumber}
+use Rattle.definitions.specs.Samples.{Samples}
+use Rattle.definitions.specs.Track.{Outputs}
+use Rattle.definitions.specs.Calls as calls
+use Rattle.definitions.specs.Calls.{explicit, template, retime, step, accepted}
+use Rattle.set_laws.specs.Sound.{Sound}
+use Rattle.clip.specs.declared.Parsed.{Parsed}
+use Rattle.clip.specs.Holding.{clipSetOf, Held}
+use Rattle.resolver.specs.declared.Resolver.{Resolver}
+use Rattle.resolver.specs.declared.Accepted.{Accepted}
+use Rattle.resolver.specs.declared.ClipReply.{ClipReply}
+use Rattle.resolver.specs.declared.ClipReply.the-variants.{Clip, NoClip, Refused as ClipRefused}
+use Rattle.resolver.specs.declared.TimeReply.{TimeReply}
+use Rattle.resolver.specs.declared.TimeReply.the-variants.{Time, Refused as TimeRefused}
+use Rattle.resolver.specs.declared.ValueReply.{ValueReply}
+use Rattle.resolver.specs.declared.ValueReply.the-variants.{Answered, Refused as ValueRefused}
+use Rattle.resolver.specs.declared.UntimedReply.{UntimedReply}
+use Rattle.resolver.specs.declared.UntimedReply.the-variants.{Answered as Told, Refused as UntimedRefused}
+use Rattle.resolver.specs.State.{model, Made}
+
+-- ---- calls that may change what stands
+
+-- "a fresh desk": no set stands
+pub record Begins (d : Resolver) : Type 0 where
+  pub empty : model d ≡ noSet
+  pub made : Made d
+
+pub record Accepts (d : Resolver) (f : ExplicitFields) (r : Accepted) : Type 0 where
+  pub number : r .number ≡ explicitNumber f
+  pub after : model (r .resolver) ≡ step (model d) (explicit f)
+  pub made : Made (r .resolver)
+
+pub record Expands (d : Resolver) (f : TemplateFields) (r : Accepted) : Type 0 where
+  pub number : r .number ≡ templateNumber f
+  pub after : model (r .resolver) ≡ step (model d) (template f)
+  pub made : Made (r .resolver)
+
+pub record Retimes (d : Resolver) (o : LayerOffset) (r : Accepted) : Type 0 where
+  pub number : r .number ≡ retimeNumber (model d) o
+  pub after : model (r .resolver) ≡ step (model d) (retime o)
+  pub made : Made (r .resolver)
+
+-- ---- questions: an enum's cases are 01's numbers and values
+
+abbrev pub clipReply : ClipReply → Reply (Option ℕ)
+clipReply (Clip c) = replied (some c)
+clipReply NoClip = replied none
+clipReply (ClipRefused n) = refused n
+
+abbrev pub timeReply : TimeReply → Reply ClipTime
+timeReply (Time t) = replied t
+timeReply (TimeRefused n) = refused n
+
+abbrev pub TellsClip : Resolver → StageTime → ClipReply → Type 0
+TellsClip d t r = clipReply r ≡ askActiveClip (model d) t
+
+abbrev pub TellsTime : Resolver → StageTime → TimeReply → Type 0
+TellsTime d t r = timeReply r ≡ askClipTime (model d) t
+
+abbrev pub valueReply : ValueReply → Reply Answer
+valueReply (Answered a) = replied a
+valueReply (ValueRefused n) = refused n
+
+abbrev pub untimedReply : UntimedReply → Reply Stage.ValueState
+untimedReply (Told s) = replied (stateIs s)
+untimedReply (UntimedRefused n) = refused n
+
+abbrev pub TellsValue : Resolver → Samples → StageTime → ValueReply → Type 0
+TellsValue d s t r = valueReply r ≡ askValue (model d) s t
+
+abbrev pub TellsUntimed : Resolver → Samples → UntimedReply → Type 0
+TellsUntimed d s r = untimedReply r ≡ askUntimed (model d) s
+
+-- ---- the bake
+
+-- "20, 1, 2, 9, 22", the head and the count, and every lent list after it: those of the one track of the standing set's value
+abbrev pub BakesTrack : Resolver → Samples → Outputs → Reply calls.Baked → Outputs → Type 0
+BakesTrack d s before r now = calls.Bakes (model d) s before r now
+
+-- ---- within: a parsed set takes its place, or what stood still stands
+
+-- its arrays are whole, and if no number refuses it, it is well-formed
+pub record Installable (p : Parsed) : Type 0 where
+  pub held : Held (p .set)
+  pub sound : p .number ≡ 0 → Sound (clipSetOf (p .set))
+
+pub record Installs (d : Resolver) (p : Parsed) (retimed : Bool) (r : Accepted) : Type 0 where
+  pub number : r .number ≡ p .number
+  pub after : model (r .resolver) ≡ accepted (p .number) (model d) (standing retimed (clipSetOf (p .set)))
+  pub made : Made (r .resolver)

@@ -1,0 +1,14 @@
+-- A resolver's state, 01's "desk", and what of it stands by the calls: document 01's plain desk, the `Model` of the definitions. Assumes nothing.
+use mathlib.Core.Bool.{cond}
+use Rattle.definitions.specs.ClipSet.{Model, noSet, standing}
+use Rattle.set_laws.specs.SoundCalls.{SoundModel}
+use Rattle.clip.specs.Holding.{clipSetOf, Held}
+use Rattle.resolver.specs.declared.Resolver.{Resolver}
+
+abbrev pub model : Resolver → Model
+model d = cond (d .stands) (standing (d .retimed) (clipSetOf (d .set))) noSet
+
+-- "A desk or set handed in by value is one that an operation made": its arrays are whole, and its set is well-formed. Every operation ensures it of what it hands back.
+pub record Made (d : Resolver) : Type 0 where
+  pub held : Held (d .set)
+  pub sound : SoundModel (model d)

@@ -1,0 +1,27 @@
+-- Demand 3 for this resolver, "one claim about the whole list": the statement of the definitions, `WholeList`, where a call moves the state and a bake replies
+-- by the very promises that the operations' `ensures` cite. Assumes nothing.
+use mathlib.Core.Path.{_≡_}
+use Rattle.definitions.specs.Samples.{Samples}
+use Rattle.definitions.specs.Track.{Outputs}
+use Rattle.definitions.specs.Questions.{Reply}
+use Rattle.definitions.specs.Calls as calls
+use Rattle.definitions.specs.Calls.{Call, explicit, template, retime, bake}
+use Rattle.resolver.specs.declared.Resolver.{Resolver}
+use Rattle.resolver.specs.declared.Accepted.{Accepted}
+use Rattle.resolver.specs.State.{Made}
+use Rattle.resolver.specs.Promises.{Begins, Accepts, Expands, Retimes, BakesTrack}
+
+-- The call, given the state d, leaves e: what the operation's `ensures` says where its `requires` holds. A bake hands back no state: d is left.
+abbrev pub Moves : Call → Resolver → Resolver → Type 0
+Moves (explicit f) d e = (r : Accepted) × (Made d → Accepts d f r) × (r .resolver ≡ e)
+Moves (template f) d e = (r : Accepted) × (Made d → Expands d f r) × (r .resolver ≡ e)
+Moves (retime o) d e = (r : Accepted) × (Made d → Retimes d o r) × (r .resolver ≡ e)
+Moves (bake s o) d e = d ≡ e
+
+-- A bake of the samples s, given d and the lists o, replies r and leaves the lists p.
+abbrev pub Replies : Resolver → Samples → Outputs → Reply calls.Baked → Outputs → Type 0
+Replies d s o r p = Made d → BakesTrack d s o r p
+
+-- From a fresh state, after any list of calls, refused ones included.
+abbrev pub Demand3 : Type 0
+Demand3 = (d : Resolver) → Begins d → calls.WholeList Resolver d Moves Replies

@@ -1,0 +1,255 @@
+// A resolver holds one clip set by value, or none, and answers questions about it: 01's desk.
+mod asked;
+
+use clip::ActiveClip;
+use clip::ClipSet;
+use clip::Parsed;
+use definitions::Answer;
+use definitions::ClipTime;
+use definitions::Default;
+use definitions::LayerOffset;
+use definitions::StageTime;
+use track::bake::Baked;
+use value::untimed::ValueState;
+ghost use mathlib.Core.Path.{_≡_};
+ghost use Rattle.cell_laws.specs.Unpacked.{samplesOf};
+ghost use Rattle.clip.specs.Parsing.{explicitFields};
+ghost use Rattle.clip.specs.Parsing.{manifest};
+ghost use Rattle.track.specs.Bakes.{outputs, bakedReply};
+ghost use Rattle.resolver.specs.State.{Made};
+ghost use Rattle.resolver.specs.Promises.{Begins, Accepts, Retimes, BakesTrack, TellsClip, TellsTime, TellsValue, TellsUntimed, Installable, Installs};
+
+#[repr(C)]
+pub struct Resolver {
+    pub stands: bool,
+    pub retimed: bool,
+    pub set: ClipSet,
+}
+
+// What a call that may change the state replies: the number that refuses it, or 0, and the state after it.
+#[repr(C)]
+pub struct Accepted {
+    pub number: u8,
+    pub resolver: Resolver,
+}
+
+pub enum ClipReply {
+    Clip(u64),
+    NoClip,
+    Refused(u8),
+}
+
+pub enum TimeReply {
+    Time(ClipTime),
+    Refused(u8),
+}
+
+pub enum ValueReply {
+    Answered(Answer),
+    Refused(u8),
+}
+
+pub enum UntimedReply {
+    Answered(ValueState),
+    Refused(u8),
+}
+
+impl Resolver {
+    // No set stands.
+    pub fn fresh() -> Resolver
+        ensures { λ r. ⌜ Begins r ⌝ }
+    {
+        let set = clip::empty();
+        Resolver {
+            stands: false,
+            retimed: false,
+            set,
+        }
+    }
+
+    // The set of the fields takes the place of the standing one, unless a number refuses it.
+    pub fn accept(
+        self,
+        clips: u64,
+        starts: &[f64],
+        numbers: &[f64],
+        xs: &[f64],
+        ys: &[f64],
+        blocks: &[f64],
+        default: Default,
+        interpolate: bool,
+    ) -> Accepted
+        requires { ⌜ Made self ⌝ }
+        ensures { λ r. ⌜ Accepts self (explicitFields clips (now (starts .entry)) (now (numbers .entry)) (now (xs .entry)) (now (ys .entry)) (now (blocks .entry)) (manifest default interpolate)) r ⌝ }
+    {
+        let parsed = clip::parse_set(clips, starts, numbers, xs, ys, blocks, default, interpolate);
+        install(self, parsed, false)
+    }
+
+    // The standing set moved, unless a number refuses it.
+    pub fn retime(self, o: LayerOffset) -> Accepted
+        requires { ⌜ Made self ⌝ }
+        ensures { λ r. ⌜ Retimes self o r ⌝ }
+    {
+        if !self.stands {
+            return Accepted {
+                number: 20,
+                resolver: self,
+            };
+        }
+        if self.retimed {
+            return Accepted {
+                number: 21,
+                resolver: self,
+            };
+        }
+        let set = self.set;
+        let moved = set.retime_stage_times(o);
+        install(self, moved, true)
+    }
+
+    // The clip time at a stage time, by the standing set's knots.
+    pub fn clip_time(self, t: StageTime) -> TimeReply
+        requires { ⌜ Made self ⌝ }
+        ensures { λ r. ⌜ TellsTime self t r ⌝ }
+    {
+        if !self.stands {
+            return TimeReply::Refused(20);
+        }
+        if !gf::is_finite(t.0) {
+            return TimeReply::Refused(10);
+        }
+        let set = self.set;
+        TimeReply::Time(set.map_stage_to_clip(t))
+    }
+
+    // The clip that is active at a stage time, none in a set without starts.
+    pub fn active_clip(self, t: StageTime) -> ClipReply
+        requires { ⌜ Made self ⌝ }
+        ensures { λ r. ⌜ TellsClip self t r ⌝ }
+    {
+        if !self.stands {
+            return ClipReply::Refused(20);
+        }
+        if !gf::is_finite(t.0) {
+            return ClipReply::Refused(10);
+        }
+        let set = self.set;
+        let active = set.active_clip(t);
+        match active {
+            ActiveClip::Clip(c) => ClipReply::Clip(c),
+            ActiveClip::NoClip => ClipReply::NoClip,
+        }
+    }
+
+    // The value at a stage time.
+    pub fn value(
+        self,
+        times: &[f64],
+        values: &[f64],
+        marks: &[u8],
+        ends: &[u64],
+        t: StageTime,
+    ) -> ValueReply
+        requires { ⌜ Made self ⌝ }
+        ensures { λ r. ⌜ TellsValue self (samplesOf (now (times .entry)) (now (values .entry)) (now (marks .entry)) (now (ends .entry))) t r ⌝ }
+    {
+        if !self.stands {
+            return ValueReply::Refused(20);
+        }
+        let set = self.set;
+        let number = sdf::samples_number(set.clips, times, values, marks, ends);
+        if number != 0 {
+            return ValueReply::Refused(number);
+        }
+        if !gf::is_finite(t.0) {
+            return ValueReply::Refused(10);
+        }
+        ValueReply::Answered(asked::value_of(set, times, values, marks, ends, t.0))
+    }
+
+    // Whether there is a value at all.
+    pub fn untimed(self, times: &[f64], values: &[f64], marks: &[u8], ends: &[u64]) -> UntimedReply
+        requires { ⌜ Made self ⌝ }
+        ensures { λ r. ⌜ TellsUntimed self (samplesOf (now (times .entry)) (now (values .entry)) (now (marks .entry)) (now (ends .entry))) r ⌝ }
+    {
+        if !self.stands {
+            return UntimedReply::Refused(20);
+        }
+        let set = self.set;
+        let number = sdf::samples_number(set.clips, times, values, marks, ends);
+        if number != 0 {
+            return UntimedReply::Refused(number);
+        }
+        UntimedReply::Answered(asked::untimed_of(set, times, values, marks, ends))
+    }
+
+    // The track of the standing set's value: the head and the count, and the changes written to the lent lists.
+    pub fn bake(
+        self,
+        times: &[f64],
+        values: &[f64],
+        marks: &[u8],
+        ends: &[u64],
+        outtimes: &mut [f64],
+        outvalues: &mut [f64],
+        outmarks: &mut [u8],
+    ) -> Baked
+        requires { ⌜ Made self ⌝ }
+        ensures { λ r. ⌜ BakesTrack self (samplesOf (now (times .entry)) (now (values .entry)) (now (marks .entry)) (now (ends .entry))) (outputs (now (outtimes .entry)) (now (outvalues .entry)) (now (outmarks .entry))) (bakedReply r) (outputs (now (outtimes .exit)) (now (outvalues .exit)) (now (outmarks .exit))) ⌝ }
+    {
+        if !self.stands {
+            return refused_bake(20);
+        }
+        let set = self.set;
+        let number = sdf::samples_number(set.clips, times, values, marks, ends);
+        if number != 0 {
+            return refused_bake(number);
+        }
+        asked::bake_of(
+            set,
+            times,
+            values,
+            marks,
+            ends,
+            outtimes,
+            outvalues,
+            outmarks,
+        )
+    }
+}
+
+// The parsed set stands, unless its number refuses it; then what stood still stands.
+fn install(d: Resolver, parsed: Parsed, retimed: bool) -> Accepted
+    requires { ⌜ Made d ⌝ }
+    requires { ⌜ Installable parsed ⌝ }
+    ensures { λ r. ⌜ Installs d parsed retimed r ⌝ }
+{
+    if parsed.number != 0 {
+        return Accepted {
+            number: parsed.number,
+            resolver: d,
+        };
+    }
+    let set = parsed.set;
+    let next = Resolver {
+        stands: true,
+        retimed,
+        set,
+    };
+    Accepted {
+        number: 0,
+        resolver: next,
+    }
+}
+
+fn refused_bake(number: u8) -> Baked
+    ensures { λ r. ⌜ r .number ≡ number ⌝ }
+{
+    Baked {
+        number,
+        mark: 0,
+        value: 0.0,
+        count: 0,
+    }
+}

@@ -1,0 +1,10 @@
+-- Laws that the proofs of src/ cite.
+pub mod Segments
+pub mod Firsts
+pub mod Lent
+pub mod Ways
+pub mod Likeness
+pub mod Halts
+pub mod Writing
+pub mod Fronts
+pub mod Baking

@@ -1,0 +1,268 @@
+-- One law for each way out of `direct_cell` and of `piece_of`: the cell is the one that the laws of cells name. Assumes nothing.
+use mathlib.Core.Path.{_≡_, refl, sym, ap, _∙_, subst}
+use mathlib.Core.Bool.{Bool, true, false, not, _&&_, cond, false≢true}
+use mathlib.Core.List.{List, [], _∷_}
+use mathlib.Core.Option.{none, some}
+use Prim.Native.Nat.{ℕ, _-_, _≤_, _<_}
+use native.Mathlib.Omega.{arith}
+use lib.Dec.{ltb}
+use lib.ListN.{length, getD, getElem?, take, drop, length-drop}
+use lib.Seq.{length-take-le}
+use lib.Ieee.{Float, nan, eq}
+use borrow.Author.Tests.{ltb-true, ltb-false, lt-ltb, le-ltb}
+use Rattle.definitions.specs.declared.Start.{Start}
+use Rattle.definitions.specs.declared.Manifest.{Manifest}
+use Rattle.definitions.specs.declared.Source.{Source}
+use Rattle.definitions.specs.declared.Source.the-variants.{Absent}
+use Rattle.definitions.specs.Lists.{any}
+use Rattle.definitions.specs.Doubles.{FiniteDouble}
+use Rattle.definitions.specs.ClipSet.{ClipSet, knotTimes, stage}
+use Rattle.definitions.specs.Timing.{lastAtMost, activePosition}
+use Rattle.definitions.specs.Samples.{Samples, clipBegin, clipEnd, clipTimes}
+use Rattle.definitions.specs.Value.{contributes, blockedAt, manifestDefault, gapSource, _orElse_, directSource, gathered, jump}
+use Rattle.cell_laws.specs.Knots.{lineOf}
+use Rattle.cell_laws.specs.Stretches.{severalStarts, boundaries}
+use Rattle.cell_laws.specs.Cells as Cells
+use Rattle.cell_laws.specs.Neighbours.{IsLower, IsUpper, cell-held, cell-jump, cell-below, cell-last, cell-few}
+use Rattle.cell_laws.specs.Unpacked.{Ready, setOf, samplesOf, knotsOf, start, knot-times}
+use Rattle.track.specs.declared.line.Line.{Line}
+use Rattle.track.specs.declared.cell.Cell.{Cell}
+use Rattle.track.specs.declared.cell.Cell.the-variants.{Constant, Reading}
+use Rattle.value.specs.declared.window.Bound.{Bound}
+use Rattle.value.specs.declared.window.Bounds.{Bounds}
+use Rattle.value.specs.declared.window.Bound.the-variants.{At, Nothing}
+use Rattle.value.specs.Bounds.{LowerIs, UpperIs, NeighboursAre}
+use Rattle.track.specs.Lines.{lineIs}
+use Rattle.track.specs.Pieces.{heldOf, DirectIs, PieceIs}
+use Rattle.value.specs.Reads.{ready-clip, ready-readable}
+use Rattle.track.proofs.Lent.{sound, samples, several, position, start-at}
+
+-- ---- a clip with samples, and one without
+
+module _ (s : Samples) (c : ℕ) where
+  some-part : clipBegin (s .ends) c < clipEnd (s .ends) c → clipEnd (s .ends) c ≤ length (s .times) → (x : Float) × (l : List Float) × (clipTimes s c ≡ x ∷ l)
+  unfolding clipTimes
+  some-part h k = go (take n (drop b (s .times))) long
+    where
+      b : ℕ
+      b = clipBegin (s .ends) c
+
+      n : ℕ
+      n = clipEnd (s .ends) c - clipBegin (s .ends) c
+
+      long : 0 < length (take n (drop b (s .times)))
+      long = rw (length-take-le n (drop b (s .times)) (rw (length-drop b (s .times)) (omega arith))) (omega arith)
+
+      go : (l : List Float) → 0 < length l → (x : Float) × (r : List Float) × (l ≡ x ∷ r)
+      go [] h = absurd (omega arith)
+      go (x ∷ r) h = (x, r, refl)
+
+  no-part : clipEnd (s .ends) c ≤ clipBegin (s .ends) c → clipTimes s c ≡ []
+  unfolding clipTimes
+  no-part h = let e : clipEnd (s .ends) c - clipBegin (s .ends) c ≡ 0 = omega arith in rw e (none-taken (drop (clipBegin (s .ends) c) (s .times)))
+    where
+      none-taken : (l : List Float) → take 0 l ≡ []
+      none-taken [] = refl
+      none-taken (x ∷ l) = refl
+
+-- ---- the cell of the direct reading
+
+module _ (set : ClipSet) (s : Samples) (t : Float) (p : ℕ) (at : activePosition (set .active) (stage t) ≡ p) where
+  no-start : getElem? (set .active) p ≡ none → Cells.directCell set s (stage t) ≡ Cells.constant Absent
+  unfolding Cells.directCell
+  no-start e = rw (at, e)
+
+  module _ (a : Start) (e : getElem? (set .active) p ≡ some a) where
+    reads : contributes set a ≡ true → (x : Float) (l : List Float) → clipTimes s (a .clip) ≡ x ∷ l → Cells.directCell set s (stage t) ≡ Cells.reading (a .clip) (lineOf (set .knots) t)
+    unfolding Cells.directCell
+    reads f x l g = rw (at, e, f, g)
+
+    blocked : contributes set a ≡ false → Cells.directCell set s (stage t) ≡ Cells.constant (manifestDefault set orElse gapSource set s p)
+    unfolding Cells.directCell
+    blocked f = rw (at, e, f)
+
+    empty : contributes set a ≡ true → clipTimes s (a .clip) ≡ [] → Cells.directCell set s (stage t) ≡ Cells.constant (manifestDefault set orElse gapSource set s p)
+    unfolding Cells.directCell
+    empty f g = rw (at, e, f, g)
+
+module _ {starts : List Float} {clips : List ℕ} {xs ys blocks : List Float} {m : Manifest} {times values : List Float} {marks ends : List ℕ} (R : Ready starts clips xs ys blocks m times values marks ends) (t : Float) where
+  abbrev ready : ClipSet
+  ready = setOf (length ends) starts clips xs ys blocks m
+
+  abbrev lent : Samples
+  lent = samplesOf times values marks ends
+
+  -- ---- the ways out of `direct_cell`
+
+  pub direct-absent : length starts ≡ 0 → DirectIs (setOf (length ends) starts clips xs ys blocks m) (samplesOf times values marks ends) t (Constant Absent)
+  direct-absent h = record { is = sym (no-start ready lent t (lastAtMost starts t) (position R t) (none-at starts clips h)); clip = tt }
+    where
+      none-at : (l : List Float) (k : List ℕ) → length l ≡ 0 → getElem? (setOf (length ends) l k xs ys blocks m .active) (lastAtMost starts t) ≡ none
+      none-at [] k h = unfold setOf in refl
+      none-at (x ∷ l) k h = absurd (omega arith)
+
+  module _ (p : ℕ) (at : p ≡ lastAtMost starts t) (h : p < length starts) where
+    -- the active start and its clip
+    abbrev active : Start
+    active = start (getD starts p nan) (getD clips p 0)
+
+    abbrev test : Bool
+    test = not (m .interpolate && any (λ (b : Float). eq b (getD starts p nan)) blocks)
+
+    abbrev sampled : Bool
+    sampled = ltb (clipBegin ends (getD clips p 0)) (clipEnd ends (getD clips p 0))
+
+    contributing : contributes ready active ≡ test
+    unfolding contributes blockedAt setOf
+    contributing = refl
+
+    place : activePosition (ready .active) (stage t) ≡ p
+    place = position R t ∙ sym at
+
+    pub direct-reads : (line : Line) → lineIs line ≡ lineOf (knotsOf xs ys) t
+        → (not (m .interpolate && any (λ (b : Float). eq b (getD starts p nan)) blocks) && ltb (clipBegin ends (getD clips p 0)) (clipEnd ends (getD clips p 0))) ≡ true
+        → DirectIs (setOf (length ends) starts clips xs ys blocks m) (samplesOf times values marks ends) t (Reading (getD clips p 0) line)
+    direct-reads line l e =
+        record {
+          is = ap (Cells.reading (getD clips p 0)) (l ∙ knots-are) ∙ sym (reads ready lent t p place active (start-at R p h) (contributing ∙ both .0) (part .0) (part .1) (part .2));
+          clip = below;
+        }
+      where
+        knots-are : lineOf (knotsOf xs ys) t ≡ lineOf (ready .knots) t
+        knots-are = unfold setOf in refl
+
+        below : getD clips p 0 < ready .clips
+        below = unfold setOf in ready-clip R p h
+
+        both : (test ≡ true) × (sampled ≡ true)
+        both = split test sampled e
+          where
+            split : (a b : Bool) → (a && b) ≡ true → (a ≡ true) × (b ≡ true)
+            split true b q = (refl, q)
+            split false b q = (q, absurd (false≢true q))
+
+        part : (x : Float) × (r : List Float) × (clipTimes lent (getD clips p 0) ≡ x ∷ r)
+        part = some-part lent (getD clips p 0) (ltb-true (clipBegin ends (getD clips p 0)) (clipEnd ends (getD clips p 0)) (both .1)) (ready-readable R .inside (getD clips p 0) (ready-clip R p h))
+
+    pub direct-gap : (r : Source) → r ≡ (manifestDefault (setOf (length ends) starts clips xs ys blocks m) orElse gapSource (setOf (length ends) starts clips xs ys blocks m) (samplesOf times values marks ends) p)
+        → (not (m .interpolate && any (λ (b : Float). eq b (getD starts p nan)) blocks) && ltb (clipBegin ends (getD clips p 0)) (clipEnd ends (getD clips p 0))) ≡ false
+        → DirectIs (setOf (length ends) starts clips xs ys blocks m) (samplesOf times values marks ends) t (Constant r)
+    direct-gap r q e = record { is = ap Cells.constant q ∙ sym (go test sampled refl refl e); clip = tt }
+      where
+        go : (a b : Bool) → test ≡ a → sampled ≡ b → (a && b) ≡ false → Cells.directCell ready lent (stage t) ≡ Cells.constant (manifestDefault ready orElse gapSource ready lent p)
+        go true true f g k = absurd (false≢true (sym k))
+        go true false f g k = empty ready lent t p place active (start-at R p h) (contributing ∙ f) (no-part lent (getD clips p 0) (ltb-false (clipBegin ends (getD clips p 0)) (clipEnd ends (getD clips p 0)) g))
+        go false b f g k = blocked ready lent t p place active (start-at R p h) (contributing ∙ f)
+
+  -- ---- the ways out of `piece_of`
+
+  pub piece-few : (c : Cell) (e : Bound) → length starts < 2 → DirectIs (setOf (length ends) starts clips xs ys blocks m) (samplesOf times values marks ends) t c → UpperIs xs t e
+      → PieceIs (setOf (length ends) starts clips xs ys blocks m) (samplesOf times values marks ends) t c e
+  piece-few c e h d u = record { is = d .is ∙ sym (cell-few ready lent one t); clip = d .clip; ends = subst (λ (l : List Float). UpperIs l t e) (sym knots-only) u }
+    where
+      one : severalStarts ready ≡ false
+      one = several R ∙ le-ltb 1 (length starts) (omega arith)
+
+      knots-only : boundaries ready lent (stage t) ≡ xs
+      knots-only = few ∙ (unfold setOf in knot-times xs ys (R .knots-paired))
+        where
+          few : boundaries ready lent (stage t) ≡ knotTimes (ready .knots)
+          few = unfold boundaries in rw one
+
+  module _ (ft : FiniteDouble t) (many : 1 < length starts) (p : ℕ) (at : p ≡ lastAtMost starts t) where
+    two : severalStarts ready ≡ true
+    two = several R ∙ lt-ltb 1 (length starts) many
+
+    placed : p ≡ activePosition (ready .active) (stage t)
+    placed = at ∙ sym (position R t)
+
+    bounds : gathered ready lent p ≡ boundaries ready lent (stage t)
+    unfolding boundaries
+    bounds = rw two (ap (gathered ready lent) placed)
+
+    window : gathered ready lent p ≡ gathered ready lent (activePosition (ready .active) (stage t))
+    window = ap (gathered ready lent) placed
+
+    upper : (e : Bound) → UpperIs (gathered ready lent p) t e → UpperIs (boundaries ready lent (stage t)) t e
+    upper e u = subst (λ (l : List Float). UpperIs l t e) bounds u
+
+    piece-last : (c : Cell) → DirectIs (setOf (length ends) starts clips xs ys blocks m) (samplesOf times values marks ends) t c
+        → UpperIs (gathered (setOf (length ends) starts clips xs ys blocks m) (samplesOf times values marks ends) p) t Nothing
+        → PieceIs (setOf (length ends) starts clips xs ys blocks m) (samplesOf times values marks ends) t c Nothing
+    piece-last c d u = record {
+      is = d .is ∙ sym (cell-last ready lent (sound R) (samples R) two t (ft .fitting) (subst (λ (l : List Float). UpperIs l t Nothing) window u));
+      clip = d .clip;
+      ends = upper Nothing u;
+    }
+
+    module _ (h : Float) (u : UpperIs (gathered (setOf (length ends) starts clips xs ys blocks m) (samplesOf times values marks ends) p) t (At h)) where
+      piece-below : (c : Cell) → DirectIs (setOf (length ends) starts clips xs ys blocks m) (samplesOf times values marks ends) t c
+          → LowerIs (gathered (setOf (length ends) starts clips xs ys blocks m) (samplesOf times values marks ends) p) t Nothing
+          → PieceIs (setOf (length ends) starts clips xs ys blocks m) (samplesOf times values marks ends) t c (At h)
+      piece-below c d n = record {
+        is = d .is ∙ sym (cell-below ready lent (sound R) (samples R) two t (ft .fitting) (subst (λ (l : List Float). LowerIs l t Nothing) window n));
+        clip = d .clip;
+        ends = upper (At h) u;
+      }
+
+      module _ (l : Float) (w : LowerIs (gathered (setOf (length ends) starts clips xs ys blocks m) (samplesOf times values marks ends) p) t (At l)) where
+        L : IsLower (gathered ready lent (activePosition (ready .active) (stage t))) t l
+        L = subst (λ (k : List Float). IsLower k t l) window w
+
+        U : IsUpper (gathered ready lent (activePosition (ready .active) (stage t))) t h
+        U = subst (λ (k : List Float). IsUpper k t h) window u
+
+        jumping : (b : Bool) → jump (knotsOf xs ys) l h ≡ b → jump (ready .knots) l h ≡ b
+        unfolding setOf
+        jumping b e = e
+
+        piece-jump : (c : Cell) → DirectIs (setOf (length ends) starts clips xs ys blocks m) (samplesOf times values marks ends) t c
+            → jump (knotsOf xs ys) l h ≡ true
+            → PieceIs (setOf (length ends) starts clips xs ys blocks m) (samplesOf times values marks ends) t c (At h)
+        piece-jump c d j = record {
+          is = d .is ∙ sym (cell-jump ready lent (sound R) (samples R) two t (ft .fitting) l h L U (jumping true j));
+          clip = d .clip;
+          ends = upper (At h) u;
+        }
+
+        piece-held : (r : Source) → r ≡ directSource (setOf (length ends) starts clips xs ys blocks m) (samplesOf times values marks ends) (stage l)
+            → jump (knotsOf xs ys) l h ≡ false
+            → PieceIs (setOf (length ends) starts clips xs ys blocks m) (samplesOf times values marks ends) t (Constant r) (At h)
+        piece-held r e j = record {
+          is = ap Cells.constant e ∙ sym (cell-held ready lent (sound R) (samples R) two t (ft .fitting) l h L U (jumping false j));
+          clip = tt;
+          ends = upper (At h) u;
+        }
+
+    -- by the neighbours
+
+    module _ (n : Bounds) (N : NeighboursAre (gathered (setOf (length ends) starts clips xs ys blocks m) (samplesOf times values marks ends) p) t n) where
+      pub piece-direct : (c : Cell) → heldOf (knotsOf xs ys) (n .lower) (n .upper) ≡ Nothing → DirectIs (setOf (length ends) starts clips xs ys blocks m) (samplesOf times values marks ends) t c
+          → PieceIs (setOf (length ends) starts clips xs ys blocks m) (samplesOf times values marks ends) t c (n .upper)
+      piece-direct c e d = go (n .lower) (n .upper) (N .lower) (N .upper) e
+        where
+          go : (l h : Bound) → LowerIs (gathered ready lent p) t l → UpperIs (gathered ready lent p) t h → heldOf (knotsOf xs ys) l h ≡ Nothing → PieceIs ready lent t c h
+          go Nothing Nothing w u q = piece-last c d u
+          go Nothing (At h) w u q = piece-below h u c d w
+          go (At l) Nothing w u q = piece-last c d u
+          go (At l) (At h) w u q = piece-jump h u l w c d (jumped (jump (knotsOf xs ys) l h) q)
+            where
+              jumped : (b : Bool) → cond b Nothing (At l) ≡ Nothing → b ≡ true
+              jumped true q = refl
+              jumped false q = let z : _≡_ {A = ℕ} 0 1 = cc in absurd (omega arith)
+
+      pub piece-constant : (f : Float) (r : Source) → heldOf (knotsOf xs ys) (n .lower) (n .upper) ≡ At f → r ≡ directSource (setOf (length ends) starts clips xs ys blocks m) (samplesOf times values marks ends) (stage f)
+          → PieceIs (setOf (length ends) starts clips xs ys blocks m) (samplesOf times values marks ends) t (Constant r) (n .upper)
+      piece-constant f r e d = go (n .lower) (n .upper) (N .lower) (N .upper) e
+        where
+          none-held : Nothing ≡ At f → ⊥
+          none-held q = let z : _≡_ {A = ℕ} 0 1 = cc in absurd (omega arith)
+
+          go : (l h : Bound) → LowerIs (gathered ready lent p) t l → UpperIs (gathered ready lent p) t h → heldOf (knotsOf xs ys) l h ≡ At f → PieceIs ready lent t (Constant r) h
+          go Nothing h w u q = absurd (none-held q)
+          go (At l) Nothing w u q = absurd (none-held q)
+          go (At l) (At h) w u q = let k = held (jump (knotsOf xs ys) l h) q in piece-held h u l w r (d ∙ ap (λ (x : Float). directSource ready lent (stage x)) (sym (k .1))) (k .0)
+            where
+              held : (b : Bool) → cond b Nothing (At l) ≡ At f → (b ≡ false) × (l ≡ f)
+              held true q = absurd (none-held q)
+              held false q = (refl, cc)

@@ -1,0 +1,90 @@
+-- `bake::bake` meets its contract: the changes are counted, and only where there is room for them written. Assumes nothing.
+use mathlib.Core.Path.{sym, _∙_}
+use Prim.Native.Nat.{ℕ, _≤_, min}
+use native.Mathlib.Omega.{arith}
+use borrow.Author.Tests.{not-true, not-false, leb-true, leb-false}
+use lib.Dec.{lit≤}
+use lib.ListN.{length}
+use Rattle.gf.specs.Key.{least, most}
+use Rattle.definitions.specs.ClipSet.{ClipSet}
+use Rattle.definitions.specs.Samples.{Samples}
+use Rattle.cell_laws.specs.Unpacked.{setOf, samplesOf}
+use Rattle.track.specs.Bakes.{changesOf}
+use Rattle.track.proofs.Baking.{bake-refused, bake-done}
+use borrow.Author.Needs.{needs}
+use Rattle.track.proofs.bake.bake.Statement.{statement}
+use Rattle.track.proofs.bake.bake.Tie as tie
+
+-- the set and the samples that are lent
+abbrev set : tie.Start → ClipSet
+set a = setOf (length (a .args .ends .now)) (a .args .starts .now) (a .args .clips .now) (a .args .xs .now) (a .args .ys .now) (a .args .blocks .now) (a .args .m)
+
+abbrev lent : tie.Start → Samples
+lent a = samplesOf (a .args .times .now) (a .args .values .now) (a .args .marks .now) (a .args .ends .now)
+
+abbrev entry : tie.After-has-room → tie.Start
+entry c = c .before .before .before .before .before .before .before .before .before .before .before .before .before .before
+
+abbrev count : tie.After-has-room → ℕ
+count c = length (changesOf (set (entry c)) (lent (entry c)) least most)
+
+-- the changes have room
+room : (c : tie.Else1) → count (c .before) ≤ min (length (entry (c .before) .args .outtimes .now)) (min (length (entry (c .before) .args .outvalues .now)) (length (entry (c .before) .args .outmarks .now)))
+room c =
+    let r = c .before .before .shortest .ensures in
+    let n = leb-true (count (c .before)) (c .before .before .shortest .result) (sym (c .before .has-room .ensures) ∙ not-false (c .before .has-room .result) (c .if1 .left)) in
+    omega arith
+
+shortest-requires : tie.Need-shortest-requires
+shortest-requires c κs = search needs
+
+has-room-requires : tie.Need-has-room-requires
+has-room-requires c κs = search needs
+
+returns : tie.Need-returns
+returns c =
+    let k = c .before in
+    let a = entry k in
+    let r = k .before .shortest .ensures in
+    let n = leb-false (count k) (k .before .shortest .result) (sym (k .has-room .ensures) ∙ not-true (k .has-room .result) (c .if1 .taken)) in
+    bake-refused (set a) (lent a) (a .args .outtimes .now) (a .args .outvalues .now) (a .args .outmarks .now) _ _ _ (omega arith)
+
+write-requires : tie.Need-write-requires
+write-requires c κs =
+    let e = c .before .before .before in
+    let a = entry (e .before) in
+    let h = room e in
+    (a .pre, (record { low = lit≤ tt; order = lit≤ tt; high = lit≤ tt }, record { times = omega arith; values = omega arith; marks = omega arith }))
+
+entry-at-requires : tie.Need-entry-at-requires
+entry-at-requires c κs = let a = entry (c .before .before .before .before .before .before .before .before .before .before .before) in (a .pre, (lit≤ tt, lit≤ tt))
+
+same-length : tie.Need-same-length
+same-length c = search needs
+
+same-length-2 : tie.Need-same-length-2
+same-length-2 c = search needs
+
+same-length-3 : tie.Need-same-length-3
+same-length-3 c = search needs
+
+returns-2 : tie.Need-returns-2
+returns-2 c =
+    let w = c .before .before .before .before .before .before .before in
+    let e = w .before .before .before .before in
+    let a = entry (e .before) in
+    bake-done (set a) (lent a) (a .args .outtimes .now) (a .args .outvalues .now) (a .args .outmarks .now) _ _ _ _ _ _ (room e) (c .entry-at .ensures) (w .write .ensures)
+
+pub bake-spec : {M : Type 1} → statement M
+bake-spec =
+    tie.close
+    (tie.spec
+    shortest-requires
+    has-room-requires
+    returns
+    write-requires
+    entry-at-requires
+    same-length
+    same-length-2
+    same-length-3
+    returns-2)

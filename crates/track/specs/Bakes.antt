@@ -1,0 +1,92 @@
+-- The changes of the value, what a bake promises of them, and that document 01's promise follows. Assumes nothing.
+use mathlib.Core.Path.{_≡_, refl, sym, ap, _∙_, subst}
+use mathlib.Core.Bool.{Bool}
+use mathlib.Core.List.{List, map}
+use Prim.Native.Nat.{ℕ, zero, suc, _≤_}
+use lib.ListN.{length}
+use lib.Ieee.{Float}
+use Rattle.gf.specs.Key.{least, most}
+use Rattle.definitions.specs.Lists.{writtenOver, _then_}
+use Rattle.definitions.specs.ClipSet.{ClipSet, standing}
+use Rattle.definitions.specs.Samples.{Samples, samplesNumber}
+use Rattle.definitions.specs.Value.{valueInSet}
+use Rattle.definitions.specs.Questions.{Reply, reply, roomNumber}
+use Rattle.definitions.specs.Track.{Entry, Change, Track, TrackOf, changeTimes, Outputs, slots, bakeNumber}
+use Rattle.definitions.specs.Calls as Calls
+use Rattle.track_laws.specs.Track as steps
+use Rattle.cell_laws.specs.Direct.{SoundSet, SoundSamples}
+use Rattle.cell_laws.specs.Keys.{entryAtKey}
+use Rattle.cell_laws.specs.Tracks.{SoundValues, entry-same, writtenChange, writtenTrack, track-is}
+use Rattle.track.specs.declared.bake.Baked.{Baked}
+
+-- the changes of the value above low and up to top, by their keys
+abbrev pub changesOf : ClipSet → Samples → ℕ → ℕ → List (steps.Change Entry)
+changesOf set s low top = steps.changesTo entry-same (entryAtKey set s) low top
+
+-- ---- writing them
+
+-- an output after the changes are written to its front
+abbrev pub timesAfter : List (steps.Change Entry) → List Float → List Float
+timesAfter cs old = writtenOver (changeTimes (map writtenChange cs)) old
+
+abbrev pub valuesAfter : List (steps.Change Entry) → List Float → List Float
+valuesAfter cs old = writtenOver (map (λ (c : Change). c .value) (map writtenChange cs)) old
+
+abbrev pub marksAfter : List (steps.Change Entry) → List ℕ → List ℕ
+marksAfter cs old = writtenOver (map (λ (c : Change). c .mark) (map writtenChange cs)) old
+
+-- the outputs have a slot for each change
+pub record Room (cs : List (steps.Change Entry)) (ts vs : List Float) (ms : List ℕ) : Type 0 where
+  pub times : length cs ≤ length ts
+  pub values : length cs ≤ length vs
+  pub marks : length cs ≤ length ms
+
+-- r changes were written
+pub record Written (cs : List (steps.Change Entry)) (ts vs : List Float) (ms : List ℕ) (ts′ vs′ : List Float) (ms′ : List ℕ) (r : ℕ) : Type 0 where
+  pub count : r ≡ length cs
+  pub times : ts′ ≡ timesAfter cs ts
+  pub values : vs′ ≡ valuesAfter cs vs
+  pub marks : ms′ ≡ marksAfter cs ms
+
+-- ---- the bake
+
+abbrev pub outputs : List Float → List Float → List ℕ → Outputs
+outputs times values marks = record { times = times; values = values; marks = marks }
+
+-- the track of the value
+abbrev pub trackOf : ClipSet → Samples → Track
+trackOf set s = writtenTrack (entryAtKey set s least) (changesOf set s least most)
+
+-- the reply's head and count, where it is no refusal
+abbrev pub bakedIs : Baked → Calls.Baked
+bakedIs r = record { initial = record { value = r .value; mark = r .mark }; count = r .count }
+
+-- the number, the head and the count, and the outputs, which a refusal leaves as they were
+pub record BakeIs (set : ClipSet) (s : Samples) (before after : Outputs) (r : Baked) : Type 0 where
+  pub number : r .number ≡ roomNumber (slots before) (length (trackOf set s .changes))
+  pub baked : r .number ≡ 0 → bakedIs r ≡ Calls.bakedOf (trackOf set s)
+  pub writes : after ≡ Calls.outputsAfter (r .number) (trackOf set s) before
+
+-- a reply in document 01's words
+abbrev pub bakedReply : Baked → Reply Calls.Baked
+bakedReply r = reply (r .number) (bakedIs r)
+
+-- the promise of a bake where the samples are accepted
+pub bakes : (b : Bool) (set : ClipSet) (s : Samples) → SoundSet set → SoundSamples s → SoundValues set s → samplesNumber set s ≡ 0 → (before after : Outputs) (r : Baked) → BakeIs set s before after r
+    → Calls.Bakes (standing b set) s before (bakedReply r) after
+bakes b set s S A F e before after r p = record {
+  track = trackOf set s;
+  is = λ c other q n. subst (λ (x : ClipSet). TrackOf (valueInSet x s) (trackOf set s)) (same c other q) (track-is set s S A F);
+  replies = replies (r .number) refl ∙ ap (λ (n : ℕ). reply n (Calls.bakedOf (trackOf set s))) (p .number ∙ sym number-is);
+  writes = p .writes ∙ ap (λ (n : ℕ). Calls.outputsAfter n (trackOf set s) before) (p .number ∙ sym number-is);
+}
+  where
+    same : (c : Bool) (other : ClipSet) → standing b set ≡ standing c other → set ≡ other
+    same c other q = cc
+
+    number-is : bakeNumber (standing b set) s (slots before) (length (trackOf set s .changes)) ≡ roomNumber (slots before) (length (trackOf set s .changes))
+    number-is = unfold bakeNumber in ap (λ (n : ℕ). n then roomNumber (slots before) (length (trackOf set s .changes))) e
+
+    replies : (n : ℕ) → r .number ≡ n → reply n (bakedIs r) ≡ reply n (Calls.bakedOf (trackOf set s))
+    replies zero q = ap (λ (x : Calls.Baked). reply 0 x) (p .baked q)
+    replies (suc n) q = refl

@@ -1,0 +1,13 @@
+-- What the functions of src/ speak of.
+-- A line as the program holds it
+pub mod Lines
+-- A cell and its end
+pub mod Pieces
+-- The end of a cell as a stop
+pub mod Stops
+-- A value and its mark
+pub mod Entries
+-- The changes, and the promise of a bake
+pub mod Bakes
+-- A track as three lists
+pub mod Held

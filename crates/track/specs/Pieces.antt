@@ -1,0 +1,44 @@
+-- A cell as the program holds it, and what the functions promise of one. Assumes nothing.
+use mathlib.Core.Path.{_≡_}
+use mathlib.Core.Bool.{cond}
+use mathlib.Core.List.{List}
+use Prim.Native.Nat.{ℕ, _<_}
+use lib.Ieee.{Float}
+use Rattle.definitions.specs.declared.Knot.{Knot}
+use Rattle.definitions.specs.ClipSet.{ClipSet, stage}
+use Rattle.definitions.specs.Samples.{Samples}
+use Rattle.definitions.specs.Value.{jump}
+use Rattle.cell_laws.specs.Stretches.{boundaries}
+use Rattle.cell_laws.specs.Cells as Cells
+use Rattle.value.specs.declared.window.Bound.{Bound}
+use Rattle.value.specs.declared.window.Bound.the-variants.{At, Nothing}
+use Rattle.value.specs.Bounds.{UpperIs}
+use Rattle.track.specs.declared.cell.Cell.{Cell}
+use Rattle.track.specs.declared.cell.Cell.the-variants.{Constant, Reading}
+use Rattle.track.specs.Lines.{lineIs}
+
+abbrev pub cellIs : Cell → Cells.Cell
+cellIs (Constant r) = Cells.constant r
+cellIs (Reading c line) = Cells.reading c (lineIs line)
+
+-- the clip that is read is one of n
+abbrev pub ClipBelow : ℕ → Cell → Type 0
+ClipBelow n (Constant r) = Unit {0}
+ClipBelow n (Reading c line) = c < n
+
+-- the time whose direct value is held between two neighbours, or none: the value is direct
+abbrev pub heldOf : List Knot → Bound → Bound → Bound
+heldOf knots Nothing upper = Nothing
+heldOf knots (At lower) Nothing = Nothing
+heldOf knots (At lower) (At upper) = cond (jump knots lower upper) Nothing (At lower)
+
+-- the cell of the direct reading at t
+pub record DirectIs (set : ClipSet) (s : Samples) (t : Float) (c : Cell) : Type 0 where
+  pub is : cellIs c ≡ Cells.directCell set s (stage t)
+  pub clip : ClipBelow (set .clips) c
+
+-- the cell of t, and its end
+pub record PieceIs (set : ClipSet) (s : Samples) (t : Float) (c : Cell) (e : Bound) : Type 0 where
+  pub is : cellIs c ≡ Cells.cellOf set s (stage t)
+  pub clip : ClipBelow (set .clips) c
+  pub ends : UpperIs (boundaries set s (stage t)) t e

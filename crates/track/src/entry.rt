@@ -1,0 +1,96 @@
+// A value and its mark, as a track holds them, and when two are alike.
+use definitions::Answer;
+use definitions::Manifest;
+ghost use mathlib.Core.Path.{_≡_};
+ghost use Prim.Native.Nat.{_≤_};
+ghost use lib.Dec.{eqb};
+ghost use lib.ListN.{length};
+ghost use lib.Ieee.{binary64, toBits};
+ghost use Rattle.gf.specs.Key as Key;
+ghost use Rattle.definitions.specs.Track as Track;
+ghost use Rattle.cell_laws.specs.Keys.{entryAtKey};
+ghost use Rattle.cell_laws.specs.Unpacked.{setOf, samplesOf, Ready};
+ghost use Rattle.track.specs.Entries.{entryIs};
+
+// A value and its mark, as a track holds them.
+pub struct Entry {
+    pub value: f64,
+    pub mark: u8,
+}
+
+// What an answer is in a track. The value of a block or of an absent answer is 0.0.
+fn entry_of(a: Answer) -> Entry
+    ensures { λ r. ⌜ entryIs r ≡ Track.entryOf a ⌝ }
+{
+    match a {
+        Answer::Value(v) => Entry { value: v, mark: 0 },
+        Answer::Blocked => Entry {
+            value: 0.0,
+            mark: 1,
+        },
+        Answer::Absent => Entry {
+            value: 0.0,
+            mark: 2,
+        },
+    }
+}
+
+// The entry at the double with the key k.
+pub fn entry_at(
+    starts: &[f64],
+    clips: &[u64],
+    xs: &[f64],
+    ys: &[f64],
+    blocks: &[f64],
+    m: Manifest,
+    times: &[f64],
+    values: &[f64],
+    marks: &[u8],
+    ends: &[u64],
+    k: u64,
+) -> Entry
+    requires { ⌜ Ready (now starts) (now clips) (now xs) (now ys) (now blocks) m (now times) (now values) (now marks) (now ends) ⌝ }
+    requires { ⌜ (Key.least ≤ k) × (k ≤ Key.most) ⌝ }
+    ensures { λ r. ⌜ entryIs r ≡ entryAtKey (setOf (length (now (ends .entry))) (now (starts .entry)) (now (clips .entry)) (now (xs .entry)) (now (ys .entry)) (now (blocks .entry)) m) (samplesOf (now (times .entry)) (now (values .entry)) (now (marks .entry)) (now (ends .entry))) k ⌝ }
+{
+    let t = gf::of_key(k);
+    entry_of(value::value::value(
+        starts,
+        clips,
+        xs,
+        ys,
+        blocks,
+        m,
+        times,
+        values,
+        marks,
+        ends,
+        t,
+    ))
+}
+
+// The bits are alike. (Of a NaN a program cannot ask the bits.)
+fn same_bits(x: f64, y: f64) -> bool
+    ensures { λ r. ⌜ r ≡ eqb (toBits binary64 x) (toBits binary64 y) ⌝ }
+{
+    if x != x {
+        return y != y;
+    }
+    if y != y {
+        return false;
+    }
+    f64::to_bits(x) == f64::to_bits(y)
+}
+
+// The marks are alike and, of values, the bits.
+pub fn alike(a: Entry, b: Entry) -> bool
+    ensures { λ r. ⌜ r ≡ Track.alike (entryIs a) (entryIs b) ⌝ }
+{
+    if a.mark != b.mark {
+        return false;
+    }
+    if a.mark != 0 {
+        return true;
+    }
+    same_bits(a.value, b.value)
+}

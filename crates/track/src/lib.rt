@@ -1,0 +1,14 @@
+// The track of a set's value.
+
+// A value and its mark, and when two are alike.
+pub mod entry;
+// From stage times to clip times in a cell.
+pub mod line;
+// The stretches on which one source is read, or one clip along one line.
+pub mod cell;
+// The next change.
+pub mod change;
+// The bake.
+pub mod bake;
+// The held reading.
+pub mod held;

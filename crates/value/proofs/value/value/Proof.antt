@@ -1,0 +1,36 @@
+-- `value::value::value` meets its contract: what the source says. Assumes nothing.
+use mathlib.Core.Path.{_≡_, sym, ap, _∙_, subst}
+use lib.ListN.{length}
+use denote.Ref.{now}
+use Rattle.definitions.specs.declared.Source.{Source}
+use Rattle.definitions.specs.ClipSet.{stage}
+use Rattle.definitions.specs.Value.{says, valueInSet}
+use Rattle.cell_laws.specs.Unpacked.{setOf, samplesOf}
+use Rattle.value.specs.Says.{Sayable, says-ready, ready-marks, value-in}
+use borrow.Author.Needs.{needs}
+use Rattle.value.proofs.value.value.Statement.{statement}
+use Rattle.value.proofs.value.value.Tie as tie
+
+abbrev entry : tie.After-shared-slice-known9 → tie.Start
+entry k = k .before .before .before .before .before .before .before .before .before
+
+value-source-requires : tie.Need-value-source-requires
+value-source-requires c κs = search needs
+
+says-requires : tie.Need-says-requires
+says-requires c κs =
+    let s = entry (c .before) in
+    let a = s .args in
+    (subst (Sayable (length (now (a .values))) (now (a .ends))) (sym (c .value-source .ensures)) (value-in (s .pre .0) (stage (a .t))), ready-marks (s .pre .0))
+
+returns : tie.Need-returns
+unfolding valueInSet
+returns c =
+    let v = c .before in
+    let s = entry (v .before) in
+    let a = s .args in
+    c .says .ensures ∙ says-ready (s .pre .0) (v .value-source .result)
+    ∙ ap (says (setOf (length (now (a .ends))) (now (a .starts)) (now (a .clips)) (now (a .xs)) (now (a .ys)) (now (a .blocks)) (a .m)) (samplesOf (now (a .times)) (now (a .values)) (now (a .marks)) (now (a .ends)))) (v .value-source .ensures)
+
+pub value-spec : {M : Type 1} → statement M
+value-spec = tie.close (tie.spec value-source-requires says-requires returns)

@@ -1,0 +1,20 @@
+-- `value::window::with_inside` meets its contract. Assumes nothing.
+use mathlib.Core.Path.{_≡_, refl, sym, ap, _∙_}
+use borrow.Author.Needs.{needs}
+use Rattle.value.proofs.window.with_inside.Statement.{statement}
+use Rattle.value.proofs.window.with_inside.Tie as tie
+
+contains-requires : tie.Need-contains-requires
+contains-requires c κs = search needs
+
+with-time-requires : tie.Need-with-time-requires
+with-time-requires c κs = search needs
+
+returns : tie.Need-returns
+returns c = rw (sym (c .before .before .contains .ensures) ∙ c .before .if1 .taken) (c .with-time .ensures)
+
+returns-2 : tie.Need-returns-2
+returns-2 c = rw (sym (c .before .contains .ensures) ∙ c .if1 .left)
+
+pub with-inside-spec : {M : Type 1} → statement M
+with-inside-spec = tie.close (tie.spec contains-requires with-time-requires returns returns-2)

@@ -1,0 +1,56 @@
+-- The pairs of neighbours from a place on, as a loop goes through them, and the jump test by the x alone. Assumes nothing.
+use mathlib.Core.Path.{_≡_, refl, sym, ap, _∙_}
+use mathlib.Core.Bool.{Bool, true, false, _&&_, _||_}
+use mathlib.Core.List.{List, [], _∷_}
+use Prim.Native.Nat.{ℕ, _+_, _≤_, _<_}
+use native.Mathlib.Omega.{arith}
+use lib.ListN.{length, getD, drop, length-drop}
+use lib.Ieee.{Float, eq, lt, le}
+use Rattle.definitions.specs.declared.Knot.{Knot}
+use Rattle.definitions.specs.Lists.{any, pairs, pairsFrom}
+use Rattle.definitions.specs.Explicit.{knot}
+use Rattle.definitions.specs.Value.{jump}
+use Rattle.cell_laws.specs.Unpacked.{knotsOf}
+use Rattle.lists.specs.Fronts.{front, no-front}
+
+module _ {A : Type 0} where
+  -- the pair at i, and those behind it
+  pub pairs-front : (l : List A) (i : ℕ) (d : A) → i + 1 < length l → pairs (drop i l) ≡ (getD l i d, getD l (i + 1) d) ∷ pairs (drop (i + 1) l)
+  pairs-front l i d h = rw (front l i d (omega arith), front l (i + 1) d h)
+
+  pub pairs-end : (l : List A) (i : ℕ) (d : A) → length l ≤ i + 1 → pairs (drop i l) ≡ []
+  pairs-end l i d h = go (drop i l) (rw (length-drop i l) (omega arith))
+    where
+      go : (k : List A) → length k ≤ 1 → pairs k ≡ []
+      go [] h = refl
+      go (x ∷ []) h = refl
+      go (x ∷ y ∷ k) h = absurd (omega arith)
+
+-- a test of the pairs from i on
+module _ {A : Type 0} (p : A × A → Bool) (l : List A) (i : ℕ) (d : A) where
+  pub pair-here : i + 1 < length l → p (getD l i d, getD l (i + 1) d) ≡ true → any p (pairs (drop i l)) ≡ true
+  pair-here h e = ap (any p) (pairs-front l i d h) ∙ ap (λ (b : Bool). b || any p (pairs (drop (i + 1) l))) e
+
+  pub pair-later : i + 1 < length l → p (getD l i d, getD l (i + 1) d) ≡ false → any p (pairs (drop i l)) ≡ any p (pairs (drop (i + 1) l))
+  pair-later h e = ap (any p) (pairs-front l i d h) ∙ ap (λ (b : Bool). b || any p (pairs (drop (i + 1) l))) e
+
+  pub pair-end : length l ≤ i + 1 → any p (pairs (drop i l)) ≡ false
+  pair-end h = ap (any p) (pairs-end l i d h)
+
+-- ---- a jump
+
+abbrev pub jumpsAt : Float → Float → Float × Float → Bool
+jumpsAt lower upper p = eq (p .0) (p .1) && lt lower (p .0) && le (p .0) upper
+
+module _ (lower upper : Float) where
+  jump-from : (x y : Float) (xs ys : List Float) → length xs ≡ length ys
+      → any (λ (p : Knot × Knot). eq (p .0 .x) (p .1 .x) && lt lower (p .0 .x) && le (p .0 .x) upper) (pairsFrom (knot x y) (knotsOf xs ys)) ≡ any (jumpsAt lower upper) (pairsFrom x xs)
+  jump-from x y [] ys e = refl
+  jump-from x y (a ∷ xs) [] e = absurd (omega arith)
+  jump-from x y (a ∷ xs) (b ∷ ys) e = ap (λ (r : Bool). jumpsAt lower upper (x, a) || r) (jump-from a b xs ys (omega arith))
+
+  pub jump-by-x : (xs ys : List Float) → length xs ≡ length ys → jump (knotsOf xs ys) lower upper ≡ any (jumpsAt lower upper) (pairs xs)
+  unfolding jump
+  jump-by-x [] ys e = refl
+  jump-by-x (x ∷ xs) [] e = absurd (omega arith)
+  jump-by-x (x ∷ xs) (y ∷ ys) e = jump-from x y xs ys (omega arith)

@@ -1,0 +1,7 @@
+// The value of a set at a stage time: the direct reading, the window's neighbours, the value, and the answer without a time.
+
+pub mod direct;
+pub mod jump;
+pub mod untimed;
+pub mod value;
+pub mod window;

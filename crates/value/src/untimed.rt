@@ -1,0 +1,65 @@
+// The answer without a time. It heeds neither the missing flag nor the manifest blocks.
+
+use super::direct::clip_begin;
+use super::direct::clip_end;
+use definitions::Manifest;
+ghost use mathlib.Core.Path.{_≡_};
+ghost use Prim.Native.Nat.{ℕ, _<_};
+ghost use lib.ListN.{length};
+ghost use Rattle.definitions.specs.Lists.{any};
+ghost use Rattle.definitions.specs.StageSamples.{untimedAnswer};
+ghost use Rattle.set_laws.specs.Every.{Every};
+ghost use Rattle.cell_laws.specs.Unpacked.{setOf, samplesOf, Ready};
+ghost use Rattle.value.specs.Untimed.{stateIs, hasSamples};
+
+// Whether a set has a value at all.
+pub enum ValueState {
+    Present,
+    Blocked,
+    Absent,
+}
+
+// One of these clips has samples, blocks among them.
+fn any_samples(clips: &[u64], ends: &[u64]) -> bool
+    requires { ⌜ Every (λ (c : ℕ). c < length (now ends)) (now clips) ⌝ }
+    ensures { λ r. ⌜ r ≡ any (hasSamples (now (ends .entry))) (now (clips .entry)) ⌝ }
+{
+    let mut i: usize = 0;
+    while i < clips.len() {
+        let clip = clips[i];
+        if clip_begin(ends, clip) < clip_end(ends, clip) {
+            return true;
+        }
+        i += 1;
+    }
+    false
+}
+
+// Absent without starts; present where a start's clip has samples or the manifest default is a value; else blocked.
+pub fn untimed(
+    starts: &[f64],
+    clips: &[u64],
+    xs: &[f64],
+    ys: &[f64],
+    blocks: &[f64],
+    m: Manifest,
+    times: &[f64],
+    values: &[f64],
+    marks: &[u8],
+    ends: &[u64],
+) -> ValueState
+    requires { ⌜ Ready (now starts) (now clips) (now xs) (now ys) (now blocks) m (now times) (now values) (now marks) (now ends) ⌝ }
+    ensures { λ r. ⌜ stateIs r ≡ untimedAnswer (setOf (length (now (ends .entry))) (now (starts .entry)) (now (clips .entry)) (now (xs .entry)) (now (ys .entry)) (now (blocks .entry)) m) (samplesOf (now (times .entry)) (now (values .entry)) (now (marks .entry)) (now (ends .entry))) ⌝ }
+{
+    if starts.len() == 0 {
+        return ValueState::Absent;
+    }
+    let default = m.default;
+    if default.mark == 0 {
+        return ValueState::Present;
+    }
+    if any_samples(clips, ends) {
+        return ValueState::Present;
+    }
+    ValueState::Blocked
+}

@@ -1,0 +1,182 @@
+// The value at a stage time. With several starts it is held from the lower neighbour among the window's gathered times, unless there is a jump between.
+
+use super::direct::clip_begin;
+use super::direct::direct_source;
+use super::jump::is_jump;
+use super::window::Bound;
+use super::window::neighbours;
+use definitions::Answer;
+use definitions::Manifest;
+use definitions::Source;
+ghost use mathlib.Core.Path.{_≡_};
+ghost use lib.Dec.{T};
+ghost use lib.ListN.{length};
+ghost use lib.Ieee.Scale.{finite};
+ghost use Rattle.definitions.specs.ClipSet.{stage};
+ghost use Rattle.definitions.specs.Value.{valueSource, valueInSet};
+ghost use Rattle.cell_laws.specs.Unpacked.{setOf, samplesOf, Ready};
+ghost use Rattle.value.specs.Says.{saysIn, Sayable};
+
+// What is read at the stage time `t`.
+pub fn value_source(
+    starts: &[f64],
+    clips: &[u64],
+    xs: &[f64],
+    ys: &[f64],
+    blocks: &[f64],
+    m: Manifest,
+    times: &[f64],
+    values: &[f64],
+    marks: &[u8],
+    ends: &[u64],
+    t: f64,
+) -> Source
+    requires { ⌜ Ready (now starts) (now clips) (now xs) (now ys) (now blocks) m (now times) (now values) (now marks) (now ends) ⌝ ∗ ⌜ T (finite t) ⌝ }
+    ensures { λ r. ⌜ r ≡ valueSource (setOf (length (now (ends .entry))) (now (starts .entry)) (now (clips .entry)) (now (xs .entry)) (now (ys .entry)) (now (blocks .entry)) m) (samplesOf (now (times .entry)) (now (values .entry)) (now (marks .entry)) (now (ends .entry))) (stage t) ⌝ }
+{
+    if starts.len() < 2 {
+        return direct_source(
+            starts,
+            clips,
+            xs,
+            ys,
+            blocks,
+            m,
+            times,
+            values,
+            marks,
+            ends,
+            t,
+        );
+    }
+    let p = lists::last_at_most(starts, t);
+    let found = neighbours(
+        starts,
+        clips,
+        xs,
+        ys,
+        blocks,
+        m,
+        times,
+        values,
+        marks,
+        ends,
+        p,
+        t,
+    );
+    let lower = found.lower;
+    let upper = found.upper;
+    let Bound::At(l) = lower else {
+        return direct_source(
+            starts,
+            clips,
+            xs,
+            ys,
+            blocks,
+            m,
+            times,
+            values,
+            marks,
+            ends,
+            t,
+        );
+    };
+    let Bound::At(h) = upper else {
+        return direct_source(
+            starts,
+            clips,
+            xs,
+            ys,
+            blocks,
+            m,
+            times,
+            values,
+            marks,
+            ends,
+            t,
+        );
+    };
+    if is_jump(xs, ys, l, h) {
+        return direct_source(
+            starts,
+            clips,
+            xs,
+            ys,
+            blocks,
+            m,
+            times,
+            values,
+            marks,
+            ends,
+            t,
+        );
+    }
+    direct_source(
+        starts,
+        clips,
+        xs,
+        ys,
+        blocks,
+        m,
+        times,
+        values,
+        marks,
+        ends,
+        l,
+    )
+}
+
+// What a source says, with the bits as lent.
+pub fn says(m: Manifest, values: &[f64], marks: &[u8], ends: &[u64], source: Source) -> Answer
+    requires { ⌜ Sayable (length (now values)) (now ends) source ⌝ ∗ ⌜ length (now marks) ≡ length (now values) ⌝ }
+    ensures { λ r. ⌜ r ≡ saysIn m (now (values .entry)) (now (marks .entry)) (now (ends .entry)) source ⌝ }
+{
+    match source {
+        Source::Sample(clip, place) => {
+            let at = clip_begin(ends, clip) + place as usize;
+            if marks[at] == 0 {
+                return Answer::Value(values[at]);
+            }
+            Answer::Blocked
+        }
+        Source::Default => {
+            let default = m.default;
+            Answer::Value(default.value)
+        }
+        Source::Blocked => Answer::Blocked,
+        Source::Absent => Answer::Absent,
+    }
+}
+
+// The value at the stage time `t`.
+pub fn value(
+    starts: &[f64],
+    clips: &[u64],
+    xs: &[f64],
+    ys: &[f64],
+    blocks: &[f64],
+    m: Manifest,
+    times: &[f64],
+    values: &[f64],
+    marks: &[u8],
+    ends: &[u64],
+    t: f64,
+) -> Answer
+    requires { ⌜ Ready (now starts) (now clips) (now xs) (now ys) (now blocks) m (now times) (now values) (now marks) (now ends) ⌝ ∗ ⌜ T (finite t) ⌝ }
+    ensures { λ r. ⌜ r ≡ valueInSet (setOf (length (now (ends .entry))) (now (starts .entry)) (now (clips .entry)) (now (xs .entry)) (now (ys .entry)) (now (blocks .entry)) m) (samplesOf (now (times .entry)) (now (values .entry)) (now (marks .entry)) (now (ends .entry))) (stage t) ⌝ }
+{
+    let source = value_source(
+        starts,
+        clips,
+        xs,
+        ys,
+        blocks,
+        m,
+        times,
+        values,
+        marks,
+        ends,
+        t,
+    );
+    says(m, values, marks, ends, source)
+}

@@ -1,0 +1,87 @@
+//! Fetches the Rust that is compared with, from the folder that OPENUSD_SRC names, into the build folder: whole files
+//! byte for byte, single items cut out byte for byte. Nothing of it is kept in this repository.
+
+use std::path::{Path, PathBuf};
+use std::{env, fs};
+
+/// The text of a file of docs/src, by its path in the published repository.
+fn source(folder: &Path, path: &str) -> String {
+    let name = format!("src--crates--openusd--src--{}.txt", path.replace('/', "--"));
+    let file = folder.join(name);
+    println!("cargo:rerun-if-changed={}", file.display());
+    fs::read_to_string(&file).unwrap_or_else(|error| panic!("{}: {error} (set OPENUSD_SRC)", file.display()))
+}
+
+/// The item that begins with `start` at a line's beginning, up to the line that `end` closes.
+fn cut(text: &str, start: &str, end: &str) -> String {
+    let from = text
+        .match_indices(start)
+        .map(|(at, _)| at)
+        .find(|&at| at == 0 || text.as_bytes()[at - 1] == b'\n')
+        .unwrap_or_else(|| panic!("no item begins with `{start}`"));
+    let to = from + text[from..].find(end).unwrap_or_else(|| panic!("`{start}` has no end")) + end.len();
+    text[from..to].to_owned()
+}
+
+/// A braced item.
+fn item(text: &str, start: &str) -> String {
+    cut(text, start, "\n}\n")
+}
+
+/// A one-line item that a semicolon closes.
+fn line(text: &str, start: &str) -> String {
+    cut(text, start, ";\n")
+}
+
+fn main() {
+    println!("cargo:rerun-if-env-changed=OPENUSD_SRC");
+    println!("cargo:rerun-if-changed=build.rs");
+    let here = PathBuf::from(env::var("CARGO_MANIFEST_DIR").unwrap());
+    let out = PathBuf::from(env::var("OUT_DIR").unwrap());
+    let folder = match env::var("OPENUSD_SRC") {
+        Ok(folder) if !folder.is_empty() => PathBuf::from(folder),
+        _ => here.join("../../shared/docs/src"),
+    };
+    let write = |name: &str, text: String| fs::write(out.join(name), text).unwrap();
+    let module = |name: &str, file: &str| format!("#[path = {:?}]\npub(crate) mod {name};\n", out.join(file));
+
+    // Whole files. Behind the unchanged text of clip.rs stands one declaration more, of a child module, since only a
+    // child reaches what clip.rs keeps private.
+    let clip = source(&folder, "pcp/clip.rs");
+    let reach = format!("\n#[path = {:?}]\npub(crate) mod reach;\n", here.join("src/reach.rs"));
+    write("clip.rs", clip + &reach);
+    write("clip_manifest.rs", source(&folder, "pcp/clip_manifest.rs"));
+    write("pcp_files.rs", module("clip", "clip.rs") + &module("clip_manifest", "clip_manifest.rs"));
+    write("interval.rs", source(&folder, "gf/interval.rs"));
+    write("gf_files.rs", module("interval", "interval.rs"));
+
+    // Single items. A derive list names crates that are not here, so each struct gets a shorter one.
+    let plain = "#[derive(Debug, Default, Clone, Copy, PartialEq)]\n";
+    let gf = source(&folder, "gf/mod.rs");
+    let vec = source(&folder, "gf/vec.rs");
+    write(
+        "gf_items.rs",
+        plain.to_owned()
+            + &item(&vec, "pub struct Vec2d {")
+            + &item(&gf, "pub fn vec2d(")
+            + &item(&gf, "pub fn lerp<T>("),
+    );
+    let sdf = source(&folder, "sdf/mod.rs");
+    let offset = "#[derive(Debug, Clone, Copy, PartialEq)]\n".to_owned() + &item(&sdf, "pub struct LayerOffset {");
+    write(
+        "sdf_items.rs",
+        [
+            plain.to_owned() + &item(&sdf, "pub enum Variability {"),
+            plain.to_owned() + &line(&sdf, "pub struct TimeCode("),
+            item(&sdf, "impl TimeCode {"),
+            offset,
+            item(&sdf, "impl Default for LayerOffset {"),
+            item(&sdf, "impl LayerOffset {"),
+            line(&sdf, "pub type TimeSampleMap ="),
+            item(&sdf, "pub fn compare_sample_times("),
+            item(&sdf, "pub fn normalize_sample_times("),
+            item(&sdf, "pub fn normalize_time_samples("),
+        ]
+        .concat(),
+    );
+}

@@ -1,0 +1,129 @@
+//! The Rust as oracle: case text in, replies out; and a generator and a comparer of such text.
+#![allow(dead_code)]
+
+#[path = "standins/gf.rs"]
+mod gf;
+#[path = "standins/pcp.rs"]
+mod pcp;
+#[path = "standins/sdf.rs"]
+mod sdf;
+#[path = "standins/tf.rs"]
+mod tf;
+#[path = "standins/vt.rs"]
+mod vt;
+
+mod beyond;
+mod calls;
+mod compare;
+mod desk;
+mod doubles;
+mod figures;
+mod numbers;
+mod plain;
+mod random;
+mod random_cases;
+mod sample;
+mod short_cases;
+mod text;
+mod track;
+mod writer;
+
+use std::io::{self, BufRead, Write};
+
+use desk::Desk;
+use text::{Line, Words};
+use writer::Writer;
+
+/// What a run has to tell: differences between Rust and document, and tracks by either's values.
+struct Told {
+    differences: usize,
+    tracks: [u64; 2],
+}
+
+/// Answers the case text of `input`. With `check`, tells on standard error where Rust and document differ.
+fn answer(input: &mut dyn BufRead, output: &mut dyn Write, check: bool, timed: bool) -> io::Result<Told> {
+    let mut desk = Desk::new(check);
+    let mut line = Vec::new();
+    let mut case = String::new();
+    let mut differences = 0;
+    while input.read_until(b'\n', &mut line)? > 0 {
+        let mut words = Words::new(&line);
+        if let Some(first) = words.word() {
+            let mut out = Line::default();
+            let began = std::time::Instant::now();
+            match calls::read(first, words) {
+                Some(call) => {
+                    if let calls::Call::Case(name) = &call {
+                        case.clone_from(name);
+                    }
+                    desk.answer(call, &mut out)
+                }
+                None => out.word("unreadable").end(),
+            }
+            if timed && !out.0.is_empty() {
+                let head: String = String::from_utf8_lossy(&out.0).chars().take(60).collect();
+                eprintln!("{:>10.3} ms  {case}  {}", began.elapsed().as_secs_f64() * 1e3, head.trim_end());
+            }
+            output.write_all(&out.0)?;
+            for difference in desk.differences.drain(..) {
+                differences += 1;
+                eprintln!("{case}: {}\n  {difference}", String::from_utf8_lossy(&line).trim_end());
+            }
+        }
+        line.clear();
+    }
+    output.flush()?;
+    Ok(Told { differences, tracks: desk.tracks })
+}
+
+const USAGE: &str =
+    "oracle [check | timed | test | gen SEED REPLIES | short PART OF | compare CASES A B | sample FOLDER]
+  (nothing)            case text on standard input, replies on standard output
+  check                the same, and every reply worked out from document 01 too; differences go to standard error
+  timed                the same, with the time of each reply on standard error
+  test                 document 01's figures, and what the Rust does beyond the document
+  gen SEED REPLIES     case text from a seed, at least that many replies' worth
+  short PART OF        every OF-th of all short sets and lists, beginning with PART
+  compare CASES A B    two lists of replies to the same case text
+  sample FOLDER        the stored sample";
+
+fn main() -> io::Result<()> {
+    let arguments: Vec<String> = std::env::args().skip(1).collect();
+    let words: Vec<&str> = arguments.iter().map(String::as_str).collect();
+    let mut input = io::BufReader::with_capacity(1 << 20, io::stdin());
+    let mut output = io::BufWriter::with_capacity(1 << 20, io::stdout());
+    let number = |word: &str| word.parse::<u64>().unwrap_or_else(|_| panic!("not a number: {word}"));
+    match words[..] {
+        [] => answer(&mut input, &mut output, false, false).map(drop),
+        ["timed"] => answer(&mut input, &mut output, false, true).map(drop),
+        ["check"] => {
+            let Told { differences, tracks } = answer(&mut input, &mut output, true, false)?;
+            eprintln!("{} tracks by the Rust's values, {} by the document's", tracks[0], tracks[1]);
+            eprintln!("{differences} differences between Rust and document");
+            std::process::exit((differences > 0).into());
+        }
+        ["gen", seed, replies] => {
+            random_cases::write(number(seed), number(replies), &mut Writer::new(&mut output));
+            output.flush()
+        }
+        ["short", part, of] => {
+            short_cases::write(number(part) as usize, number(of) as usize, &mut Writer::new(&mut output));
+            output.flush()
+        }
+        ["compare", cases, left, right] => {
+            let counts = compare::compare(cases, left, right, 5)?;
+            let equal = counts.replies - counts.differing - counts.missing.min(counts.replies);
+            println!(
+                "{} replies, {equal} equal, {} differing, {} missing",
+                counts.replies, counts.differing, counts.missing
+            );
+            std::process::exit((counts.differing + counts.missing > 0).into());
+        }
+        ["sample", folder] => sample::write(folder.as_ref()),
+        ["test"] => std::process::exit((!(figures::test() & beyond::test())).into()),
+        _ => {
+            eprintln!("{USAGE}");
+            std::process::exit(2);
+        }
+    }
+}

@@ -1,0 +1,155 @@
+//! The stored sample: the figures, the limits, and of many generated cases those that show something new, with the Rust's
+//! replies. `sets` keeps to the calls that need no samples.
+
+use std::collections::BTreeSet;
+use std::{fs, io, path::Path};
+
+use crate::calls::{Call, Explicit, Filling, ROOM, Samples};
+use crate::writer::{Writer, has_reply};
+use crate::{figures, random_cases, short_cases};
+
+/// Cases longer than this are left out of the generated ones.
+const LONGEST: usize = 3000;
+
+const SETS: [&str; 9] = ["case", "explicit", "template", "retime", "dump", "active", "cliptime", "name", "normalize"];
+
+fn word(line: &str) -> &str {
+    line.split_whitespace().next().unwrap_or("")
+}
+
+fn replies_to(text: &str) -> String {
+    let mut out = Vec::new();
+    crate::answer(&mut text.as_bytes(), &mut out, false, false).expect("in memory");
+    String::from_utf8(out).expect("replies are ASCII")
+}
+
+/// What a call and its reply show, coarsely.
+fn shows(call: &str, reply: &str) -> String {
+    let words: Vec<&str> = reply.split_whitespace().collect();
+    let kind = match words[0] {
+        "refused" | "untimed" | "value" => words[1].to_owned(),
+        "track" | "trackhash" => format!("{} {}", words[1], words[3].len().min(2)),
+        "active" => (words[1] == "none").to_string(),
+        "set" | "times" | "ssamples" | "normalize" => words[1].len().to_string(),
+        _ => String::new(),
+    };
+    format!("{} {} {} {kind}", word(call), call.split_whitespace().count().min(40) / 4, words[0])
+}
+
+/// The text's cases, each from its `case` line on.
+fn cases(text: &str) -> Vec<String> {
+    let mut list: Vec<String> = Vec::new();
+    for line in text.lines().filter(|line| !line.trim().is_empty()) {
+        if word(line) == "case" || list.is_empty() {
+            list.push(String::new());
+        }
+        let last = list.last_mut().expect("pushed above");
+        *last += line;
+        *last += "\n";
+    }
+    list
+}
+
+fn kept(text: &str, sets: bool) -> String {
+    let keep = |line: &&str| !sets || SETS.contains(&word(line));
+    text.lines().filter(keep).map(|line| format!("{line}\n")).collect()
+}
+
+fn count(text: &str) -> usize {
+    text.lines().filter(|line| has_reply(line.as_bytes())).count()
+}
+
+fn generated(write: impl Fn(&mut Writer<'_>)) -> String {
+    let mut text = Vec::new();
+    write(&mut Writer::new(&mut text));
+    String::from_utf8(text).expect("case text is ASCII")
+}
+
+/// Lists at their limits and one over.
+fn limits(sets: bool) -> String {
+    let line = |n: usize| (0..n).map(|i| i as f64 * 0.5).collect::<Vec<f64>>();
+    let none = Filling { blocks: Vec::new(), mark: 2, value: 0.0, flag: false };
+    let set = |starts, knots, blocks| {
+        Call::Explicit(Explicit {
+            clips: 256,
+            start_times: line(starts),
+            start_clips: vec![255.0; starts],
+            knot_x: line(knots),
+            knot_y: line(knots),
+            filling: Filling { blocks: line(blocks), ..none.clone() },
+        })
+    };
+    generated(|out| {
+        out.call(&Call::Case("limits".into()));
+        if sets {
+            for (starts, knots, blocks) in [(257, 0, 0), (0, 513, 0), (0, 0, 257), (256, 512, 256)] {
+                out.call(&set(starts, knots, blocks));
+                out.call(&Call::Active(1000.0));
+            }
+            out.call(&Call::Dump);
+            for t in [-1.0, 0.2, 127.5, 127.75, 255.5, 1e300] {
+                out.call(&Call::Active(t));
+                out.call(&Call::ClipTime(t));
+            }
+            return;
+        }
+        out.call(&set(2, 1, 0));
+        for samples in [4097, 4096] {
+            let mut ends = vec![0; 255];
+            ends.push(samples as u64);
+            let times = line(samples);
+            let values = (0..samples).map(|i| (i % 3) as f64).collect();
+            out.call(&Call::Samples(Samples { ends, times, values, marks: vec![0; samples] }));
+            for t in [0.0, 2000.25, 2047.5, 2047.75] {
+                out.call(&Call::Value(t));
+            }
+            out.call(&Call::Track(ROOM));
+            out.call(&Call::TrackHash);
+        }
+    })
+}
+
+/// About that many calls: first the cases that show something new, then others in order.
+fn choose(text: &str, wanted: usize) -> String {
+    let all: Vec<String> = cases(text).into_iter().filter(|case| case.len() <= LONGEST).collect();
+    let mut seen = BTreeSet::new();
+    let mut chosen = vec![false; all.len()];
+    let mut total = 0;
+    for (i, case) in all.iter().enumerate() {
+        let asked: Vec<&str> = case.lines().filter(|line| has_reply(line.as_bytes())).collect();
+        let replies = replies_to(case);
+        let mut fresh = false;
+        for (call, reply) in asked.iter().zip(replies.lines()) {
+            fresh |= seen.insert(shows(call, reply));
+        }
+        if fresh && total < wanted {
+            chosen[i] = true;
+            total += asked.len();
+        }
+    }
+    for (i, case) in all.iter().enumerate() {
+        if !chosen[i] && total < wanted {
+            chosen[i] = true;
+            total += count(case);
+        }
+    }
+    all.into_iter().zip(chosen).filter(|(_, chosen)| *chosen).map(|(case, _)| case).collect()
+}
+
+fn made(sets: bool) -> String {
+    let (figures, _) = figures::calls_and_replies();
+    let short = generated(|out| short_cases::write(5, 1201, out));
+    let random = generated(|out| random_cases::write(2026, 40_000, out));
+    [kept(&figures, sets), limits(sets), choose(&kept(&short, sets), 500), choose(&kept(&random, sets), 1100)].concat()
+}
+
+/// Writes the sample into a folder.
+pub fn write(folder: &Path) -> io::Result<()> {
+    for (sets, name, replies) in [(false, "cases.txt", "replies.txt"), (true, "sets.txt", "sets.replies.txt")] {
+        let text = made(sets);
+        fs::write(folder.join(name), &text)?;
+        fs::write(folder.join(replies), replies_to(&text))?;
+        println!("{name}: {} calls, {} bytes", count(&text), text.len());
+    }
+    Ok(())
+}

@@ -1,0 +1,320 @@
+//! Short sets and short lists, all of them: each family is counted through, so that a part (every n-th) can be asked for.
+
+use crate::calls::{Call, Explicit, Filling, NAME_ROOM, ROOM, Samples, Template};
+use crate::doubles::{FAR, at, place};
+use crate::writer::Writer;
+
+type Family = (&'static str, fn() -> usize, fn(usize, &mut Writer<'_>));
+
+const FAMILIES: [Family; 8] = [
+    ("mapping", mapping_size, mapping),
+    ("missing", missing_size, missing),
+    ("lists", lists_size, lists),
+    ("templates", templates_size, templates),
+    ("names", names_size, names),
+    ("normalise", normalise_size, normalise),
+    ("lent", lent_size, lent),
+    ("retime", retime_size, retime),
+];
+
+/// Writes every `of`-th case, beginning with `part`.
+pub fn write(part: usize, of: usize, out: &mut Writer<'_>) {
+    let mut number = 0;
+    for (family, size, case) in FAMILIES {
+        for index in 0..size() {
+            if number % of == part % of {
+                out.call(&Call::Case(format!("{family}-{index}")));
+                case(index, out);
+            }
+            number += 1;
+        }
+    }
+}
+
+/// Reads an index as choices, one after the other.
+struct Choices(usize);
+
+impl Choices {
+    fn below(&mut self, n: usize) -> usize {
+        let choice = self.0 % n;
+        self.0 /= n;
+        choice
+    }
+
+    fn of<T: Copy>(&mut self, list: &[T]) -> T {
+        list[self.below(list.len())]
+    }
+
+    /// A list of at most `most` entries, each of `n` kinds; `sequences(n, most)` of them.
+    fn sequence(&mut self, n: usize, most: usize) -> Vec<usize> {
+        let mut index = self.below(sequences(n, most));
+        let mut length = 0;
+        while index >= n.pow(length) {
+            index -= n.pow(length);
+            length += 1;
+        }
+        (0..length).map(|digit| index / n.pow(digit) % n).collect()
+    }
+}
+
+fn sequences(n: usize, most: usize) -> usize {
+    (0..=most as u32).map(|length| n.pow(length)).sum()
+}
+
+const NO_FILLING: Filling = Filling { blocks: Vec::new(), mark: 2, value: 0.0, flag: false };
+
+fn next(d: f64) -> f64 {
+    at(place(d) + 1)
+}
+
+fn below(d: f64) -> f64 {
+    at(place(d) - 1)
+}
+
+// Up to two starts, up to three knots and up to three samples on a small grid.
+
+const SHORT_STARTS: [&[f64]; 7] = [&[], &[0.0], &[1.0], &[2.0], &[0.0, 1.0], &[1.0, 2.0], &[0.0, 2.0]];
+
+fn mapping_size() -> usize {
+    SHORT_STARTS.len() * 4 * sequences(9, 3) * 8
+}
+
+fn mapping(index: usize, out: &mut Writer<'_>) {
+    let mut choices = Choices(index);
+    let starts = choices.of(&SHORT_STARTS);
+    let clips = choices.below(4);
+    let knots = choices.sequence(9, 3);
+    let sampled = choices.below(8);
+    out.call(&Call::Explicit(Explicit {
+        clips: 2,
+        start_times: starts.to_vec(),
+        start_clips: (0..starts.len()).map(|i| (clips >> i & 1) as f64).collect(),
+        knot_x: knots.iter().map(|k| (k % 3) as f64).collect(),
+        knot_y: knots.iter().map(|k| (k / 3) as f64).collect(),
+        filling: NO_FILLING,
+    }));
+    let times: Vec<f64> = (0..3).filter(|i| sampled >> i & 1 == 1).map(f64::from).collect();
+    let first = times.len();
+    let times = [times, vec![0.5, 1.0]].concat();
+    let values = (1..=times.len()).map(|v| v as f64).collect();
+    let marks = vec![0; times.len()];
+    out.call(&Call::Samples(Samples { ends: vec![first as u64, times.len() as u64], times, values, marks }));
+    for t in [-1.0, 0.0, next(0.0), 0.5, below(1.0), 1.0, next(1.0), 1.5, 2.0, 3.0] {
+        out.call(&Call::Value(t));
+    }
+    for t in [0.25, 1.75] {
+        out.call(&Call::ClipTime(t));
+    }
+    out.call(&Call::Dump);
+    out.call(&Call::Times(ROOM));
+    out.call(&Call::Track(ROOM));
+}
+
+// Three starts whose clips have a value, a block or nothing; flag, blocks and default of each kind.
+
+fn missing_size() -> usize {
+    27 * 27 * 8 * 3 * 2 * 3
+}
+
+fn missing(index: usize, out: &mut Writer<'_>) {
+    let mut choices = Choices(index);
+    let clips = (0..3).map(|_| choices.below(3) as f64).collect();
+    let held: Vec<usize> = (0..3).map(|_| choices.below(3)).collect();
+    let blocked = choices.below(8);
+    let mark = choices.below(3) as u8;
+    let flag = choices.below(2) == 1;
+    let knots: [(&[f64], &[f64]); 3] = [(&[], &[]), (&[0.0, 3.0], &[0.0, 3.0]), (&[0.0, 1.0, 1.0], &[2.0, 0.0, 1.0])];
+    let (x, y) = choices.of(&knots);
+    out.call(&Call::Explicit(Explicit {
+        clips: 3,
+        start_times: vec![0.0, 1.0, 2.0],
+        start_clips: clips,
+        knot_x: x.to_vec(),
+        knot_y: y.to_vec(),
+        filling: Filling {
+            blocks: (0..3).filter(|i| blocked >> i & 1 == 1).map(f64::from).collect(),
+            mark,
+            value: 7.0,
+            flag,
+        },
+    }));
+    let mut s = Samples::default();
+    for (clip, held) in held.into_iter().enumerate() {
+        if held > 0 {
+            s.times.extend([clip as f64, clip as f64 + 0.5]);
+            s.values.extend([clip as f64 * 2.0 + 1.0, clip as f64 * 2.0 + 2.0]);
+            s.marks.extend([u8::from(held == 2), 0]);
+        }
+        s.ends.push(s.times.len() as u64);
+    }
+    out.call(&Call::Samples(s));
+    for t in [-1.0, 0.5, 1.0, 1.75, 2.5] {
+        out.call(&Call::Value(t));
+    }
+    out.call(&Call::Untimed);
+    out.call(&Call::StageSamples(ROOM));
+    out.call(&Call::Track(ROOM));
+}
+
+// Up to three starts or knots in any order, among them what refuses a set.
+
+const LISTED: [f64; 6] = [0.0, -0.0, 1.0, -1.0, f64::NAN, 2.0 * FAR];
+const CLIPS: [f64; 6] = [0.0, -0.0, 1.0, 0.5, -1.0, f64::NAN];
+
+fn lists_size() -> usize {
+    2 * 3 * sequences(6, 3) * 6 * 5
+}
+
+fn lists(index: usize, out: &mut Writer<'_>) {
+    let mut choices = Choices(index);
+    let knots = choices.below(2) == 1;
+    let clips = choices.below(3) as u64;
+    let list: Vec<f64> = choices.sequence(6, 3).into_iter().map(|i| LISTED[i]).collect();
+    let clip = choices.of(&CLIPS);
+    let mark = choices.of(&[0, 1, 2, 3, 255]);
+    let mut partner = vec![0.0; list.len()];
+    if let Some(first) = partner.first_mut() {
+        *first = clip;
+    }
+    let mut e = Explicit { clips, filling: Filling { mark, ..NO_FILLING }, ..Explicit::default() };
+    if knots {
+        (e.knot_x, e.knot_y) = (list, partner);
+    } else {
+        (e.start_times, e.start_clips) = (list, partner);
+    }
+    out.call(&Call::Explicit(e));
+    out.call(&Call::Dump);
+    out.call(&Call::Active(0.0));
+    out.call(&Call::ClipTime(0.0));
+}
+
+const PATTERNS: [&[u8]; 3] = [b"f.##.usd", b"f.usd", b"#.#"];
+const FROM: [f64; 6] = [0.0, -0.0, 1.0, 0.3, -1.5, FAR];
+const SPANS: [f64; 7] = [0.0, 0.00004, 0.00006, 1.0, 2.0, 1.99996, -1.0];
+const STRIDES: [f64; 9] = [1.0, 0.5, 0.3, 2.0, 1e-5, 0.0, -0.0, 1e305, f64::INFINITY];
+const OFFSETS: [Option<f64>; 9] =
+    [None, Some(0.0), Some(-0.0), Some(0.3), Some(-0.5), Some(1.0), Some(-1.0), Some(2.0), Some(f64::NAN)];
+
+fn templates_size() -> usize {
+    PATTERNS.len() * FROM.len() * SPANS.len() * STRIDES.len() * OFFSETS.len() * 2
+}
+
+fn templates(index: usize, out: &mut Writer<'_>) {
+    let mut choices = Choices(index);
+    let bytes = choices.of(&PATTERNS).to_vec();
+    let start = choices.of(&FROM);
+    let end = start + choices.of(&SPANS);
+    let stride = choices.of(&STRIDES);
+    let offset = choices.of(&OFFSETS);
+    let mark = choices.of(&[2, 3]);
+    let filling = Filling { mark, ..NO_FILLING };
+    out.call(&Call::Template(Template { bytes, start, end, stride, offset, filling }));
+    out.call(&Call::Dump);
+    for t in [start, start + 0.25] {
+        out.call(&Call::Active(t));
+        out.call(&Call::ClipTime(t));
+    }
+}
+
+const NAMED: [f64; 14] =
+    [0.0, -0.0, 0.5, -0.5, 1.0, 2.5, 0.05, -0.05, 0.125, 9.96, -12.345678, 1e9 + 0.5, -FAR, f64::NAN];
+
+fn names_size() -> usize {
+    sequences(3, 7)
+}
+
+fn names(index: usize, out: &mut Writer<'_>) {
+    let bytes: Vec<u8> = Choices(index).sequence(3, 7).into_iter().map(|i| b"#.a"[i]).collect();
+    for time in NAMED {
+        out.call(&Call::Name(bytes.clone(), time, NAME_ROOM));
+    }
+    for slots in [0, 3, 4, 5] {
+        out.call(&Call::Name(bytes.clone(), -1.0, slots));
+    }
+}
+
+fn normalise_size() -> usize {
+    sequences(8, 4) * 3
+}
+
+fn normalise(index: usize, out: &mut Writer<'_>) {
+    let mut choices = Choices(index);
+    let list = choices.sequence(8, 4);
+    let slots = choices.of(&[ROOM, 1, 2]);
+    let s = Samples {
+        ends: Vec::new(),
+        times: list.iter().map(|i| [0.0, -0.0, 1.0, -1.0][i % 4]).collect(),
+        values: (1..=list.len()).map(|v| v as f64).collect(),
+        marks: list.iter().map(|i| (i / 4) as u8).collect(),
+    };
+    out.call(&Call::Normalize(s, slots));
+}
+
+// Lent samples of up to three entries and two ends against sets of up to two clips.
+
+fn lent_size() -> usize {
+    3 * sequences(5, 2) * sequences(9, 3)
+}
+
+fn lent(index: usize, out: &mut Writer<'_>) {
+    let mut choices = Choices(index);
+    let clips = choices.below(3) as u64;
+    let ends = choices.sequence(5, 2).into_iter().map(|end| end as u64).collect();
+    let list = choices.sequence(9, 3);
+    let start_times: Vec<f64> = (0..clips).map(|i| i as f64).collect();
+    let start_clips = start_times.clone();
+    out.call(&Call::Explicit(Explicit { clips, start_times, start_clips, filling: NO_FILLING, ..Explicit::default() }));
+    out.call(&Call::Samples(Samples {
+        ends,
+        times: list.iter().map(|i| [0.0, -0.0, 1.0][i % 3]).collect(),
+        values: (0..list.len()).map(|v| v as f64).collect(),
+        marks: list.iter().map(|i| (i / 3) as u8).collect(),
+    }));
+    out.call(&Call::Value(0.5));
+    out.call(&Call::Untimed);
+    out.call(&Call::Track(1));
+}
+
+const MOVES: [f64; 14] =
+    [0.0, -0.0, 1.0, -1.0, 0.1, -3.0, 1e12, 1e300, -1e-300, 5e-324, f64::NAN, f64::INFINITY, FAR, 1.0000000000000002];
+
+fn retime_size() -> usize {
+    MOVES.len() * MOVES.len() * 12
+}
+
+fn retime(index: usize, out: &mut Writer<'_>) {
+    let mut choices = Choices(index);
+    let offset = choices.of(&MOVES);
+    let scale = choices.of(&MOVES);
+    let starts: [&[f64]; 3] = [&[-0.0], &[0.0, 1e-5], &[-2.0, 1.0, 3.0]];
+    let start_times = choices.of(&starts).to_vec();
+    let knots: [(&[f64], &[f64]); 4] = [
+        (&[], &[]),
+        (&[-0.0, 0.0, 1.0], &[1.0, 2.0, 3.0]),
+        (&[0.0, 10.0, 10.0, 20.0], &[0.0, 10.0, 0.0, 10.0]),
+        (&[-1.0, 1.0], &[5.0, -5.0]),
+    ];
+    let (x, y) = choices.of(&knots);
+    out.call(&Call::Explicit(Explicit {
+        clips: 3,
+        start_clips: (0..start_times.len()).map(|i| i as f64).collect(),
+        start_times,
+        knot_x: x.to_vec(),
+        knot_y: y.to_vec(),
+        filling: Filling { blocks: vec![-0.0, 1.0], flag: true, ..NO_FILLING },
+    }));
+    out.call(&Call::Samples(Samples {
+        ends: vec![2, 3, 4],
+        times: vec![0.0, 2.0, 1.0, 3.0],
+        values: vec![1.0, 2.0, 3.0, 4.0],
+        marks: vec![0; 4],
+    }));
+    out.call(&Call::Retime(offset, scale));
+    out.call(&Call::Dump);
+    for t in [-1.0, 0.0, 0.5, 2.0] {
+        out.call(&Call::Value(t));
+    }
+    out.call(&Call::Times(ROOM));
+    out.call(&Call::TrackHash);
+    out.call(&Call::Retime(0.0, 1.0));
+}

@@ -1,0 +1,160 @@
+//! Reading and writing the case text: words, doubles as 16 hex digits, counted lists, bytes as hex pairs.
+
+/// The words of one line.
+pub struct Words<'a>(&'a [u8]);
+
+fn blank(byte: u8) -> bool {
+    matches!(byte, b' ' | b'\t' | b'\r' | b'\n')
+}
+
+fn digit(byte: u8) -> Option<u64> {
+    (byte as char).to_digit(16).map(u64::from)
+}
+
+impl<'a> Words<'a> {
+    pub fn new(line: &'a [u8]) -> Self {
+        let end = line.iter().position(|&b| b == b';').unwrap_or(line.len());
+        Words(&line[..end])
+    }
+
+    pub fn word(&mut self) -> Option<&'a [u8]> {
+        let from = self.0.iter().position(|&b| !blank(b))?;
+        let rest = &self.0[from..];
+        let to = rest.iter().position(|&b| blank(b)).unwrap_or(rest.len());
+        self.0 = &rest[to..];
+        Some(&rest[..to])
+    }
+
+    /// None where a word is left.
+    pub fn end(mut self) -> Option<()> {
+        self.word().is_none().then_some(())
+    }
+
+    pub fn keyword(&mut self, expected: &str) -> Option<()> {
+        (self.word()? == expected.as_bytes()).then_some(())
+    }
+
+    pub fn number(&mut self) -> Option<u64> {
+        std::str::from_utf8(self.word()?).ok()?.parse().ok()
+    }
+
+    pub fn byte(&mut self) -> Option<u8> {
+        u8::try_from(self.number()?).ok()
+    }
+
+    pub fn double(&mut self) -> Option<f64> {
+        read_double(self.word()?)
+    }
+
+    pub fn doubles(&mut self) -> Option<Vec<f64>> {
+        let count = self.number()?;
+        (0..count).map(|_| self.double()).collect()
+    }
+
+    pub fn numbers(&mut self) -> Option<Vec<u64>> {
+        let count = self.number()?;
+        (0..count).map(|_| self.number()).collect()
+    }
+
+    pub fn marks(&mut self) -> Option<Vec<u8>> {
+        let count = self.number()?;
+        (0..count).map(|_| self.byte()).collect()
+    }
+
+    pub fn bytes(&mut self) -> Option<Vec<u8>> {
+        let word = self.word()?;
+        if word == b"-" {
+            return Some(Vec::new());
+        }
+        if word.len() % 2 != 0 {
+            return None;
+        }
+        word.chunks(2).map(|pair| Some((digit(pair[0])? * 16 + digit(pair[1])?) as u8)).collect()
+    }
+
+    /// The slots of each lent output list, at the line's end.
+    pub fn slots(mut self, room: u64) -> Option<u64> {
+        let mut again = Words(self.0);
+        if again.word().is_none() {
+            return Some(room);
+        }
+        let slots = self.number()?;
+        self.end()?;
+        Some(slots)
+    }
+}
+
+pub fn read_double(word: &[u8]) -> Option<f64> {
+    if word.len() != 16 {
+        return None;
+    }
+    let mut bits = 0;
+    for &byte in word {
+        bits = bits << 4 | digit(byte)?;
+    }
+    Some(f64::from_bits(bits))
+}
+
+const HEX: &[u8; 16] = b"0123456789abcdef";
+
+/// A line in the making.
+#[derive(Default)]
+pub struct Line(pub Vec<u8>);
+
+impl Line {
+    pub fn word(&mut self, word: &str) -> &mut Self {
+        if self.0.last().is_some_and(|&b| b != b'\n') {
+            self.0.push(b' ');
+        }
+        self.0.extend_from_slice(word.as_bytes());
+        self
+    }
+
+    pub fn number(&mut self, number: u64) -> &mut Self {
+        self.word(&number.to_string())
+    }
+
+    pub fn bits(&mut self, bits: u64) -> &mut Self {
+        self.word("");
+        for shift in (0..16).rev() {
+            self.0.push(HEX[(bits >> (4 * shift) & 15) as usize]);
+        }
+        self
+    }
+
+    pub fn double(&mut self, d: f64) -> &mut Self {
+        self.bits(d.to_bits())
+    }
+
+    pub fn doubles(&mut self, list: &[f64]) -> &mut Self {
+        self.number(list.len() as u64);
+        for &d in list {
+            self.double(d);
+        }
+        self
+    }
+
+    pub fn numbers(&mut self, list: &[u64]) -> &mut Self {
+        self.number(list.len() as u64);
+        for &n in list {
+            self.number(n);
+        }
+        self
+    }
+
+    pub fn bytes(&mut self, bytes: &[u8]) -> &mut Self {
+        if bytes.is_empty() {
+            return self.word("-");
+        }
+        self.word("");
+        for &byte in bytes {
+            self.0.push(HEX[(byte >> 4) as usize]);
+            self.0.push(HEX[(byte & 15) as usize]);
+        }
+        self
+    }
+
+    pub fn end(&mut self) {
+        self.0.push(b'\n');
+    }
+}

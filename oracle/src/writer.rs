@@ -1,0 +1,52 @@
+//! Case text on its way out, with the replies that it will get counted.
+
+use std::io::Write;
+
+use crate::calls::{self, Call};
+use crate::text::{Line, Words};
+
+pub struct Writer<'a> {
+    output: &'a mut dyn Write,
+    pub replies: u64,
+    pub bytes: u64,
+    /// Which calls are wanted; others are left out.
+    pub only: fn(&Call) -> bool,
+}
+
+impl<'a> Writer<'a> {
+    pub fn new(output: &'a mut dyn Write) -> Self {
+        Writer { output, replies: 0, bytes: 0, only: |_| true }
+    }
+
+    fn put(&mut self, text: &[u8]) {
+        self.bytes += text.len() as u64;
+        self.output.write_all(text).expect("written");
+    }
+
+    pub fn call(&mut self, call: &Call) {
+        if !(self.only)(call) {
+            return;
+        }
+        let mut line = Line::default();
+        calls::write(&mut line, call);
+        self.put(&line.0);
+        self.replies += u64::from(!matches!(call, Call::Samples(_)));
+    }
+
+    /// A line as it stands.
+    pub fn line(&mut self, line: &str) {
+        self.put(line.as_bytes());
+        self.put(b"\n");
+        self.replies += u64::from(has_reply(line.as_bytes()));
+    }
+}
+
+/// Whether a line gets a reply: empty lines and lent samples do not.
+pub fn has_reply(line: &[u8]) -> bool {
+    let mut words = Words::new(line);
+    match words.word() {
+        None => false,
+        Some(b"samples") => calls::read(b"samples", words).is_none(),
+        Some(_) => true,
+    }
+}
