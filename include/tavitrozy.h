@@ -65,7 +65,7 @@ typedef struct { uint8_t number; size_t count; } tavitrozy_counted;
 /* The head (mark and value) and the count of a baked track. */
 typedef struct { uint8_t number; uint8_t mark; double value; size_t count; } tavitrozy_baked;
 /* An entry of a track: mark 0 and a value, or 1 or 2 and 0.0. */
-typedef struct { uint8_t mark; double value; } tavitrozy_entry;
+typedef struct { double value; uint8_t mark; } tavitrozy_entry;
 
 /* ---- calls that may change what stands */
 

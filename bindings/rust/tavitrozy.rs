@@ -120,8 +120,8 @@ struct Baked {
 #[repr(C)]
 #[derive(Clone, Copy, Debug, PartialEq)]
 pub struct Entry {
-    pub mark: u8,
     pub value: f64,
+    pub mark: u8,
 }
 
 #[rustfmt::skip]

@@ -8,3 +8,6 @@ pub mod Standing
 pub mod Retimed
 pub mod Timed
 pub mod Fields
+pub mod Promotion
+pub mod Expansion
+pub mod Templates

@@ -4,3 +4,4 @@ pub mod Settling
 pub mod Retiming
 pub mod Asked
 pub mod Parsing
+pub mod Expanding

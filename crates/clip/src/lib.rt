@@ -1,8 +1,10 @@
 // Clip sets by value, and the operations on them.
+mod expanding;
 mod explicit;
 mod retiming;
 mod settling;
 pub mod storage;
+mod template;
 mod timing;
 
 use definitions::ClipTime;
@@ -10,6 +12,7 @@ use definitions::Default;
 use definitions::LayerOffset;
 use definitions::Manifest;
 use definitions::StageTime;
+use definitions::TemplateTimes;
 use storage::Active;
 use storage::Blocks;
 use storage::Knots;
@@ -20,6 +23,7 @@ ghost use Rattle.clip.specs.Asked.{answered};
 ghost use Rattle.clip.specs.Holding.{Held, clipSetOf, knotsIn, EmptySet};
 ghost use Rattle.clip.specs.Retiming.{Retimes};
 ghost use Rattle.clip.specs.Parsing.{manifest, explicitFields, Parses};
+ghost use Rattle.clip.specs.Expanding.{templateFields, Expands};
 
 #[repr(C)]
 pub struct ClipSet {
@@ -104,6 +108,50 @@ pub fn parse_set(
         &mut indices[..n],
         &mut us[..m],
         &mut vs[..m],
+    )
+}
+
+// The set that a template expands to, unless 1, 2, 7, 6, 8, 2, 4, 5 or 9 refuses it. Where `offset` is false the offset is absent, whatever its slot holds.
+pub fn expand_template(
+    template: &[u8],
+    times: TemplateTimes,
+    offset: bool,
+    blocks: &[f64],
+    default: Default,
+    interpolate: bool,
+) -> Parsed
+    ensures { λ r. ⌜ Expands (templateFields (now (template .entry)) times offset (now (blocks .entry)) (manifest default interpolate)) r ⌝ }
+{
+    let manifest = Manifest {
+        default,
+        interpolate,
+    };
+    let number = template::fields_number(template, times, offset, blocks, manifest);
+    if number != 0 {
+        return settling::refused(number);
+    }
+    let promoted = expanding::promote(times);
+    let n = promoted.count;
+    if 256 < n {
+        return settling::refused(8);
+    }
+    let m = expanding::knot_count(n, offset);
+    let ts = promoted.items;
+    let plain = storage::blank();
+    let mut starts = plain.times;
+    let mut numbers = plain.numbers;
+    let mut xs = plain.xs;
+    let mut ys = plain.ys;
+    expanding::expand_lists(
+        &ts[..n],
+        times,
+        offset,
+        blocks,
+        manifest,
+        &mut starts[..n],
+        &mut numbers[..n],
+        &mut xs[..m],
+        &mut ys[..m],
     )
 }
 

@@ -11,6 +11,7 @@ use lib.Ieee.Scale.{finite}
 use Rattle.definitions.specs.declared.LayerOffset.{LayerOffset}
 use Rattle.definitions.specs.ClipSet.{ClipSet, Model, noSet, standing}
 use Rattle.definitions.specs.Explicit.{ExplicitFields, explicitNumber, explicitSet}
+use Rattle.definitions.specs.Template.{TemplateFields, templateNumber, templateSet}
 use Rattle.definitions.specs.Retime.{retimeNumber, retimeStageTimes}
 use Rattle.definitions.specs.Lists.{_if_else_, _then_}
 use Rattle.definitions.specs.Samples.{Samples, samplesNumber}
@@ -23,12 +24,13 @@ use Rattle.cell_laws.specs.Unpacked.{samplesOf, sound-set, sound-samples}
 use Rattle.track.specs.declared.bake.Baked.{Baked}
 use Rattle.track.specs.Bakes.{BakeIs, bakedIs, bakedReply, bakes}
 use Rattle.definitions.specs.Calls as calls
-use Rattle.definitions.specs.Calls.{explicit, retime, step, accepted, retimed, bakedOf, outputsAfter, Bakes}
+use Rattle.definitions.specs.Calls.{explicit, template, retime, step, accepted, retimed, bakedOf, outputsAfter, Bakes}
 use Rattle.set_laws.specs.Sound.{Sound}
 use Rattle.set_laws.specs.SoundCalls.{SoundModel}
 use Rattle.clip.specs.declared.ActiveClip.the-variants.{Clip, NoClip}
 use Rattle.clip.specs.Asked.{answered}
 use Rattle.clip.specs.declared.Parsed.{Parsed}
+use Rattle.clip.specs.Expanding as expanding
 use Rattle.clip.specs.Parsing as parsing
 use Rattle.clip.specs.Retiming as sets
 use Rattle.clip.specs.Holding.{clipSetOf, Held}
@@ -36,7 +38,7 @@ use Rattle.resolver.specs.declared.Resolver.{Resolver}
 use Rattle.resolver.specs.declared.Accepted.{Accepted}
 use Rattle.resolver.specs.Asked.{Asked}
 use Rattle.resolver.specs.State.{model, Made}
-use Rattle.resolver.specs.Promises.{Accepts, Retimes, Installable, Installs}
+use Rattle.resolver.specs.Promises.{Accepts, Expands, Retimes, Installable, Installs}
 
 -- ---- installing
 
@@ -69,6 +71,14 @@ unfolding step
 accepts d f p r q i = record {
   number = i .number ∙ q .number;
   after = i .after ∙ accepted-same (p .number) (explicitNumber f) (model d) (standing false (clipSetOf (p .set))) (standing false (explicitSet f)) (q .number) (λ e. ap (standing false) (q .made e));
+  made = i .made;
+}
+
+pub expands : (d : Resolver) (f : TemplateFields) (p : Parsed) (r : Accepted) → expanding.Expands f p → Installs d p false r → Expands d f r
+unfolding step
+expands d f p r q i = record {
+  number = i .number ∙ q .number;
+  after = i .after ∙ accepted-same (p .number) (templateNumber f) (model d) (standing false (clipSetOf (p .set))) (standing false (templateSet f)) (q .number) (λ e. ap (standing false) (q .made e));
   made = i .made;
 }
 

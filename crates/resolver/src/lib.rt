@@ -9,15 +9,18 @@ use definitions::ClipTime;
 use definitions::Default;
 use definitions::LayerOffset;
 use definitions::StageTime;
+use definitions::TemplateTimes;
 use track::bake::Baked;
 use value::untimed::ValueState;
 ghost use mathlib.Core.Path.{_≡_};
 ghost use Rattle.cell_laws.specs.Unpacked.{samplesOf};
+ghost use Rattle.clip.specs.Expanding.{templateFields};
 ghost use Rattle.clip.specs.Parsing.{explicitFields};
+ghost use Rattle.clip.specs.Expanding.{templateFields};
 ghost use Rattle.clip.specs.Parsing.{manifest};
 ghost use Rattle.track.specs.Bakes.{outputs, bakedReply};
 ghost use Rattle.resolver.specs.State.{Made};
-ghost use Rattle.resolver.specs.Promises.{Begins, Accepts, Retimes, BakesTrack, TellsClip, TellsTime, TellsValue, TellsUntimed, Installable, Installs};
+ghost use Rattle.resolver.specs.Promises.{Begins, Accepts, Expands, Retimes, BakesTrack, TellsClip, TellsTime, TellsValue, TellsUntimed, Installable, Installs};
 
 #[repr(C)]
 pub struct Resolver {
@@ -83,6 +86,24 @@ impl Resolver {
         ensures { λ r. ⌜ Accepts self (explicitFields clips (now (starts .entry)) (now (numbers .entry)) (now (xs .entry)) (now (ys .entry)) (now (blocks .entry)) (manifest default interpolate)) r ⌝ }
     {
         let parsed = clip::parse_set(clips, starts, numbers, xs, ys, blocks, default, interpolate);
+        install(self, parsed, false)
+    }
+
+    // The set that the template expands to takes the place of the standing one, unless a number refuses it.
+    // Where `offset` is false the offset's slot is not looked at.
+    pub fn accept_template(
+        self,
+        template: &[u8],
+        times: TemplateTimes,
+        offset: bool,
+        blocks: &[f64],
+        default: Default,
+        interpolate: bool,
+    ) -> Accepted
+        requires { ⌜ Made self ⌝ }
+        ensures { λ r. ⌜ Expands self (templateFields (now (template .entry)) times offset (now (blocks .entry)) (manifest default interpolate)) r ⌝ }
+    {
+        let parsed = clip::expand_template(template, times, offset, blocks, default, interpolate);
         install(self, parsed, false)
     }
 

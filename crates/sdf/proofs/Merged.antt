@@ -2,11 +2,11 @@
 use mathlib.Core.Path.{_≡_, refl, sym, ap, ap₂, _∙_, subst}
 use mathlib.Core.Bool.{Bool, true, false, cond, true≢false}
 use mathlib.Core.List.{List, [], _∷_, _++_, map, append-assoc}
-use Prim.Native.Nat.{ℕ, zero, suc, _+_, _-_, _≤_, _<_}
+use Prim.Native.Nat.{ℕ, suc, _+_, _-_, _≤_, _<_}
 use native.Mathlib.Nat.{add-zero}
 use native.Mathlib.Numerals.{add-one}
 use native.Mathlib.Omega.{arith}
-use lib.ListN.{length, getD, take, drop, set, length-drop, length-set, length-append, length-map}
+use lib.ListN.{length, getD, take, drop, set, length-drop, length-set, length-map}
 use lib.Seq.{take-all, drop-length, drop-cons, take-suc, drop-set-add, drop-set-lt, getD-set-same, set-at, length-take-le}
 use lib.Ieee.{Float, nan, eq}
 use Rattle.set_laws.specs.Every.{Every, every-drop}

@@ -1,6 +1,6 @@
 -- The samples' number, settled by each test in turn. Assumes nothing.
-use mathlib.Core.Path.{_≡_, refl, sym, ap, ap₂, _∙_}
-use mathlib.Core.Bool.{Bool, true, false, not, _&&_, _||_}
+use mathlib.Core.Path.{_≡_}
+use mathlib.Core.Bool.{Bool, true, false, not}
 use mathlib.Core.List.{List, [], _∷_}
 use Prim.Native.Nat.{ℕ, zero, suc, _≤_}
 use lib.Dec.{eqb, ltb}
@@ -9,7 +9,7 @@ use lib.Ieee.{Float, nan}
 use borrow.Author.Tests.{eq-eqb, ne-eqb, eqb-true, ltb-false, not-false}
 use Rattle.definitions.specs.Lists.{any, zipWith}
 use Rattle.definitions.specs.ClipSet.{ClipSet, maxSamples, anyUnstorable}
-use Rattle.definitions.specs.Samples.{Samples, unlikeLengths, samples1, nanValue, samples2, badMarks, closes, samples9, samplesNumber, clipTimes}
+use Rattle.definitions.specs.Samples.{unlikeLengths, samples1, nanValue, samples2, badMarks, closes, samples9, samplesNumber, clipTimes}
 use Rattle.set_laws.specs.Tests.{or-false}
 use Rattle.set_laws.specs.Every.{Every}
 use Rattle.cell_laws.specs.Places.{Fits}

@@ -17,11 +17,11 @@ use Rattle.set_laws.specs.Sorting.{every-sort, length-sort}
 use Rattle.sdf.specs.Placed.{Inside, keyAt, inOrder}
 use Rattle.sdf.specs.Runs.{Run, runs, firsts, lasts, RunsFrom}
 use Rattle.sdf.specs.declared.Counted.{Counted}
-use Rattle.sdf.specs.Normalizes.{normalForm, outputs, after, countAfter, Normalizes, listedNumber, InRuns}
+use Rattle.sdf.specs.Normalizes.{normalForm, outputs, Normalizes, listedNumber, InRuns}
 use Rattle.sdf.proofs.Numbers.{paired}
 use Rattle.sdf.proofs.Ordered.{length-below, below-inside}
 use Rattle.sdf.proofs.Merged.{runs-every, part-rest}
-use Rattle.sdf.proofs.Normal.{normal-length, normal-times, normal-values, normal-marks, passes, refused, too-short, suffices, all-long}
+use Rattle.sdf.proofs.Normal.{normal-length, normal-times, normal-values, normal-marks, passes, too-short, suffices, all-long}
 
 -- a reply that writes nothing
 abbrev pub refusal : ℕ → Counted

@@ -4,7 +4,7 @@ use mathlib.Core.List.{List}
 use Prim.Native.Nat.{ℕ}
 use lib.Ieee.{Float}
 use Rattle.definitions.specs.ClipSet.{ClipSet}
-use Rattle.definitions.specs.Samples.{Samples, samplesNumber}
+use Rattle.definitions.specs.Samples.{samplesNumber}
 use Rattle.set_laws.specs.Every.{Every}
 use Rattle.set_laws.specs.Accepted.{Accepted, accepted}
 use Rattle.cell_laws.specs.Places.{Fits}

@@ -10,6 +10,7 @@ mod scans;
 mod sorting;
 
 // A reply with a count: where the number is not 0 the lists are refused by it, and the count is 0.
+#[repr(C)]
 pub struct Counted {
     pub number: u8,
     pub count: usize,

@@ -79,7 +79,7 @@ pub fn closes(ends: &[u64], count: usize) -> bool
 }
 
 // Each time is below the one after it.
-fn ascending(times: &[f64]) -> bool
+pub fn ascending(times: &[f64]) -> bool
     ensures { λ r. ⌜ r ≡ Doubles.ascending (now (times .entry)) ⌝ }
 {
     let mut i: usize = 0;

@@ -12,6 +12,7 @@ ghost use Rattle.cell_laws.specs.Unpacked.{setOf, samplesOf, Ready};
 ghost use Rattle.track.specs.Bakes.{changesOf, Room, Written, outputs, BakeIs};
 
 // What a bake replies: 22, or 0 with the head and the number of changes.
+#[repr(C)]
 pub struct Baked {
     pub number: u8,
     pub mark: u8,

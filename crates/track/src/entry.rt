@@ -13,6 +13,7 @@ ghost use Rattle.cell_laws.specs.Unpacked.{setOf, samplesOf, Ready};
 ghost use Rattle.track.specs.Entries.{entryIs};
 
 // A value and its mark, as a track holds them.
+#[repr(C)]
 pub struct Entry {
     pub value: f64,
     pub mark: u8,

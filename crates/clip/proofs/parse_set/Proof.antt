@@ -1,10 +1,8 @@
 -- `clip::parse_set` meets its contract: the numbers of its fields, or those of the settled lists. Assumes nothing.
-use Prim.Native.Nat.{ℕ, _-_, _≤_, _<_}
-use mathlib.Core.Path.{_≡_, refl, sym, ap, ap₂, subst, _∙_}
+use mathlib.Core.Path.{_≡_, sym, subst, _∙_}
 use native.Mathlib.Omega.{arith}
 use borrow.Author.Needs.{needs}
 use lib.Dec.{T}
-use lib.ListN.{length}
 use denote.Ref.{now}
 use Rattle.definitions.specs.Explicit.{ExplicitFields}
 use Rattle.set_laws.specs.SoundExplicit.{ExplicitLimits, ExplicitFits}

@@ -1,14 +1,10 @@
 -- `clip::ClipSet::active_clip` meets its contract. Assumes nothing.
-use Prim.Native.Nat.{ℕ, _<_}
-use mathlib.Core.Path.{_≡_, refl, sym, ap, ap₂, subst, _∙_}
-use mathlib.Core.List.{List}
+use Prim.Native.Nat.{ℕ}
+use mathlib.Core.Path.{sym, ap, _∙_}
 use native.Mathlib.Omega.{arith}
 use borrow.Author.Needs.{needs}
-use lib.ListN.{length, getD, length-take, length-map}
-use lib.Ieee.{Float}
 use lib.ListN.{take}
 use lib.Seq.{length-take-le}
-use Rattle.definitions.specs.ClipSet.{activeTimes}
 use Rattle.set_laws.specs.Sound.{sound-active}
 use Rattle.clip.specs.Holding.{clipSetOf}
 use Rattle.clip.specs.declared.ActiveClip.the-variants.{Clip}

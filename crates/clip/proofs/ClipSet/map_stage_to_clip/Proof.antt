@@ -1,11 +1,6 @@
 -- `clip::ClipSet::map_stage_to_clip` meets its contract. Assumes nothing.
-use Prim.Native.Nat.{ℕ, _<_}
-use mathlib.Core.Path.{_≡_, refl, sym, ap, ap₂, subst, _∙_}
-use mathlib.Core.List.{List}
-use native.Mathlib.Omega.{arith}
+use mathlib.Core.Path.{sym, ap}
 use borrow.Author.Needs.{needs}
-use lib.ListN.{length, getD, length-take, length-map}
-use lib.Ieee.{Float}
 use Rattle.definitions.specs.ClipSet.{clip}
 use Rattle.definitions.specs.Timing.{mapStageToClip}
 use Rattle.set_laws.specs.Sound.{sound-knots}

@@ -1,14 +1,5 @@
 -- `clip::explicit::is_nan_default` meets its contract. Assumes nothing.
-use Prim.Native.Nat.{ℕ, _-_, _≤_, _<_}
-use mathlib.Core.Path.{_≡_, refl, sym, ap, ap₂, subst, _∙_}
-use mathlib.Core.Bool.{Bool, true, false, not}
-use mathlib.Core.List.{List, map}
-use native.Mathlib.Omega.{arith}
-use borrow.Author.Needs.{needs}
-use borrow.Author.Tests.{lt-ltb, le-ltb, eq-eqb, ne-eqb}
-use lib.ListN.{length, getD, drop, length-set, length-map}
-use lib.Ieee.{Float, nan}
-use denote.Ref.{now}
+use borrow.Author.Tests.{eq-eqb, ne-eqb}
 use Rattle.definitions.specs.ClipSet.{nanDefault}
 use Rattle.clip.proofs.Answers.{differs-is}
 use Rattle.clip.proofs.explicit.is_nan_default.Statement.{statement}

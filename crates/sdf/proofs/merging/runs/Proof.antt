@@ -1,7 +1,7 @@
 -- `sdf::merging::runs` meets its contract: the loop keeps `Standing`, and i falls to 0. Assumes nothing.
 use Prim.Native.Nat.{ℕ, _-_, _≤_, _<_}
 use mathlib.Core.Path.{_≡_, sym, ap, _∙_, subst}
-use mathlib.Core.Bool.{true, false}
+use mathlib.Core.Bool.{Bool, true, false}
 use native.Mathlib.Omega.{arith}
 use borrow.Author.Needs.{needs}
 use lib.ListN.{length, drop}
@@ -24,6 +24,24 @@ entry c = c .before .before .before .before .before
 -- the place that the loop takes
 inside : (c : tie.At-loop Inv-loop μ-loop) → 0 < c .loop .i → c .loop .i - 1 < length (entry c .args .places .now)
 inside c h = omega (arith, c .loop .inv .within, c .loop .inv .count)
+
+abbrev place : tie.After-meets Inv-loop μ-loop → tie.At-loop Inv-loop μ-loop
+place c = c .before .before .before .before .before
+
+abbrev Meets : tie.At-loop Inv-loop μ-loop → Bool → Type 0
+Meets c b =
+    let a = entry c .args in
+    meets (a .times .now) (here (a .times .now) (a .places .now) (c .loop .i)) (drop (c .loop .at) (c .loop .firsts)) ≡ b
+
+-- the test, by the arm taken
+answer : (c : tie.After-meets Inv-loop μ-loop) (b : Bool) → c .meets .result ≡ b → Meets (place c) b
+answer c b e =
+    let l = place c in
+    let a = entry l .args in
+    ap (meets (a .times .now) (here (a .times .now) (a .places .now) (l .loop .i))) (sym (part-rest (l .loop .at) (l .loop .firsts))) ∙ sym (c .meets .ensures) ∙ e
+
+free : (c : tie.At-loop Inv-loop μ-loop) → 0 < c .loop .i → Meets c true → c .loop .at < length (c .loop .firsts)
+free c = same-inside (entry c .args .times .now) (entry c .args .places .now) (c .loop .firsts) (c .loop .lasts) (c .loop .at) (c .loop .i) (c .loop .inv)
 
 loop-holds : tie.Need-loop-holds Inv-loop μ-loop
 loop-holds c =
@@ -71,31 +89,19 @@ meets-requires c κs =
     )
 
 mul-firsts : tie.Need-mul-firsts Inv-loop μ-loop
-mul-firsts c =
-    let l = c .before .before .before .before .before .before in
-    let a = entry l .args in
-    let e : meets (a .times .now) (here (a .times .now) (a .places .now) (l .loop .i)) (drop (l .loop .at) (l .loop .firsts)) ≡ true =
-    ap (meets (a .times .now) (here (a .times .now) (a .places .now) (l .loop .i))) (sym (part-rest (l .loop .at) (l .loop .firsts))) ∙ sym (c .before .meets .ensures) ∙ c .if1 .taken in
-    omega (arith, same-inside (a .times .now) (a .places .now) (l .loop .firsts) (l .loop .lasts) (l .loop .at) (l .loop .i) (l .loop .inv) (c .before .before .before .before .before .loop-test .taken) e)
+mul-firsts c = omega (arith, free (place (c .before)) (c .before .before .before .before .before .loop-test .taken) (answer (c .before) true (c .if1 .taken)))
 
 slice-write-firsts : tie.Need-slice-write-firsts Inv-loop μ-loop
-slice-write-firsts c =
-    let l = c .before .before .before .before .before .before in
-    let a = entry l .args in
-    let e : meets (a .times .now) (here (a .times .now) (a .places .now) (l .loop .i)) (drop (l .loop .at) (l .loop .firsts)) ≡ true =
-    ap (meets (a .times .now) (here (a .times .now) (a .places .now) (l .loop .i))) (sym (part-rest (l .loop .at) (l .loop .firsts))) ∙ sym (c .before .meets .ensures) ∙ c .if1 .taken in
-    same-inside (a .times .now) (a .places .now) (l .loop .firsts) (l .loop .lasts) (l .loop .at) (l .loop .i) (l .loop .inv) (c .before .before .before .before .before .loop-test .taken) e
+slice-write-firsts c = free (place (c .before)) (c .before .before .before .before .before .loop-test .taken) (answer (c .before) true (c .if1 .taken))
 
 loop-less : tie.Need-loop-less Inv-loop μ-loop
 loop-less c = omega arith
 
 loop-again : tie.Need-loop-again Inv-loop μ-loop
 loop-again c =
-    let l = c .before .before .before .before .before .before in
+    let l = place (c .before) in
     let a = entry l .args in
-    let e : meets (a .times .now) (here (a .times .now) (a .places .now) (l .loop .i)) (drop (l .loop .at) (l .loop .firsts)) ≡ true =
-    ap (meets (a .times .now) (here (a .times .now) (a .places .now) (l .loop .i))) (sym (part-rest (l .loop .at) (l .loop .firsts))) ∙ sym (c .before .meets .ensures) ∙ c .if1 .taken in
-    standing-same (a .times .now) (a .places .now) (l .loop .firsts) (l .loop .lasts) (l .loop .at) (l .loop .i) (l .loop .inv) (c .before .before .before .before .before .loop-test .taken) e
+    standing-same (a .times .now) (a .places .now) (l .loop .firsts) (l .loop .lasts) (l .loop .at) (l .loop .i) (l .loop .inv) (c .before .before .before .before .before .loop-test .taken) (answer (c .before) true (c .if1 .taken))
 
 sub-at : tie.Need-sub-at Inv-loop μ-loop
 sub-at c =
@@ -132,11 +138,9 @@ loop-less-2 c = omega arith
 
 loop-again-2 : tie.Need-loop-again-2 Inv-loop μ-loop
 loop-again-2 c =
-    let l = c .before .before .before .before .before .before in
+    let l = place (c .before) in
     let a = entry l .args in
-    let e : meets (a .times .now) (here (a .times .now) (a .places .now) (l .loop .i)) (drop (l .loop .at) (l .loop .firsts)) ≡ false =
-    ap (meets (a .times .now) (here (a .times .now) (a .places .now) (l .loop .i))) (sym (part-rest (l .loop .at) (l .loop .firsts))) ∙ sym (c .before .meets .ensures) ∙ c .if1 .left in
-    standing-apart (a .times .now) (a .places .now) (l .loop .firsts) (l .loop .lasts) (l .loop .at) (l .loop .i) (l .loop .inv) (c .before .before .before .before .before .loop-test .taken) e
+    standing-apart (a .times .now) (a .places .now) (l .loop .firsts) (l .loop .lasts) (l .loop .at) (l .loop .i) (l .loop .inv) (c .before .before .before .before .before .loop-test .taken) (answer (c .before) false (c .if1 .left))
 
 same-length : tie.Need-same-length Inv-loop μ-loop
 same-length c = c .before .loop .inv .first-long ∙ sym (entry (c .before) .pre .1)

@@ -1,13 +1,15 @@
 -- `change::end_stop` meets its contract. Assumes nothing.
+use Prim.Native.Nat.{_≤_, _<_}
+use native.Mathlib.Omega.{arith}
 use borrow.Author.Tests.{le-leb, lt-leb}
 use Rattle.track.proofs.change.end_stop.Statement.{statement}
 use Rattle.track.proofs.change.end_stop.Tie as tie
 
 returns : tie.Need-returns
-returns c = simp (le-leb _ _ (c .if1 .taken))
+returns c = let a = c .before .args in let h : a .e ≤ a .top = omega (arith, c .if1 .taken) in simp (le-leb (a .e) (a .top) h)
 
 returns-2 : tie.Need-returns-2
-returns-2 c = simp (lt-leb _ _ (c .if1 .left))
+returns-2 c = let a = c .before .args in let h : a .top < a .e = omega (arith, c .if1 .left) in simp (lt-leb (a .e) (a .top) h)
 
 pub end-stop-spec : {M : Type 1} → statement M
 end-stop-spec = tie.close (tie.spec returns returns-2)

@@ -1,0 +1,19 @@
+-- `resolver::Resolver::accept_template` meets its contract: the expanded set is installed. Assumes nothing.
+use borrow.Author.Needs.{needs}
+use Rattle.resolver.proofs.Laws.{expands}
+use Rattle.resolver.proofs.Resolver.accept_template.Statement.{statement}
+use Rattle.resolver.proofs.Resolver.accept_template.Tie as tie
+
+expand-template-requires : tie.Need-expand-template-requires
+expand-template-requires c κs = search needs
+
+install-requires : tie.Need-install-requires
+install-requires c κs =
+    let e = c .expand-template .ensures in
+    (c .before .before .before .pre, record { held = e .held; sound = e .sound })
+
+returns : tie.Need-returns
+returns c = expands _ _ _ _ (c .before .expand-template .ensures) (c .install .ensures)
+
+pub accept-template-spec : {M : Type 1} → statement M
+accept-template-spec = tie.close (tie.spec expand-template-requires install-requires returns)

@@ -1,0 +1,2 @@
+-- What the numbers of a reply stand for.
+pub mod Codes
