@@ -3,7 +3,9 @@ use crate::calls::Change;
 use crate::reply;
 use definitions::Default;
 use definitions::LayerOffset;
+use definitions::TemplateTimes;
 use resolver::Resolver;
+use text::first_bytes;
 use text::first_doubles;
 ghost use Rattle.resolver.specs.State.{Made};
 
@@ -95,6 +97,71 @@ fn explicit(line: &[u8], at: usize, resolver: Resolver, out: &mut [u8], full: us
     }
 }
 
+// A template's offset: a double, or `none`. The slot of an absent one holds a NaN, which nothing may look at.
+struct Offset {
+    at: usize,
+    present: bool,
+    value: f64,
+}
+
+fn read_offset(line: &[u8], at: usize) -> Offset {
+    let absent = text::after(line, at, b"none");
+    if absent != text::NOWHERE {
+        return Offset {
+            at: absent,
+            present: false,
+            value: 0.0 / 0.0,
+        };
+    }
+    let d = text::read_double(line, at);
+    Offset {
+        at: d.at,
+        present: true,
+        value: d.value,
+    }
+}
+
+fn template(line: &[u8], at: usize, resolver: Resolver, out: &mut [u8], full: usize) -> Changed
+    requires { ⌜ Made resolver ⌝ }
+    ensures { λ r. ⌜ Made (r .resolver) ⌝ }
+{
+    let mut bytes = [0u8; 512];
+    let mut blocks = [0.0f64; 320];
+    let b = text::read_bytes(line, at, &mut bytes);
+    let start = text::read_double(line, b.at);
+    let end = text::read_double(line, start.at);
+    let stride = text::read_double(line, end.at);
+    let o = read_offset(line, stride.at);
+    let bl = text::doubles_after(line, o.at, b"bl", &mut blocks);
+    let f = read_filling(line, bl.at);
+    if !text::is_end(line, f.at) {
+        return unreadable(resolver, out, full);
+    }
+    let times = TemplateTimes {
+        start: start.value,
+        end: end.value,
+        stride: stride.value,
+        offset: o.value,
+    };
+    let default = Default {
+        mark: f.mark,
+        value: f.value,
+    };
+    let accepted = resolver.accept_template(
+        first_bytes(&bytes, b.count),
+        times,
+        o.present,
+        first_doubles(&blocks, bl.count),
+        default,
+        f.interpolate,
+    );
+    let left = accepted.resolver;
+    Changed {
+        full: reply::accepted(accepted.number, out, full),
+        resolver: left,
+    }
+}
+
 fn retime(line: &[u8], at: usize, resolver: Resolver, out: &mut [u8], full: usize) -> Changed
     requires { ⌜ Made resolver ⌝ }
     ensures { λ r. ⌜ Made (r .resolver) ⌝ }
@@ -129,7 +196,7 @@ pub fn change(
 {
     match kind {
         Change::Explicit => explicit(line, at, resolver, out, full),
-        Change::Template => unreadable(resolver, out, full),
+        Change::Template => template(line, at, resolver, out, full),
         Change::Retime => retime(line, at, resolver, out, full),
     }
 }

@@ -2,6 +2,7 @@
 mod calls;
 mod change;
 mod dump;
+mod hash;
 mod input;
 mod lent;
 mod question;
@@ -229,7 +230,18 @@ fn ask(
             out,
             full,
         ),
-        Question::TrackHash => reply::unreadable(out, full),
+        Question::TrackHash => hash::track_hash(
+            line,
+            at,
+            resolver,
+            lent,
+            ends,
+            times,
+            values,
+            marks,
+            out,
+            full,
+        ),
     }
 }
 

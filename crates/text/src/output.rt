@@ -64,8 +64,8 @@ fn glyph(d: u64) -> u8 {
     DIGITS[i]
 }
 
-// The last `count` hex digits of a number.
-fn put_hex(out: &mut [u8], full: usize, value: u64) -> usize {
+// The bits of a number, as 16 hex digits.
+pub fn put_bits(out: &mut [u8], full: usize, value: u64) -> usize {
     let mut n = full;
     let mut rest = value;
     let mut left: usize = 16;
@@ -79,7 +79,7 @@ fn put_hex(out: &mut [u8], full: usize, value: u64) -> usize {
 
 // A double by its bits.
 pub fn put_double(out: &mut [u8], full: usize, x: f64) -> usize {
-    put_hex(out, full, bits_of(x))
+    put_bits(out, full, bits_of(x))
 }
 
 // Bytes as hex pairs, `-` for none.

@@ -1,10 +1,10 @@
--- `text::output::put_hex` is safe and ends: the digits that are left are fewer after each turn. Assumes nothing.
+-- `text::output::put_bits` is safe and ends: the digits that are left are fewer after each turn. Assumes nothing.
 use borrow.Author.Needs.{needs}
 use Prim.Native.Nat.{_<_, _^_}
 use mathlib.Core.Path.{_≡_}
 use lib.ListN.{length}
-use Rattle.text.proofs.output.put_hex.Statement.{statement}
-use Rattle.text.proofs.output.put_hex.Tie as tie
+use Rattle.text.proofs.output.put_bits.Statement.{statement}
+use Rattle.text.proofs.output.put_bits.Tie as tie
 
 abbrev Inv-loop : tie.InvT-loop
 Inv-loop out₀ full value n₀ rest₀ left₀ out n rest left = (length out ≡ length out₀) × (rest < 2 ^ 64)
@@ -39,8 +39,8 @@ same-length c = search needs
 returns : tie.Need-returns Inv-loop μ-loop
 returns c = search needs
 
-pub put-hex-spec : {M : Type 1} → statement M
-put-hex-spec =
+pub put-bits-spec : {M : Type 1} → statement M
+put-bits-spec =
     tie.close
     (tie.spec
     Inv-loop
