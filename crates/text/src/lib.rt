@@ -1,0 +1,36 @@
+// The case text: the words, numbers and lists of a line, and the replies. Nothing here asks anything of its caller.
+mod lists;
+mod numbers;
+mod output;
+mod words;
+
+pub use lists::Listed;
+pub use lists::doubles_after;
+pub use lists::first_bytes;
+pub use lists::first_doubles;
+pub use lists::first_numbers;
+pub use lists::marks_after;
+pub use lists::numbers_after;
+pub use lists::part;
+pub use lists::read_bytes;
+pub use numbers::Byte;
+pub use numbers::Double;
+pub use numbers::Number;
+pub use numbers::bits_of;
+pub use numbers::read_byte;
+pub use numbers::read_decimal;
+pub use numbers::read_double;
+pub use output::flush;
+pub use output::put;
+pub use output::put_bits;
+pub use output::put_byte;
+pub use output::put_bytes;
+pub use output::put_decimal;
+pub use output::put_double;
+pub use words::NOWHERE;
+pub use words::after;
+pub use words::is_end;
+pub use words::skip_blanks;
+pub use words::without_comment;
+pub use words::word;
+pub use words::word_end;
