@@ -70,7 +70,7 @@ part-scan-segments-end : tie.Need-part-scan-segments-end
 part-scan-segments-end c = let h = part-inside (c .before) in search needs
 
 scan-segments-requires : tie.Need-scan-segments-requires
-scan-segments-requires c κs = entry (c .before .before) .pre .0 .paired
+scan-segments-requires c κs = let r = entry (c .before .before) .pre .0 in (r .paired, r .segments)
 
 returns-2 : tie.Need-returns-2
 returns-2 c =
