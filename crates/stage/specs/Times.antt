@@ -1,27 +1,26 @@
 -- The stage sample times over the lent lists: they are finite, and a pass over all windows finds the next one. Assumes nothing.
 use mathlib.Core.Path.{_≡_, refl, sym, ap, ap₂, _∙_, subst}
-use mathlib.Core.Logic.{_⊎_, inl, inr}
-use mathlib.Core.Bool.{Bool, true, false, _&&_, _||_, cond}
+use mathlib.Core.Logic.{inl, inr}
+use mathlib.Core.Bool.{Bool, true, false, _&&_, cond}
 use mathlib.Core.List.{List, [], _∷_, _++_, append-assoc, append-nil}
-use mathlib.Core.Option.{Option, none, some}
-use Prim.Native.Nat.{ℕ, zero, suc, _+_, _≤_, _<_}
+use mathlib.Core.Option.{Option}
+use Prim.Native.Nat.{ℕ, zero, suc, _+_, _<_}
 use native.Mathlib.Numerals.{add-one}
 use native.Mathlib.Omega.{arith}
 use lib.Dec.{T}
 use lib.ListN.{length, getD, getElem?}
 use lib.Ieee.{Float, nan, inf, binary64, lt, le}
 use lib.Ieee.Fits.{add-fits}
-use Rattle.gf.specs.Doubles.{_⊖_, _⊗_, _⊘_, totalKey}
+use Rattle.gf.specs.Doubles.{_⊖_, _⊗_, _⊘_}
 use Rattle.definitions.specs.declared.Manifest.{Manifest}
 use Rattle.definitions.specs.declared.Knot.{Knot}
 use Rattle.definitions.specs.declared.Start.{Start}
-use Rattle.definitions.specs.Lists.{keep, pairs, gather, sortBy, below}
+use Rattle.definitions.specs.Lists.{keep, pairs, gather, below}
 use Rattle.definitions.specs.Doubles.{FiniteDouble}
-use Rattle.definitions.specs.Explicit.{knot}
 use Rattle.definitions.specs.ClipSet.{ClipSet, clip}
 use Rattle.definitions.specs.Samples.{Samples, clipTimes}
 use Rattle.definitions.specs.Value.{spans, inverse, onPair, stageTimesForClipTime, windowSampleTimes}
-use Rattle.definitions.specs.StageSamples.{dedup, timesOfClip, stageSampleTimes}
+use Rattle.definitions.specs.StageSamples.{timesOfClip, stageSampleTimes}
 use Rattle.set_laws.specs.Every.{Every, every-at}
 use Rattle.cell_laws.specs.Every.{every-map, every-append, every-keep, every-gather, both-l, both-r, or-split}
 use Rattle.cell_laws.specs.Places.{Fits}
@@ -32,7 +31,7 @@ use Rattle.value.specs.declared.window.Bound.the-variants.{At, Nothing}
 use Rattle.value.specs.declared.window.Bounds.{Bounds}
 use Rattle.value.specs.Reads.{partOf, ready-starts, ready-clip, ready-readable}
 use Rattle.value.specs.Near.{Segment}
-use Rattle.value.specs.Bounds.{inside, in-every, nothing, Scanned, scanned-then, NextIs, next-of}
+use Rattle.value.specs.Bounds.{inside, in-every, nothing, Scanned, NextIs, next-of}
 use Rattle.value.specs.Inverses.{inversesOf}
 use Rattle.value.specs.Windows.{windowOf, windowPart, ifOwn, window-times}
 use Rattle.stage.specs.Ordered.{after, after-all, after-none, after-next}

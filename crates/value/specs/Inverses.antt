@@ -1,7 +1,7 @@
 -- The inverse times of a clip's samples, segment by segment: the same times as sample by sample. Assumes nothing.
 use mathlib.Core.Path.{_≡_, refl, sym, ap, _∙_, subst}
 use mathlib.Core.Bool.{Bool, true, false, cond}
-use mathlib.Core.List.{List, [], _∷_, _++_}
+use mathlib.Core.List.{List, [], _∷_}
 use Prim.Native.Nat.{ℕ, _+_, _≤_, _<_}
 use native.Mathlib.Omega.{arith}
 use lib.Dec.{T}
@@ -19,7 +19,7 @@ use Rattle.cell_laws.specs.Unpacked.{knotsOf, zip-length}
 use Rattle.lists.specs.Fronts.{front, no-front}
 use Rattle.value.specs.declared.window.Bounds.{Bounds}
 use Rattle.value.specs.Pairs.{pairs-front, pairs-end}
-use Rattle.value.specs.Bounds.{inside, withTime, Scanned, scanned-none, scanned-then, scanned-same, scanned-keep, keep-append}
+use Rattle.value.specs.Bounds.{withTime, Scanned, scanned-none, scanned-then, scanned-same, scanned-keep, keep-append}
 
 -- the inverse times of the clip times cs between two knots
 unfoldable pub onSegment : List Float → Knot × Knot → List Float

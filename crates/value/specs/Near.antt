@@ -1,9 +1,9 @@
 -- Which segments a pass may leave out: the inverse times of a segment lie from its first x up to the inverse time of its second clip time. Assumes nothing.
-use mathlib.Core.Path.{_≡_, refl, sym, subst}
+use mathlib.Core.Path.{_≡_, sym, subst}
 use mathlib.Core.Logic.{_⊎_, inl, inr}
-use mathlib.Core.Bool.{Bool, true, false, not, _&&_, _||_, cond}
+use mathlib.Core.Bool.{Bool, true, false, _&&_, cond}
 use mathlib.Core.List.{List, [], _∷_}
-use Prim.Native.Nat.{ℕ, suc, _+_, _≤_, _<_}
+use Prim.Native.Nat.{ℕ, _+_, _≤_, _<_}
 use native.Mathlib.Numerals.{add-one}
 use lib.ListN.{length, getD}
 use native.Mathlib.Omega.{arith}
@@ -11,7 +11,7 @@ use native.Mathlib.Decide.{decLe}
 use lib.Dec.{T, T-not}
 use lib.Ieee.{Float, binary64, fits, lt, le}
 use lib.Ieee.Fits.{add-fits}
-use Rattle.gf.specs.Key.{key, le-refl, le-trans, lt→le, lt→key, le-no-nan, lt-not-le, lt-le-trans, le-lt-trans, finite-no-nan}
+use Rattle.gf.specs.Key.{le-refl, le-trans, lt→le, lt→key, le-no-nan, lt-not-le, lt-le-trans, le-lt-trans, finite-no-nan}
 use Rattle.gf.specs.Exactly.{within-finite}
 use Rattle.gf.specs.Doubles.{_⊖_, _⊗_, _⊘_, totalKey}
 use Rattle.gf.specs.declared.interval.Interval.{Interval}
@@ -22,7 +22,7 @@ use Rattle.definitions.specs.Value.{spans, inverse, onPair}
 use Rattle.set_laws.specs.Every.{Every, Chain, ChainFrom, every-at}
 use Rattle.set_laws.specs.Places.{Le}
 use Rattle.set_laws.specs.Stored.{total→key, length-pairs, pairs-at}
-use Rattle.cell_laws.specs.Every.{both, both-l, both-r, or-split}
+use Rattle.cell_laws.specs.Every.{both-l, both-r, or-split}
 use Rattle.cell_laws.specs.Places.{Fits}
 use Rattle.cell_laws.specs.Knots.{SoundKnot}
 use Rattle.cell_laws.specs.Inverse.{inverse-fin-up, inverse-fin-down, inverse-up, inverse-down}

@@ -1,12 +1,11 @@
 -- What a reading of a clip is in the definitions' terms, what it asks of the lent lists, and the search for a missing value start by start. Assumes nothing.
 use mathlib.Core.Path.{_≡_, refl, sym, ap, _∙_, subst}
-use mathlib.Core.Bool.{Bool, true, false, not, _&&_, cond}
-use mathlib.Core.List.{List, [], _∷_, _++_, reverse, reverse-append}
+use mathlib.Core.Bool.{Bool, true, false, cond}
+use mathlib.Core.List.{List, [], _∷_, reverse, reverse-append}
 use mathlib.Core.Option.{Option, none, some}
-use Prim.Native.Nat.{ℕ, zero, suc, _+_, _-_, _≤_, _<_}
-use native.Mathlib.Numerals.{add-one}
+use Prim.Native.Nat.{ℕ, suc, _+_, _-_, _≤_, _<_}
 use native.Mathlib.Omega.{arith}
-use lib.ListN.{length, getD, getElem?, take, drop, length-drop}
+use lib.ListN.{length, getD, take, drop, length-drop}
 use lib.Seq.{take-suc, length-take-le}
 use lib.Ieee.{Float, nan, eq, le}
 use Rattle.definitions.specs.declared.Manifest.{Manifest}
@@ -14,14 +13,14 @@ use Rattle.definitions.specs.declared.Start.{Start}
 use Rattle.definitions.specs.declared.Source.{Source}
 use Rattle.definitions.specs.declared.Source.the-variants.{Sample as sample}
 use Rattle.definitions.specs.Lists.{any, pairs}
-use Rattle.definitions.specs.ClipSet.{ClipSet, activeTimes, knotTimes, stage, clip}
+use Rattle.definitions.specs.ClipSet.{ClipSet, stage, clip}
 use Rattle.definitions.specs.Timing.{lastAtMost, activePosition, mapTime, mapStageToClip}
 use Rattle.definitions.specs.Samples.{Samples, clipBegin, clipEnd, clipTimes, heldPlace}
-use Rattle.definitions.specs.Value.{blockedAt, contributes, sampleOf, readClip, firstReading}
+use Rattle.definitions.specs.Value.{blockedAt, sampleOf, readClip, firstReading}
 use Rattle.set_laws.specs.Every.{Every, every-at, zip-at}
 use Rattle.set_laws.specs.Places.{Ascending}
-use Rattle.set_laws.specs.Sound.{Sound, sound-active, sound-knots}
-use Rattle.set_laws.specs.Accepted.{Accepted, clip-ascending}
+use Rattle.set_laws.specs.Sound.{sound-active, sound-knots}
+use Rattle.set_laws.specs.Accepted.{clip-ascending}
 use Rattle.cell_laws.specs.Unpacked.{start, activeOf, knotsOf, setOf, samplesOf, zip-length, active-times, knot-times, sound-set, Ready}
 use Rattle.lists.specs.Fronts.{front, no-front}
 use Rattle.value.specs.Near.{Segment, segments}
