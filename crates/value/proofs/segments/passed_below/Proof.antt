@@ -1,8 +1,8 @@
--- `value::window::passed_below` meets its contract. Assumes nothing.
+-- `value::segments::passed_below` meets its contract. Assumes nothing.
 use Rattle.value.specs.Near.{below-by, never}
 use borrow.Author.Needs.{needs}
-use Rattle.value.proofs.window.passed_below.Statement.{statement}
-use Rattle.value.proofs.window.passed_below.Tie as tie
+use Rattle.value.proofs.segments.passed_below.Statement.{statement}
+use Rattle.value.proofs.segments.passed_below.Tie as tie
 
 enum-known-lower : tie.Need-enum-known-lower
 enum-known-lower c = search needs

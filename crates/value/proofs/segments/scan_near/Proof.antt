@@ -1,12 +1,12 @@
--- `value::window::scan_near` meets its contract: where the segment cannot matter, nothing is to be passed. Assumes nothing.
+-- `value::segments::scan_near` meets its contract: where the segment cannot matter, nothing is to be passed. Assumes nothing.
 use mathlib.Core.Path.{subst}
 use lib.Ieee.{Float}
 use denote.Ref.{now}
 use Rattle.definitions.specs.Explicit.{knot}
 use Rattle.value.specs.Near.{Fitting, Far, scanned-far}
 use borrow.Author.Needs.{needs}
-use Rattle.value.proofs.window.scan_near.Statement.{statement}
-use Rattle.value.proofs.window.scan_near.Tie as tie
+use Rattle.value.proofs.segments.scan_near.Statement.{statement}
+use Rattle.value.proofs.segments.scan_near.Tie as tie
 
 -- what owning them tells: the format holds them
 held : (s : tie.Start) → Fitting (s .args .t) (s .args .w)

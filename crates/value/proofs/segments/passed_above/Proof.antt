@@ -1,8 +1,8 @@
--- `value::window::passed_above` meets its contract. Assumes nothing.
+-- `value::segments::passed_above` meets its contract. Assumes nothing.
 use Rattle.value.specs.Near.{above-by, never}
 use borrow.Author.Needs.{needs}
-use Rattle.value.proofs.window.passed_above.Statement.{statement}
-use Rattle.value.proofs.window.passed_above.Tie as tie
+use Rattle.value.proofs.segments.passed_above.Statement.{statement}
+use Rattle.value.proofs.segments.passed_above.Tie as tie
 
 enum-known-upper : tie.Need-enum-known-upper
 enum-known-upper c = search needs

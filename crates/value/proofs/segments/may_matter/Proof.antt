@@ -1,9 +1,9 @@
--- `value::window::may_matter` meets its contract: each `false` has its reason. Assumes nothing.
+-- `value::segments::may_matter` meets its contract: each `false` has its reason. Assumes nothing.
 use mathlib.Core.Logic.{inl, inr}
 use borrow.Author.Tests.{not-false}
 use borrow.Author.Needs.{needs}
-use Rattle.value.proofs.window.may_matter.Statement.{statement}
-use Rattle.value.proofs.window.may_matter.Tie as tie
+use Rattle.value.proofs.segments.may_matter.Statement.{statement}
+use Rattle.value.proofs.segments.may_matter.Tie as tie
 
 passed-below-requires : tie.Need-passed-below-requires
 passed-below-requires c κs = search needs

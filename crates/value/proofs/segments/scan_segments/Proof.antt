@@ -1,4 +1,4 @@
--- `value::window::scan_segments` meets its contract: a pass over the pairs from i on makes one over all. Assumes nothing.
+-- `value::segments::scan_segments` meets its contract: a pass over the pairs from i on makes one over all. Assumes nothing.
 use Prim.Native.Nat.{_+_, _-_, _≤_}
 use mathlib.Core.Path.{sym, ap₂, subst}
 use native.Mathlib.Omega.{arith}
@@ -14,8 +14,8 @@ use Rattle.value.specs.Bounds.{inside, Scanned}
 use Rattle.value.specs.Near.{Segment, segment-at}
 use Rattle.value.specs.Inverses.{onSegment, segments-front, segments-end, knots-long, knots-at}
 use borrow.Author.Needs.{needs}
-use Rattle.value.proofs.window.scan_segments.Statement.{statement}
-use Rattle.value.proofs.window.scan_segments.Tie as tie
+use Rattle.value.proofs.segments.scan_segments.Statement.{statement}
+use Rattle.value.proofs.segments.scan_segments.Tie as tie
 
 abbrev Inv-loop : tie.InvT-loop
 Inv-loop xs ys cs w t r₀ i₀ r i =

@@ -1,4 +1,4 @@
--- `value::window::scan_clip` meets its contract: the pass goes through the clip's own part of the times. Assumes nothing.
+-- `value::segments::scan_clip` meets its contract: the pass goes through the clip's own part of the times. Assumes nothing.
 use mathlib.Core.Path.{_≡_, ap₂, subst}
 use mathlib.Core.List.{List}
 use Prim.Native.Nat.{ℕ, _-_, _≤_}
@@ -12,8 +12,8 @@ use Rattle.value.specs.Reads.{partOf}
 use Rattle.value.specs.Bounds.{inside, Scanned}
 use Rattle.value.specs.Inverses.{onSegment, clip-plain, clip-knots}
 use borrow.Author.Needs.{needs}
-use Rattle.value.proofs.window.scan_clip.Statement.{statement}
-use Rattle.value.proofs.window.scan_clip.Tie as tie
+use Rattle.value.proofs.segments.scan_clip.Statement.{statement}
+use Rattle.value.proofs.segments.scan_clip.Tie as tie
 
 clip-begin-requires : tie.Need-clip-begin-requires
 clip-begin-requires c κs = search needs
