@@ -1,17 +1,16 @@
 -- Times in the order of `total_cmp` with equals dropped, one after the other: behind a time stand those above it, and the first of them is the least.
 -- Assumes nothing.
 use mathlib.Core.Path.{_≡_, refl, sym, ap, ap₂, _∙_, subst}
-use mathlib.Core.Logic.{_⊎_, inl, inr}
-use mathlib.Core.Bool.{Bool, true, false, not, _||_, cond}
+use mathlib.Core.Logic.{inl, inr}
+use mathlib.Core.Bool.{Bool, true, false, not, cond}
 use mathlib.Core.List.{List, [], _∷_}
 use Prim.Native.Nat.{ℕ, _+_, _-_, _≤_, _<_}
 use native.Mathlib.Omega.{arith}
-use lib.Dec.{T, T-not, ltb}
-use lib.ListN.{length}
-use lib.Ieee.{Float, nan, inf, fin, binary64, toBits, eq, lt, le, isNan}
+use lib.Dec.{T, ltb}
+use lib.Ieee.{Float, nan, inf, fin, binary64, toBits, eq, lt, le}
 use lib.Ieee.Scale.{finite}
 use borrow.Author.Tests.{ltb-true, ltb-false}
-use Rattle.gf.specs.Key.{key, key→le, key→eq, key→lt, lt→key, eq→key, lt→le, le→key, lt-not-le, lt-le-trans, finite-no-nan, bits-lt, eq→le}
+use Rattle.gf.specs.Key.{key, key→le, key→eq, key→lt, lt→key, eq→key, lt→le, le→key, lt-le-trans, finite-no-nan, bits-lt}
 use Rattle.gf.specs.Units.{same-bits}
 use Rattle.gf.specs.Doubles.{totalKey}
 use Rattle.definitions.specs.Lists.{keep, sortBy}
@@ -19,10 +18,9 @@ use Rattle.definitions.specs.Doubles.{FiniteDouble}
 use Rattle.definitions.specs.StageSamples.{dropEqual, dedup}
 use Rattle.set_laws.specs.Every.{Every, Chain, ChainFrom}
 use Rattle.set_laws.specs.Stored.{total→key}
-use Rattle.set_laws.specs.Sorting.{By, every-sort, sort-every, sort-sorted}
+use Rattle.set_laws.specs.Sorting.{every-sort, sort-every, sort-sorted}
 use Rattle.cell_laws.specs.Every.{every-map, every-zip, every-keep}
 use Rattle.cell_laws.specs.Places.{Fits}
-use Rattle.value.specs.declared.window.Bound.{Bound}
 use Rattle.value.specs.declared.window.Bound.the-variants.{At, Nothing}
 use Rattle.value.specs.Bounds.{In, every-in, in-every, NextIs}
 

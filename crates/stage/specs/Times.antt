@@ -1,39 +1,37 @@
 -- The stage sample times over the lent lists: they are finite, and a pass over all windows finds the next one. Assumes nothing.
 use mathlib.Core.Path.{_≡_, refl, sym, ap, ap₂, _∙_, subst}
-use mathlib.Core.Logic.{_⊎_, inl, inr}
-use mathlib.Core.Bool.{Bool, true, false, _&&_, _||_, cond}
+use mathlib.Core.Logic.{inl, inr}
+use mathlib.Core.Bool.{Bool, true, false, _&&_, cond}
 use mathlib.Core.List.{List, [], _∷_, _++_, append-assoc, append-nil}
-use mathlib.Core.Option.{Option, none, some}
-use Prim.Native.Nat.{ℕ, zero, suc, _+_, _≤_, _<_}
+use mathlib.Core.Option.{Option}
+use Prim.Native.Nat.{ℕ, zero, suc, _+_, _<_}
 use native.Mathlib.Numerals.{add-one}
 use native.Mathlib.Omega.{arith}
 use lib.Dec.{T}
 use lib.ListN.{length, getD, getElem?}
 use lib.Ieee.{Float, nan, inf, binary64, lt, le}
 use lib.Ieee.Fits.{add-fits}
-use Rattle.gf.specs.Doubles.{_⊖_, _⊗_, _⊘_, totalKey}
+use Rattle.gf.specs.Doubles.{_⊖_, _⊗_, _⊘_}
 use Rattle.definitions.specs.declared.Manifest.{Manifest}
 use Rattle.definitions.specs.declared.Knot.{Knot}
 use Rattle.definitions.specs.declared.Start.{Start}
-use Rattle.definitions.specs.Lists.{keep, pairs, pairsFrom, gather, sortBy, below}
+use Rattle.definitions.specs.Lists.{keep, pairs, gather, below}
 use Rattle.definitions.specs.Doubles.{FiniteDouble}
-use Rattle.definitions.specs.Explicit.{knot}
-use Rattle.definitions.specs.ClipSet.{ClipSet, knotTimes, clip}
+use Rattle.definitions.specs.ClipSet.{ClipSet, clip}
 use Rattle.definitions.specs.Samples.{Samples, clipTimes}
 use Rattle.definitions.specs.Value.{spans, inverse, onPair, stageTimesForClipTime, windowSampleTimes}
-use Rattle.definitions.specs.StageSamples.{dedup, timesOfClip, stageSampleTimes}
-use Rattle.set_laws.specs.Every.{Every, Chain, ChainFrom, every-at}
-use Rattle.set_laws.specs.Places.{Le}
+use Rattle.definitions.specs.StageSamples.{timesOfClip, stageSampleTimes}
+use Rattle.set_laws.specs.Every.{Every, every-at}
 use Rattle.cell_laws.specs.Every.{every-map, every-append, every-keep, every-gather, both-l, both-r, or-split}
 use Rattle.cell_laws.specs.Places.{Fits}
-use Rattle.cell_laws.specs.Knots.{SoundKnot}
 use Rattle.cell_laws.specs.Inverse.{inverse-fin-up, inverse-fin-down}
-use Rattle.cell_laws.specs.Unpacked.{start, activeOf, knotsOf, setOf, samplesOf, zip-here, zip-length, knot-times, sound-set, Ready}
+use Rattle.cell_laws.specs.Unpacked.{start, activeOf, knotsOf, setOf, samplesOf, zip-here, zip-length, Ready}
 use Rattle.value.specs.declared.window.Bound.{Bound}
 use Rattle.value.specs.declared.window.Bound.the-variants.{At, Nothing}
 use Rattle.value.specs.declared.window.Bounds.{Bounds}
 use Rattle.value.specs.Reads.{partOf, ready-starts, ready-clip, ready-readable}
-use Rattle.value.specs.Bounds.{inside, in-every, nothing, Scanned, scanned-then, NextIs, next-of}
+use Rattle.value.specs.Near.{Segment}
+use Rattle.value.specs.Bounds.{inside, in-every, nothing, Scanned, NextIs, next-of}
 use Rattle.value.specs.Inverses.{inversesOf}
 use Rattle.value.specs.Windows.{windowOf, windowPart, ifOwn, window-times}
 use Rattle.stage.specs.Ordered.{after, after-all, after-none, after-next}
@@ -74,19 +72,6 @@ every-below zero = tt
 every-below (suc n) = every-append (λ (p : ℕ). p < suc n) (below n) (n ∷ []) (every-map (λ (p : ℕ). p < n) (λ (p : ℕ). p < suc n) (λ p h. omega arith) (below n) (every-below n)) (omega arith, tt)
 
 -- ---- inverse times are finite
-
-record Segment (q : Knot × Knot) : Type 0 where
-  first : SoundKnot (q .0)
-  second : SoundKnot (q .1)
-  wide : T (le (q .0 .x) (q .1 .x))
-
-segments-from : (k : Knot) (l : List Knot) → Every SoundKnot (k ∷ l) → ChainFrom Le (k .x) (knotTimes l) → Every Segment (pairsFrom k l)
-segments-from k [] s c = tt
-segments-from k (n ∷ l) s c = (record { first = s .0; second = s .1 .0; wide = c .0 }, segments-from n l (s .1) (c .1))
-
-segments : (l : List Knot) → Every SoundKnot l → Chain Le (knotTimes l) → Every Segment (pairs l)
-segments [] s c = tt
-segments (k ∷ l) s c = segments-from k l s c
 
 inverse-finite : (q : Knot × Knot) (c : Float) → Segment q → T (spans (q .0 .y) (q .1 .y) c) → FiniteDouble (inverse (q .0) (q .1) c)
 inverse-finite q c s h = record {
@@ -152,10 +137,6 @@ module _ {starts : List Float} {clips : List ℕ} {xs ys blocks : List Float} {m
       ap (λ (n : ℕ). gather (λ (p : ℕ). windowSampleTimes set p (timesOfClip s (getElem? (activeOf starts clips) p))) (below n)) (zip-length start starts clips (R .starts-paired))
       ∙ gather-same (λ (p : ℕ). windowSampleTimes set p (timesOfClip s (getElem? (activeOf starts clips) p))) part (length starts) part-is
 
-  knot-segments : Every Segment (pairs (knotsOf xs ys))
-  unfolding setOf
-  knot-segments = segments (knotsOf xs ys) (sound-set set (R .sound) .knots) (R .sound .weakly)
-
   part-finite : (p : ℕ) → p < length starts → Every FiniteDouble (part p)
   unfolding windowPart
   part-finite p h =
@@ -164,7 +145,7 @@ module _ {starts : List Float} {clips : List ℕ} {xs ys blocks : List Float} {m
         every-at FiniteDouble starts p nan (ready-starts R .numbers) h,
         every-append FiniteDouble (keep w xs) (keep w (inversesOf (knotsOf xs ys) cs)) (every-keep FiniteDouble w xs (ready-readable R .knots .numbers))
             (every-keep FiniteDouble w (inversesOf (knotsOf xs ys) cs)
-            (every-gather FiniteDouble FiniteDouble (λ (c : Float). stageTimesForClipTime (knotsOf xs ys) (clip c)) (stage-finite (knotsOf xs ys) knot-segments) cs (ready-readable R .rising (getD clips p 0) (ready-clip R p h) .numbers))),
+            (every-gather FiniteDouble FiniteDouble (λ (c : Float). stageTimesForClipTime (knotsOf xs ys) (clip c)) (stage-finite (knotsOf xs ys) (ready-readable R .segments)) cs (ready-readable R .rising (getD clips p 0) (ready-clip R p h) .numbers))),
       )
 
   parts-finite : Every FiniteDouble (gather part (below (length starts)))

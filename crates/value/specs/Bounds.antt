@@ -2,7 +2,7 @@
 -- times the order of `total_cmp` decides, so that no comparison needs more than a number. Assumes nothing.
 use mathlib.Core.Path.{_≡_, refl, sym, ap, _∙_, subst}
 use mathlib.Core.Logic.{_⊎_, inl, inr}
-use mathlib.Core.Bool.{Bool, true, false, not, _&&_, _||_, cond}
+use mathlib.Core.Bool.{Bool, true, false, not, _&&_, cond}
 use mathlib.Core.List.{List, [], _∷_, _++_}
 use Prim.Native.Nat.{ℕ, _+_, _≤_, _<_}
 use native.Mathlib.Omega.{arith}
@@ -13,7 +13,7 @@ use borrow.Author.Tests.{ltb-true, ltb-false, lt-ltb, le-ltb}
 use Rattle.gf.specs.Key.{key→le, le-no-nan, lt→le, le-refl, le-both, lt-not-le}
 use Rattle.gf.specs.Doubles.{totalKey}
 use Rattle.gf.specs.declared.interval.Interval.{Interval}
-use Rattle.definitions.specs.Lists.{any, keep, gather}
+use Rattle.definitions.specs.Lists.{any, keep}
 use Rattle.set_laws.specs.Every.{Every}
 use Rattle.set_laws.specs.Stored.{total→key}
 use Rattle.cell_laws.specs.Every.{every-map, every-zip, every-append, every-left, every-right, or-l, or-r}

@@ -1,7 +1,7 @@
 -- The inverse times of a clip's samples, segment by segment: the same times as sample by sample. Assumes nothing.
 use mathlib.Core.Path.{_≡_, refl, sym, ap, _∙_, subst}
 use mathlib.Core.Bool.{Bool, true, false, cond}
-use mathlib.Core.List.{List, [], _∷_, _++_}
+use mathlib.Core.List.{List, [], _∷_}
 use Prim.Native.Nat.{ℕ, _+_, _≤_, _<_}
 use native.Mathlib.Omega.{arith}
 use lib.Dec.{T}
@@ -19,7 +19,7 @@ use Rattle.cell_laws.specs.Unpacked.{knotsOf, zip-length}
 use Rattle.lists.specs.Fronts.{front, no-front}
 use Rattle.value.specs.declared.window.Bounds.{Bounds}
 use Rattle.value.specs.Pairs.{pairs-front, pairs-end}
-use Rattle.value.specs.Bounds.{inside, withTime, Scanned, scanned-none, scanned-then, scanned-same, scanned-keep, keep-append}
+use Rattle.value.specs.Bounds.{withTime, Scanned, scanned-none, scanned-then, scanned-same, scanned-keep, keep-append}
 
 -- the inverse times of the clip times cs between two knots
 unfoldable pub onSegment : List Float → Knot × Knot → List Float
@@ -28,7 +28,7 @@ onSegment cs q = gather (λ (c : Float). onPair c q) cs
 -- ---- lists of lists
 
 module _ {A B : Type 0} where
-  every-of : (P : B → Type 0) (f : A → List B) (l : List A) → Every (λ (x : A). Every P (f x)) l → Every P (gather f l)
+  pub every-of : (P : B → Type 0) (f : A → List B) (l : List A) → Every (λ (x : A). Every P (f x)) l → Every P (gather f l)
   every-of P f [] h = tt
   every-of P f (x ∷ l) h = every-append P (f x) (gather f l) (h .0) (every-of P f l (h .1))
 
@@ -45,7 +45,7 @@ module _ {A B C : Type 0} (f : A → B → List C) (P : C → Type 0) (a : List 
       (every-map (λ (x : A). Every P (gather (λ (y : B). f x y) b)) (λ (x : A). Every (λ (y : B). Every P (f x y)) b) (λ x k. every-each P (λ (y : B). f x y) b k) a
       (every-each P (λ (x : A). gather (λ (y : B). f x y) b) a h))))
 
-every-if : (P : Float → Type 0) (f : Float → Bool) (l : List Float) → Every (λ (x : Float). T (f x) → P x) l → Every P (keep f l)
+pub every-if : (P : Float → Type 0) (f : Float → Bool) (l : List Float) → Every (λ (x : Float). T (f x) → P x) l → Every P (keep f l)
 every-if P f [] h = tt
 every-if P f (x ∷ l) h = go (f x) (λ a. a) (every-if P f l (h .1))
   where

@@ -1,14 +1,16 @@
 -- What the contracts of this crate cite, and the laws that its proofs share.
 -- The pairs of neighbours from a place on, and the jump test
 pub mod Pairs
--- A clip's held reading over the lent lists, and the search for a missing value
-pub mod Reads
--- The direct value case by case
-pub mod Sources
 -- The neighbours of a time by one pass over times in any order
 pub mod Bounds
 -- The inverse times of a clip's samples, segment by segment
 pub mod Inverses
+-- Which segments a pass may leave out
+pub mod Near
+-- A clip's held reading over the lent lists, and the search for a missing value
+pub mod Reads
+-- The direct value case by case
+pub mod Sources
 -- A window's gathered times over the lent lists
 pub mod Windows
 -- The value by the neighbours that were found

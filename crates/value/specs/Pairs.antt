@@ -1,5 +1,5 @@
 -- The pairs of neighbours from a place on, as a loop goes through them, and the jump test by the x alone. Assumes nothing.
-use mathlib.Core.Path.{_≡_, refl, sym, ap, _∙_}
+use mathlib.Core.Path.{_≡_, refl, ap, _∙_}
 use mathlib.Core.Bool.{Bool, true, false, _&&_, _||_}
 use mathlib.Core.List.{List, [], _∷_}
 use Prim.Native.Nat.{ℕ, _+_, _≤_, _<_}
@@ -11,7 +11,7 @@ use Rattle.definitions.specs.Lists.{any, pairs, pairsFrom}
 use Rattle.definitions.specs.Explicit.{knot}
 use Rattle.definitions.specs.Value.{jump}
 use Rattle.cell_laws.specs.Unpacked.{knotsOf}
-use Rattle.lists.specs.Fronts.{front, no-front}
+use Rattle.lists.specs.Fronts.{front}
 
 module _ {A : Type 0} where
   -- the pair at i, and those behind it

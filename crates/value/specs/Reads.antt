@@ -1,29 +1,29 @@
 -- What a reading of a clip is in the definitions' terms, what it asks of the lent lists, and the search for a missing value start by start. Assumes nothing.
 use mathlib.Core.Path.{_≡_, refl, sym, ap, _∙_, subst}
-use mathlib.Core.Bool.{Bool, true, false, not, _&&_, cond}
-use mathlib.Core.List.{List, [], _∷_, _++_, reverse, reverse-append}
+use mathlib.Core.Bool.{Bool, true, false, cond}
+use mathlib.Core.List.{List, [], _∷_, reverse, reverse-append}
 use mathlib.Core.Option.{Option, none, some}
-use Prim.Native.Nat.{ℕ, zero, suc, _+_, _-_, _≤_, _<_}
-use native.Mathlib.Numerals.{add-one}
+use Prim.Native.Nat.{ℕ, suc, _+_, _-_, _≤_, _<_}
 use native.Mathlib.Omega.{arith}
-use lib.ListN.{length, getD, getElem?, take, drop, length-drop}
+use lib.ListN.{length, getD, take, drop, length-drop}
 use lib.Seq.{take-suc, length-take-le}
 use lib.Ieee.{Float, nan, eq, le}
 use Rattle.definitions.specs.declared.Manifest.{Manifest}
 use Rattle.definitions.specs.declared.Start.{Start}
 use Rattle.definitions.specs.declared.Source.{Source}
 use Rattle.definitions.specs.declared.Source.the-variants.{Sample as sample}
-use Rattle.definitions.specs.Lists.{any}
-use Rattle.definitions.specs.ClipSet.{ClipSet, activeTimes, knotTimes, stage, clip}
+use Rattle.definitions.specs.Lists.{any, pairs}
+use Rattle.definitions.specs.ClipSet.{ClipSet, stage, clip}
 use Rattle.definitions.specs.Timing.{lastAtMost, activePosition, mapTime, mapStageToClip}
 use Rattle.definitions.specs.Samples.{Samples, clipBegin, clipEnd, clipTimes, heldPlace}
-use Rattle.definitions.specs.Value.{blockedAt, contributes, sampleOf, readClip, firstReading}
+use Rattle.definitions.specs.Value.{blockedAt, sampleOf, readClip, firstReading}
 use Rattle.set_laws.specs.Every.{Every, every-at, zip-at}
 use Rattle.set_laws.specs.Places.{Ascending}
-use Rattle.set_laws.specs.Sound.{Sound, sound-active, sound-knots}
-use Rattle.set_laws.specs.Accepted.{Accepted, clip-ascending}
-use Rattle.cell_laws.specs.Unpacked.{start, activeOf, knotsOf, setOf, samplesOf, zip-length, active-times, knot-times, Ready}
+use Rattle.set_laws.specs.Sound.{sound-active, sound-knots}
+use Rattle.set_laws.specs.Accepted.{clip-ascending}
+use Rattle.cell_laws.specs.Unpacked.{start, activeOf, knotsOf, setOf, samplesOf, zip-length, active-times, knot-times, sound-set, Ready}
 use Rattle.lists.specs.Fronts.{front, no-front}
+use Rattle.value.specs.Near.{Segment, segments}
 use Rattle.value.specs.declared.direct.Reading.{Reading}
 use Rattle.value.specs.declared.direct.Reading.the-variants.{Of, Nothing}
 
@@ -42,6 +42,7 @@ partOf times ends c = take (clipEnd ends c - clipBegin ends c) (drop (clipBegin 
 pub record Readable (xs ys times : List Float) (ends : List ℕ) : Type 0 where
   pub knots : Ascending xs
   pub paired : length xs ≡ length ys
+  pub segments : Every Segment (pairs (knotsOf xs ys))
   pub from : (c : ℕ) → c < length ends → clipBegin ends c ≤ clipEnd ends c
   pub inside : (c : ℕ) → c < length ends → clipEnd ends c ≤ length times
   pub rising : (c : ℕ) → c < length ends → Ascending (partOf times ends c)
@@ -157,6 +158,7 @@ module _ {starts : List Float} {clips : List ℕ} {xs ys blocks : List Float} {m
   ready-readable = record {
     knots = subst Ascending (knot-times xs ys (R .knots-paired)) (sound-knots set (R .sound));
     paired = R .knots-paired;
+    segments = segments (knotsOf xs ys) (sound-set set (R .sound) .knots) (R .sound .weakly);
     from = R .accepted .from;
     inside = R .accepted .inside;
     rising = clip-ascending set s (R .accepted);

@@ -1,5 +1,5 @@
 -- What a source says by the lent lists, and that a sample that is read lies in them. Assumes nothing.
-use mathlib.Core.Path.{_≡_, refl, sym, ap, ap₂, _∙_, subst}
+use mathlib.Core.Path.{_≡_, refl, sym, ap, _∙_, subst}
 use mathlib.Core.Bool.{Bool, true, false, cond}
 use mathlib.Core.List.{List, [], _∷_, reverseAux, reverse}
 use mathlib.Core.Option.{Option, none, some}
@@ -20,7 +20,7 @@ use Rattle.definitions.specs.declared.Source.the-variants.{Sample as sample, De
 use Rattle.definitions.specs.declared.Answer.{Answer}
 use Rattle.definitions.specs.declared.Answer.the-variants.{Value, Blocked, Absent}
 use Rattle.definitions.specs.ClipSet.{ClipSet, markValue, stage}
-use Rattle.definitions.specs.Timing.{lastAtMost, activePosition, mapStageToClip}
+use Rattle.definitions.specs.Timing.{activePosition, mapStageToClip}
 use Rattle.definitions.specs.Samples.{Samples, clipBegin, clipEnd, clipTimes, heldPlace}
 use Rattle.definitions.specs.Value.{_orElse_, marked, says, contributes, sampleOf, readClip, blockedAt, firstReading, interpolateMissingValue, manifestDefault, gapSource, readingTime, sourceAt, directSource, valueSource}
 use Rattle.set_laws.specs.Every.{Every, every-drop, every-take}

@@ -1,12 +1,11 @@
 -- The direct value case by case, as its program goes: the start's own reading, the manifest default, the search, nothing. Assumes nothing.
 use mathlib.Core.Path.{_≡_, refl, sym, ap, _∙_}
-use mathlib.Core.Bool.{Bool, true, false, not, _&&_, cond}
+use mathlib.Core.Bool.{true, false, not, _&&_, cond}
 use mathlib.Core.List.{List, [], _∷_, reverse}
 use mathlib.Core.Option.{Option, none, some}
 use Prim.Native.Nat.{ℕ, suc, _+_, _<_}
 use native.Mathlib.Numerals.{add-one}
 use native.Mathlib.Omega.{arith}
-use lib.Dec.{eqb}
 use lib.ListN.{length, getD, getElem?, take, drop}
 use lib.Ieee.{Float, nan, eq}
 use borrow.Author.Tests.{eq-eqb, ne-eqb}
@@ -14,7 +13,7 @@ use Rattle.definitions.specs.declared.Start.{Start}
 use Rattle.definitions.specs.declared.Source.{Source}
 use Rattle.definitions.specs.declared.Source.the-variants.{Default as default, Blocked as blocked, Absent as absent}
 use Rattle.definitions.specs.Lists.{any}
-use Rattle.definitions.specs.ClipSet.{ClipSet, markValue, stage}
+use Rattle.definitions.specs.ClipSet.{ClipSet, stage}
 use Rattle.definitions.specs.declared.Manifest.{Manifest}
 use Rattle.definitions.specs.Timing.{lastAtMost, activePosition, mapStageToClip}
 use Rattle.definitions.specs.Samples.{Samples, clipTimes}

@@ -1,43 +1,34 @@
 -- The value by the neighbours that a program found, what it says, and that a sample that is read lies in its list. Assumes nothing.
 use mathlib.Core.Path.{_≡_, refl, sym, ap, ap₂, _∙_, subst}
-use mathlib.Core.Bool.{Bool, true, false, not, _||_, cond}
-use mathlib.Core.List.{List, [], _∷_, _++_, reverse}
+use mathlib.Core.Bool.{Bool, true, false, cond}
+use mathlib.Core.List.{List, [], _∷_}
 use mathlib.Core.Option.{Option, none, some}
-use Prim.Native.Nat.{ℕ, suc, _+_, _-_, _≤_, _<_}
+use Prim.Native.Nat.{ℕ, _≤_, _<_}
 use native.Mathlib.Omega.{arith}
-use lib.Dec.{T, eqb, ltb}
-use lib.ListN.{length, getD, getElem?, take, drop, length-drop}
-use lib.Seq.{length-take-le}
-use lib.Ieee.{Float, nan, lt, le}
+use lib.Dec.{T}
+use lib.ListN.{length}
+use lib.Ieee.{Float, lt, le}
 use lib.Ieee.Scale.{finite}
-use borrow.Author.Tests.{lt-ltb, le-ltb, eq-eqb, ne-eqb}
+use borrow.Author.Tests.{lt-ltb, le-ltb}
 use Rattle.gf.specs.Key.{le-refl, finite-no-nan}
-use Rattle.gf.specs.Doubles.{0·0}
 use Rattle.definitions.specs.declared.Manifest.{Manifest}
-use Rattle.definitions.specs.declared.Knot.{Knot}
-use Rattle.definitions.specs.declared.Start.{Start}
-use Rattle.definitions.specs.declared.StageTime.{StageTime}
-use Rattle.definitions.specs.declared.Source.{Source}
-use Rattle.definitions.specs.declared.Source.the-variants.{Sample as sample, Default as default, Blocked as blocked, Absent as absent}
-use Rattle.definitions.specs.declared.Answer.{Answer}
-use Rattle.definitions.specs.declared.Answer.the-variants.{Value, Blocked, Absent}
+use Rattle.definitions.specs.declared.Source.the-variants.{Sample as sample}
 use Rattle.definitions.specs.Lists.{keep}
-use Rattle.definitions.specs.ClipSet.{ClipSet, markValue, stage}
-use Rattle.definitions.specs.Timing.{lastAtMost, activePosition, mapStageToClip}
-use Rattle.definitions.specs.Samples.{Samples, clipBegin, clipEnd, clipTimes, heldPlace}
-use Rattle.definitions.specs.Value.{_orElse_, marked, says, readClip, firstReading, interpolateMissingValue, gapSource, sourceAt, directSource, gathered, greatest, maximum, lowerNeighbour, upperNeighbour, jump, valueSource}
-use Rattle.set_laws.specs.Every.{Every, every-at, every-drop, every-take}
+use Rattle.definitions.specs.ClipSet.{ClipSet, stage}
+use Rattle.definitions.specs.Timing.{lastAtMost, activePosition}
+use Rattle.definitions.specs.Samples.{Samples}
+use Rattle.definitions.specs.Value.{says, directSource, gathered, greatest, maximum, lowerNeighbour, upperNeighbour, jump, valueSource}
+use Rattle.set_laws.specs.Every.{Every}
 use Rattle.cell_laws.specs.Every.{every-map, every-keep}
 use Rattle.cell_laws.specs.Places.{Fits, Clear}
 use Rattle.cell_laws.specs.Knots.{Alike}
 use Rattle.cell_laws.specs.Direct.{SoundSet, SoundSamples, direct-alike}
 use Rattle.cell_laws.specs.Ends.{minimum-one}
 use Rattle.cell_laws.specs.Window.{gathered-fit}
-use Rattle.cell_laws.specs.Stretches.{severalStarts, boundaries, heldBetween, heldFrom, readAs, Stretch, boundaries-fit, value-by, held-many, held-few}
+use Rattle.cell_laws.specs.Stretches.{boundaries, heldBetween, heldFrom, readAs, boundaries-fit, value-by, held-many, held-few}
 use Rattle.cell_laws.specs.Neighbours.{IsLower, IsUpper, lower-found, lower-none, upper-found, upper-none, jump-alike}
-use Rattle.cell_laws.specs.Unpacked.{start, activeOf, knotsOf, setOf, samplesOf, sound-set, sound-samples, Ready}
-use Rattle.value.specs.declared.window.Bound.{Bound}
-use Rattle.value.specs.declared.window.Bound.the-variants.{At, Nothing}
+use Rattle.cell_laws.specs.Unpacked.{activeOf, knotsOf, setOf, samplesOf, sound-set, sound-samples, Ready}
+use Rattle.value.specs.declared.window.Bound.the-variants.{Nothing}
 use Rattle.value.specs.Bounds.{LowerIs, UpperIs}
 use Rattle.value.specs.Reads.{ready-active, ready-position}
 

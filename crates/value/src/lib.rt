@@ -2,6 +2,8 @@
 
 pub mod direct;
 pub mod jump;
+pub mod pass;
+pub mod segments;
 pub mod untimed;
 pub mod value;
 pub mod window;

@@ -1,21 +1,18 @@
 // A window's gathered times: the neighbours of a time among them, found in one pass that stores none of them.
 
-use super::direct::clip_begin;
-use super::direct::clip_end;
 use super::direct::contributes;
+use super::pass::scan_times;
+use super::pass::with_time;
+use super::segments::scan_clip;
 use definitions::Manifest;
 use gf::interval::Interval;
 ghost use mathlib.Core.Path.{_≡_};
-ghost use mathlib.Core.Bool.{cond};
 ghost use Prim.Native.Nat.{_<_};
 ghost use lib.ListN.{length, getD};
-ghost use Rattle.definitions.specs.Lists.{keep, pairs, gather};
-ghost use Rattle.definitions.specs.Explicit.{knot};
-ghost use Rattle.definitions.specs.Value.{onPair, gathered};
-ghost use Rattle.cell_laws.specs.Unpacked.{knotsOf, setOf, samplesOf, Ready};
+ghost use Rattle.definitions.specs.Value.{gathered};
+ghost use Rattle.cell_laws.specs.Unpacked.{setOf, samplesOf, Ready};
 ghost use Rattle.value.specs.Reads.{Readable, partOf};
-ghost use Rattle.value.specs.Bounds.{laterOf, soonerOf, withTime, inside, Scanned, LowerIs, UpperIs, NeighboursAre};
-ghost use Rattle.value.specs.Inverses.{onSegment, inversesOf};
+ghost use Rattle.value.specs.Bounds.{Scanned, LowerIs, UpperIs, NeighboursAre};
 ghost use Rattle.value.specs.Windows.{minOf, maxOf, windowPart, ifOwn};
 
 // A neighbour of a time.
@@ -28,156 +25,6 @@ pub enum Bound {
 pub struct Bounds {
     pub lower: Bound,
     pub upper: Bound,
-}
-
-// The later of what is held and `x`, of the two zeros 0.0.
-fn later(held: Bound, x: f64) -> Bound
-    ensures { λ r. ⌜ r ≡ laterOf held x ⌝ }
-{
-    if let Bound::At(y) = held {
-        if gf::total_key(x) <= gf::total_key(y) {
-            return held;
-        }
-    }
-    Bound::At(x)
-}
-
-// The earlier, of the two zeros -0.0.
-fn sooner(held: Bound, x: f64) -> Bound
-    ensures { λ r. ⌜ r ≡ soonerOf held x ⌝ }
-{
-    if let Bound::At(y) = held {
-        if gf::total_key(y) <= gf::total_key(x) {
-            return held;
-        }
-    }
-    Bound::At(x)
-}
-
-// The neighbours of `t` with one time more.
-fn with_time(held: Bounds, x: f64, t: f64) -> Bounds
-    ensures { λ r. ⌜ r ≡ withTime t held x ⌝ }
-{
-    let lower = held.lower;
-    let upper = held.upper;
-    if x <= t {
-        let near = later(lower, x);
-        return Bounds {
-            lower: near,
-            upper: upper,
-        };
-    }
-    if t < x {
-        let near = sooner(upper, x);
-        return Bounds {
-            lower: lower,
-            upper: near,
-        };
-    }
-    held
-}
-
-// The same where the time lies inside the window.
-fn with_inside(held: Bounds, x: f64, w: Interval, t: f64) -> Bounds
-    ensures { λ r. ⌜ r ≡ cond (inside w x) (withTime t held x) held ⌝ }
-{
-    if w.contains(x) {
-        return with_time(held, x, t);
-    }
-    held
-}
-
-// The neighbours of `t` with the times of a list that lie inside the window.
-fn scan_times(xs: &[f64], w: Interval, t: f64, held: Bounds) -> Bounds
-    ensures { λ r. ⌜ Scanned t (keep (inside w) (now (xs .entry))) held r ⌝ }
-{
-    let mut r = held;
-    let mut i: usize = 0;
-    while i < xs.len() {
-        r = with_inside(r, xs[i], w, t);
-        i += 1;
-    }
-    r
-}
-
-// The neighbours of `t` with the inverse time of the clip time `c` between two knots, if they span it and it lies inside the window. Rounding may take
-// it past the second knot, and there it stays.
-fn with_inverse(
-    held: Bounds,
-    sa: f64,
-    sb: f64,
-    ca: f64,
-    cb: f64,
-    c: f64,
-    w: Interval,
-    t: f64,
-) -> Bounds
-    ensures { λ r. ⌜ Scanned t (keep (inside w) (onPair c (knot sa ca, knot sb cb))) held r ⌝ }
-{
-    if gf::segment::spans(ca, cb, c) {
-        let x = gf::segment::inverse(sa, sb, ca, cb, c);
-        return with_inside(held, x, w, t);
-    }
-    held
-}
-
-// With the inverse times of all samples of a clip between two knots.
-fn scan_segment(
-    cs: &[f64],
-    sa: f64,
-    sb: f64,
-    ca: f64,
-    cb: f64,
-    w: Interval,
-    t: f64,
-    held: Bounds,
-) -> Bounds
-    ensures { λ r. ⌜ Scanned t (keep (inside w) (onSegment (now (cs .entry)) (knot sa ca, knot sb cb))) held r ⌝ }
-{
-    let mut r = held;
-    let mut i: usize = 0;
-    while i < cs.len() {
-        r = with_inverse(r, sa, sb, ca, cb, cs[i], w, t);
-        i += 1;
-    }
-    r
-}
-
-// With those of every two neighbouring knots.
-fn scan_segments(xs: &[f64], ys: &[f64], cs: &[f64], w: Interval, t: f64, held: Bounds) -> Bounds
-    requires { ⌜ length (now xs) ≡ length (now ys) ⌝ }
-    ensures { λ r. ⌜ Scanned t (keep (inside w) (gather (onSegment (now (cs .entry))) (pairs (knotsOf (now (xs .entry)) (now (ys .entry)))))) held r ⌝ }
-{
-    let mut r = held;
-    let mut i: usize = 0;
-    while i + 1 < xs.len() {
-        let next = i + 1;
-        r = scan_segment(cs, xs[i], xs[next], ys[i], ys[next], w, t, r);
-        i = next;
-    }
-    r
-}
-
-// With those of all samples of a clip; with no knots a clip time is a stage time.
-fn scan_clip(
-    xs: &[f64],
-    ys: &[f64],
-    times: &[f64],
-    ends: &[u64],
-    clip: u64,
-    w: Interval,
-    t: f64,
-    held: Bounds,
-) -> Bounds
-    requires { ⌜ Readable (now xs) (now ys) (now times) (now ends) ⌝ ∗ ⌜ clip < length (now ends) ⌝ }
-    ensures { λ r. ⌜ Scanned t (keep (inside w) (inversesOf (knotsOf (now (xs .entry)) (now (ys .entry))) (partOf (now (times .entry)) (now (ends .entry)) clip))) held r ⌝ }
-{
-    let begin = clip_begin(ends, clip);
-    let end = clip_end(ends, clip);
-    if xs.len() == 0 {
-        return scan_times(&times[begin..end], w, t, held);
-    }
-    scan_segments(xs, ys, &times[begin..end], w, t, held)
 }
 
 // The first window reaches down without end.

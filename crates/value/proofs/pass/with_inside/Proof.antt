@@ -1,8 +1,8 @@
--- `value::window::with_inside` meets its contract. Assumes nothing.
+-- `value::pass::with_inside` meets its contract. Assumes nothing.
 use mathlib.Core.Path.{sym, _∙_}
 use borrow.Author.Needs.{needs}
-use Rattle.value.proofs.window.with_inside.Statement.{statement}
-use Rattle.value.proofs.window.with_inside.Tie as tie
+use Rattle.value.proofs.pass.with_inside.Statement.{statement}
+use Rattle.value.proofs.pass.with_inside.Tie as tie
 
 contains-requires : tie.Need-contains-requires
 contains-requires c κs = search needs

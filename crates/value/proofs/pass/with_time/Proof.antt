@@ -1,9 +1,9 @@
--- `value::window::with_time` meets its contract. Assumes nothing.
+-- `value::pass::with_time` meets its contract. Assumes nothing.
 use mathlib.Core.Path.{ap}
 use Rattle.value.specs.Bounds.{withTime, withLower, withUpper}
 use borrow.Author.Needs.{needs}
-use Rattle.value.proofs.window.with_time.Statement.{statement}
-use Rattle.value.proofs.window.with_time.Tie as tie
+use Rattle.value.proofs.pass.with_time.Statement.{statement}
+use Rattle.value.proofs.pass.with_time.Tie as tie
 
 later-requires : tie.Need-later-requires
 later-requires c κs = search needs

@@ -1,9 +1,9 @@
--- `value::window::later` meets its contract. Assumes nothing.
+-- `value::pass::sooner` meets its contract. Assumes nothing.
 use native.Mathlib.Omega.{arith}
-use Rattle.value.specs.Bounds.{later-keeps, later-takes, later-first}
+use Rattle.value.specs.Bounds.{sooner-keeps, sooner-takes, sooner-first}
 use borrow.Author.Needs.{needs}
-use Rattle.value.proofs.window.later.Statement.{statement}
-use Rattle.value.proofs.window.later.Tie as tie
+use Rattle.value.proofs.pass.sooner.Statement.{statement}
+use Rattle.value.proofs.pass.sooner.Tie as tie
 
 enum-known-held : tie.Need-enum-known-held
 enum-known-held c = search needs
@@ -18,7 +18,7 @@ returns : tie.Need-returns
 returns c =
     let g = c .before .before .before .before .held .given in
     let a = c .before .before .before .before .before .before .args in
-    later-keeps (a .held) (a .x) (g .0 .0) (g .1) (omega (arith, c .before .before .total-key .ensures, c .before .total-key2 .ensures))
+    sooner-keeps (a .held) (a .x) (g .0 .0) (g .1) (omega (arith, c .before .before .total-key .ensures, c .before .total-key2 .ensures))
 
 enum-told : tie.Need-enum-told
 enum-told c = search needs
@@ -27,13 +27,13 @@ returns-2 : tie.Need-returns-2
 returns-2 c =
     let g = c .before .before .before .before .held .given in
     let a = c .before .before .before .before .before .before .args in
-    later-takes (a .held) (a .x) (g .0 .0) (g .1) (omega (arith, c .before .before .total-key .ensures, c .before .total-key2 .ensures))
+    sooner-takes (a .held) (a .x) (g .0 .0) (g .1) (omega (arith, c .before .before .total-key .ensures, c .before .total-key2 .ensures))
 
 returns-3 : tie.Need-returns-3
-returns-3 c = let a = c .before .before .args in later-first (a .held) (a .x) (c .enum-told .given .1)
+returns-3 c = let a = c .before .before .args in sooner-first (a .held) (a .x) (c .enum-told .given .1)
 
-pub later-spec : {M : Type 1} → statement M
-later-spec =
+pub sooner-spec : {M : Type 1} → statement M
+sooner-spec =
     tie.close
     (tie.spec
     enum-known-held

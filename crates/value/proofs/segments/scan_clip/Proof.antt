@@ -1,4 +1,4 @@
--- `value::window::scan_clip` meets its contract: the pass goes through the clip's own part of the times. Assumes nothing.
+-- `value::segments::scan_clip` meets its contract: the pass goes through the clip's own part of the times. Assumes nothing.
 use mathlib.Core.Path.{_≡_, ap₂, subst}
 use mathlib.Core.List.{List}
 use Prim.Native.Nat.{ℕ, _-_, _≤_}
@@ -12,8 +12,8 @@ use Rattle.value.specs.Reads.{partOf}
 use Rattle.value.specs.Bounds.{inside, Scanned}
 use Rattle.value.specs.Inverses.{onSegment, clip-plain, clip-knots}
 use borrow.Author.Needs.{needs}
-use Rattle.value.proofs.window.scan_clip.Statement.{statement}
-use Rattle.value.proofs.window.scan_clip.Tie as tie
+use Rattle.value.proofs.segments.scan_clip.Statement.{statement}
+use Rattle.value.proofs.segments.scan_clip.Tie as tie
 
 clip-begin-requires : tie.Need-clip-begin-requires
 clip-begin-requires c κs = search needs
@@ -70,7 +70,7 @@ part-scan-segments-end : tie.Need-part-scan-segments-end
 part-scan-segments-end c = let h = part-inside (c .before) in search needs
 
 scan-segments-requires : tie.Need-scan-segments-requires
-scan-segments-requires c κs = entry (c .before .before) .pre .0 .paired
+scan-segments-requires c κs = let r = entry (c .before .before) .pre .0 in (r .paired, r .segments)
 
 returns-2 : tie.Need-returns-2
 returns-2 c =

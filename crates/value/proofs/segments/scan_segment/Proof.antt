@@ -1,4 +1,4 @@
--- `value::window::scan_segment` meets its contract: a pass over the samples from i on makes one over all. Assumes nothing.
+-- `value::segments::scan_segment` meets its contract: a pass over the samples from i on makes one over all. Assumes nothing.
 use Prim.Native.Nat.{_-_, _≤_}
 use native.Mathlib.Omega.{arith}
 use lib.ListN.{length, drop}
@@ -10,8 +10,8 @@ use Rattle.value.specs.declared.window.Bounds.{Bounds}
 use Rattle.value.specs.Bounds.{inside, Scanned}
 use Rattle.value.specs.Inverses.{onSegment, segment-front, segment-end}
 use borrow.Author.Needs.{needs}
-use Rattle.value.proofs.window.scan_segment.Statement.{statement}
-use Rattle.value.proofs.window.scan_segment.Tie as tie
+use Rattle.value.proofs.segments.scan_segment.Statement.{statement}
+use Rattle.value.proofs.segments.scan_segment.Tie as tie
 
 abbrev Inv-loop : tie.InvT-loop
 Inv-loop cs sa sb ca cb w t r₀ i₀ r i =

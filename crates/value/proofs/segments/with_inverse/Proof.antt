@@ -1,4 +1,4 @@
--- `value::window::with_inverse` meets its contract. Assumes nothing.
+-- `value::segments::with_inverse` meets its contract. Assumes nothing.
 use mathlib.Core.Path.{sym, ap, _∙_, subst}
 use mathlib.Core.Bool.{cond}
 use lib.Ieee.{Float}
@@ -10,8 +10,8 @@ use Rattle.value.specs.declared.window.Bounds.{Bounds}
 use Rattle.value.specs.Bounds.{inside, withTime, Scanned}
 use Rattle.value.specs.Inverses.{pair-in, pair-out}
 use borrow.Author.Needs.{needs}
-use Rattle.value.proofs.window.with_inverse.Statement.{statement}
-use Rattle.value.proofs.window.with_inverse.Tie as tie
+use Rattle.value.proofs.segments.with_inverse.Statement.{statement}
+use Rattle.value.proofs.segments.with_inverse.Tie as tie
 
 spans-requires : tie.Need-spans-requires
 spans-requires c κs = search needs

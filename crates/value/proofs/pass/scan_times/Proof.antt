@@ -1,4 +1,4 @@
--- `value::window::scan_times` meets its contract: a pass over the times from i on makes one over all. Assumes nothing.
+-- `value::pass::scan_times` meets its contract: a pass over the times from i on makes one over all. Assumes nothing.
 use Prim.Native.Nat.{_+_, _-_, _≤_}
 use mathlib.Core.Path.{subst}
 use native.Mathlib.Omega.{arith}
@@ -9,8 +9,8 @@ use Rattle.definitions.specs.Lists.{keep}
 use Rattle.value.specs.declared.window.Bounds.{Bounds}
 use Rattle.value.specs.Bounds.{inside, Scanned, scanned-front, scanned-end}
 use borrow.Author.Needs.{needs}
-use Rattle.value.proofs.window.scan_times.Statement.{statement}
-use Rattle.value.proofs.window.scan_times.Tie as tie
+use Rattle.value.proofs.pass.scan_times.Statement.{statement}
+use Rattle.value.proofs.pass.scan_times.Tie as tie
 
 abbrev Inv-loop : tie.InvT-loop
 Inv-loop xs w t r₀ i₀ r i = (i ≤ length xs) × ((q : Bounds) → Scanned t (keep (inside w) (drop i xs)) r q → Scanned t (keep (inside w) xs) r₀ q)
