@@ -233,6 +233,15 @@ impl Resolver {
         self.settle(a)
     }
 
+    /// The standing set's clip count, starts, knots and block times.
+    pub fn dump(&self) -> Option<(u64, Vec<(f64, u64)>, Vec<(f64, f64)>, Vec<f64>)> {
+        let set = &self.set;
+        let starts = set.active.items[..set.active.count].iter().map(|s| (s.time, s.clip)).collect();
+        let knots = set.knots.items[..set.knots.count].iter().map(|k| (k.x, k.y)).collect();
+        let blocks = set.blocks.items[..set.blocks.count].to_vec();
+        self.stands.then_some((set.clips, starts, knots, blocks))
+    }
+
     pub fn active_clip(&self, stage_time: f64) -> Result<Option<u64>, u8> {
         let r = unsafe { tavitrozy_active_clip(*self, stage_time) };
         checked(r.number, if r.found { Some(r.clip) } else { None })
@@ -300,20 +309,27 @@ impl Resolver {
     }
 }
 
-/// The name of a template's clip at a clip time.
-pub fn name(pattern: &[u8], clip_time: f64) -> Result<Vec<u8>, u8> {
-    let mut out = vec![0u8; 268];
+/// The name of a template's clip at a clip time, written to the front of `out`; its length.
+pub fn name_into(pattern: &[u8], clip_time: f64, out: &mut [u8]) -> Result<usize, u8> {
     let r = unsafe { tavitrozy_name(pattern.as_ptr(), pattern.len(), clip_time, out.as_mut_ptr(), out.len()) };
-    out.truncate(r.count);
-    checked(r.number, out)
+    checked(r.number, r.count)
 }
 
-/// Samples in any order, sorted; of equal times the first time with the last value and mark.
-pub fn normalize(times: &[f64], values: &[f64], marks: &[u8]) -> Result<(Vec<f64>, Vec<f64>, Vec<u8>), u8> {
-    let n = times.len();
-    let (mut t, mut v, mut m) = (vec![0.0; n], vec![0.0; n], vec![0u8; n]);
+pub fn name(pattern: &[u8], clip_time: f64) -> Result<Vec<u8>, u8> {
+    let mut out = vec![0u8; 268];
+    let length = name_into(pattern, clip_time, &mut out)?;
+    out.truncate(length);
+    Ok(out)
+}
+
+/// Samples in any order, sorted, with room for `slots`; of equal times the first time with the last value and mark.
+pub fn normalize(times: &[f64], values: &[f64], marks: &[u8], slots: usize) -> Result<(Vec<f64>, Vec<f64>, Vec<u8>), u8> {
+    let (mut t, mut v, mut m) = (vec![0.0; slots], vec![0.0; slots], vec![0u8; slots]);
     let r = unsafe {
-        tavitrozy_normalize(times.as_ptr(), times.len(), values.as_ptr(), values.len(), marks.as_ptr(), marks.len(), t.as_mut_ptr(), n, v.as_mut_ptr(), n, m.as_mut_ptr(), n)
+        tavitrozy_normalize(
+            times.as_ptr(), times.len(), values.as_ptr(), values.len(), marks.as_ptr(), marks.len(),
+            t.as_mut_ptr(), slots, v.as_mut_ptr(), slots, m.as_mut_ptr(), slots,
+        )
     };
     checked(r.number, ())?;
     t.truncate(r.count);
