@@ -13,7 +13,7 @@ typedef struct {
   double from, to;
 } figure;
 
-static const figure held = {"starts 0, 20; knots (0,10) (20,0); clip 0: 0 to 1.0, 10 to 2.0; clip 1: 0 to 3.0, 5 to a block",
+static const figure held = {"starts 0, 20; knots (0,10) (20,0) (30,10); clip 0: 0 to 1.0, 10 to 2.0; clip 1: 0 to 3.0, 5 to a block",
   2, {0, 20}, {0, 1}, 3, {0, 20, 30}, {10, 0, 10}, 4, {0, 10, 0, 5}, {1, 2, 3, 0}, {0, 0, 0, 1}, 2, {2, 4}, -5, 35};
 static const figure falling = {"one start 0; knots (0,10) (10,0); samples 0 to 1.0, 5 to 2.0, 10 to 3.0",
   1, {0}, {0}, 2, {0, 10}, {10, 0}, 3, {0, 5, 10}, {1, 2, 3}, {0, 0, 0}, 1, {3}, -5, 15};

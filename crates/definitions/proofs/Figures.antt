@@ -26,9 +26,9 @@ use Rattle.definitions.specs.Samples.{Samples, clipBegin, clipEnd, clipT
 use Rattle.definitions.specs.Value.{says, blockedAt, contributes, readClip, firstReading, interpolateMissingValue, directSource, window, stageTimesForClipTime, windowSampleTimes, gathered, lowerNeighbour, upperNeighbour, jump, readingTime, valueSource, valueInSet}
 use Rattle.definitions.specs.StageSamples.{dropEqual, dedup, stageSampleTimes, suppliedAt, anySamples, untimedAnswer, ValueState, present, blocked, absent}
 use Rattle.definitions.specs.Normalize.{TimeSample, timeSamples, merge, mergeEqual, normalizeTimeSamples, normalizeNumber}
-use Rattle.definitions.specs.Track.{entryOf, alike, differs, TrackOf}
+use Rattle.definitions.specs.Track.{entryOf, alike, differs, TrackOf, Outputs}
 use Rattle.definitions.specs.Questions.{Reply, refused, replied, askValue}
-use Rattle.definitions.specs.Calls.{explicit, retime, step, run, after}
+use Rattle.definitions.specs.Calls.{explicit, retime, bake, step, run, after}
 use Rattle.definitions.proofs.Sets.{n, frac, -n, greatest, nextHigher, bytes, holds, fails, same, sameTimes, sameBytes, sameNames, isClip, is, fields, missing, templated, numbers, clipTimeAt, valueAt, names, two, jumping, falling, falling-samples, gap, gap-samples, one, one-samples}
 use Rattle.definitions.proofs.FigureTracks.{set as gap-set, fall, gap-track, falling-track}
 
@@ -236,6 +236,9 @@ isAbsent present = false
 isAbsent blocked = false
 isAbsent absent = true
 
+abbrev noRoom : Outputs
+noRoom = record { times = []; values = []; marks = [] }
+
 examples-table : List Bool
 examples-table =
     -- one start: direct at every double. Two: the direct value at the lower neighbour
@@ -358,6 +361,8 @@ record Figures : Type 0 where
   unmarked : holds unmarked-table ≡ true
   wrong : fails wrong-table ≡ true
   examples : holds examples-table ≡ true
+  -- demand 3's premises can be met: a list of calls, refused ones among them, after which a set stands; its samples are accepted by a row of the table
+  stands-after : after (retime (offset (n 0) (n 1)) ∷ explicit falling ∷ explicit (fields 2 (n 0 ∷ -n 0 ∷ []) (n 0 ∷ n 1 ∷ []) [] []) ∷ bake falling-samples noRoom ∷ []) ≡ standing false (explicitSet falling)
 
 computed : Figures
 unfolding
@@ -370,4 +375,4 @@ unfolding
     upperNeighbour jump readingTime valueSource valueInSet entryOf alike differs unmarked-table wrong-table examples-table nameNumber apply isIdentity
     moved sorted retimeStageTimes retimeNumber dropEqual dedup stageSampleTimes suppliedAt anySamples untimedAnswer timeSamples merge mergeEqual
     normalizeTimeSamples normalizeNumber step run after askValue
-computed = record { figures = refl; head-and-change = falling-track; head-alone = gap-track; unmarked = refl; wrong = refl; examples = refl }
+computed = record { figures = refl; head-and-change = falling-track; head-alone = gap-track; unmarked = refl; wrong = refl; examples = refl; stands-after = refl }
