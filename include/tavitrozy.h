@@ -133,6 +133,24 @@ tavitrozy_counted tavitrozy_normalize(const double *times, size_t times_len, con
   const uint8_t *marks, size_t marks_len, double *out_times, size_t out_times_len,
   double *out_values, size_t out_values_len, uint8_t *out_marks, size_t out_marks_len);
 
+/* ---- the same with the resolver behind a pointer: it is changed where the call is accepted, and the number is returned */
+
+static inline uint8_t tavitrozy_accept_into(tavitrozy_resolver *resolver, uint64_t clips,
+  const double *starts, const double *numbers, size_t start_count, const double *xs, const double *ys, size_t knot_count,
+  const double *blocks, size_t block_count, tavitrozy_default fallback, bool interpolate) {
+  tavitrozy_accepted a = tavitrozy_accept(*resolver, clips, starts, start_count, numbers, start_count,
+    xs, knot_count, ys, knot_count, blocks, block_count, fallback, interpolate);
+  *resolver = a.resolver;
+  return a.number;
+}
+
+static inline uint8_t tavitrozy_retime_into(tavitrozy_resolver *resolver, double offset, double scale) {
+  tavitrozy_layer_offset o = {offset, scale};
+  tavitrozy_accepted a = tavitrozy_retime(*resolver, o);
+  *resolver = a.resolver;
+  return a.number;
+}
+
 #ifdef __cplusplus
 }
 #endif

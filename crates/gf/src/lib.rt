@@ -8,7 +8,7 @@ pub mod segment;
 
 ghost use mathlib.Core.Path.{_≡_};
 ghost use mathlib.Core.Bool.{not};
-ghost use Prim.Native.Nat.{_≤_, _<_};
+ghost use Prim.Native.Nat.{_-_, _≤_, _<_};
 ghost use lib.Dec.{T};
 ghost use lib.Ieee.{isNan};
 ghost use lib.Ieee.Scale.{finite};
@@ -82,4 +82,21 @@ pub fn total_key(x: f64) -> u64
         return 0x8000_0000_0000_0000 + b;
     }
     0xffff_ffff_ffff_ffff - b
+}
+
+// The lowest finite double.
+pub fn lowest() -> f64
+    ensures { λ r. ⌜ r ≡ Key.ofKey Key.least ⌝ }
+{
+    of_key(0x0010_0000_0000_0001)
+}
+
+// The next lower double, of any finite double but the lowest. Both zeros are one double among the neighbours.
+pub fn next_lower(x: f64) -> f64
+    requires { ⌜ T (not (isNan x)) ⌝ }
+    requires { ⌜ (Key.least < Key.key x) × (Key.key x ≤ Key.most) ⌝ }
+    ensures { λ r. ⌜ r ≡ Key.ofKey (Key.key x - 1) ⌝ }
+{
+    let k = key(x);
+    of_key(k - 1)
 }
