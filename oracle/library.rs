@@ -14,7 +14,7 @@ use calls::Call;
 use tavitrozy::{Answer, Default, Entry, Explicit, LayerOffset, Resolver, Samples, State, TemplateTimes, Track};
 use text::{Line, Words};
 
-/// More changes than any set within the limits has.
+/// More changes than the longest track of the comparison has.
 const LONGEST: usize = 2_200_000;
 
 struct Desk {
