@@ -42,6 +42,9 @@ pub struct Desk {
     pub differences: Vec<String>,
     /// Tracks walked by the Rust's values, and by the document's.
     pub tracks: [u64; 2],
+    /// Whether each short track is held against the Rust's value near everything that can move it.
+    pub probing: bool,
+    pub probed: u64,
 }
 
 type Answered = Result<(), Refusal>;
@@ -115,6 +118,8 @@ impl Desk {
             lent: None,
             asked: Asked::new(),
             check,
+            probing: false,
+            probed: 0,
             differences: Vec::new(),
             tracks: [0; 2],
         }
@@ -125,7 +130,8 @@ impl Desk {
         match call {
             Call::Case(name) => {
                 let differences = std::mem::take(&mut self.differences);
-                *self = Desk { differences, tracks: self.tracks, ..Desk::new(self.check) };
+                let (probing, probed) = (self.probing, self.probed);
+                *self = Desk { differences, probing, probed, tracks: self.tracks, ..Desk::new(self.check) };
                 out.word("case").word(&name).end();
             }
             Call::Samples(samples) => {
@@ -439,11 +445,38 @@ impl Desk {
         }
         self.tracks[0] += 1;
         let rust = track::walk(&candidates, |t| self.rust_value(t));
+        if self.probing && candidates.len() <= 30 {
+            let mut near = candidates.clone();
+            near.extend(samples.times.iter().map(|&t| place(t)));
+            self.probe(&rust, &near);
+        }
         if self.check {
             let text = track::walk(&candidates, |t| read.value(t));
             self.compare("track", (rust.head, track::hash(&rust.changes)), (text.head, track::hash(&text.changes)));
         }
         rust
+    }
+
+    /// The track read held, against the Rust's value at every double within 2,000 places of these, and at doubles from all over.
+    fn probe(&mut self, track: &Track, near: &[i64]) {
+        let mut places: Vec<i64> = near.iter().flat_map(|&n| n - 2000..=n + 2000).collect();
+        let mut random = 0x9e37_79b9_7f4a_7c15u64 ^ near.len() as u64;
+        for _ in 0..1000 {
+            random = random.wrapping_mul(6_364_136_223_846_793_005).wrapping_add(1_442_695_040_888_963_407);
+            places.push(place(f64::from_bits(random)));
+        }
+        places.sort_unstable();
+        places.dedup();
+        let most = place(f64::MAX);
+        for p in places.into_iter().filter(|p| p.abs() <= most) {
+            let t = at(p);
+            let held = track.changes.iter().rev().find(|c| c.0 <= t).map_or(track.head, |c| c.1);
+            let rust = self.rust_value(t);
+            self.probed += 1;
+            if rust != held {
+                self.differs(&format!("track at {t:e}"), rust, held);
+            }
+        }
     }
 
     /// The Rust's values at some changes and at the doubles below them.

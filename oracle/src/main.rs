@@ -38,11 +38,13 @@ use writer::Writer;
 struct Told {
     differences: usize,
     tracks: [u64; 2],
+    probed: u64,
 }
 
 /// Answers the case text of `input`. With `check`, tells on standard error where Rust and document differ.
-fn answer(input: &mut dyn BufRead, output: &mut dyn Write, check: bool, timed: bool) -> io::Result<Told> {
+fn answer(input: &mut dyn BufRead, output: &mut dyn Write, check: bool, timed: bool, probing: bool) -> io::Result<Told> {
     let mut desk = Desk::new(check);
+    desk.probing = probing;
     let mut line = Vec::new();
     let mut case = String::new();
     let mut differences = 0;
@@ -73,11 +75,11 @@ fn answer(input: &mut dyn BufRead, output: &mut dyn Write, check: bool, timed: b
         line.clear();
     }
     output.flush()?;
-    Ok(Told { differences, tracks: desk.tracks })
+    Ok(Told { differences, tracks: desk.tracks, probed: desk.probed })
 }
 
 const USAGE: &str =
-    "oracle [check | timed | test | gen SEED REPLIES | short PART OF | compare CASES A B | sample FOLDER]
+    "oracle [check | timed | probe | test | gen SEED REPLIES | short PART OF | compare CASES A B | sample FOLDER]
   (nothing)            case text on standard input, replies on standard output
   check                the same, and every reply worked out from document 01 too; differences go to standard error
   timed                the same, with the time of each reply on standard error
@@ -94,12 +96,17 @@ fn main() -> io::Result<()> {
     let mut output = io::BufWriter::with_capacity(1 << 20, io::stdout());
     let number = |word: &str| word.parse::<u64>().unwrap_or_else(|_| panic!("not a number: {word}"));
     match words[..] {
-        [] => answer(&mut input, &mut output, false, false).map(drop),
-        ["timed"] => answer(&mut input, &mut output, false, true).map(drop),
+        [] => answer(&mut input, &mut output, false, false, false).map(drop),
+        ["timed"] => answer(&mut input, &mut output, false, true, false).map(drop),
         ["check"] => {
-            let Told { differences, tracks } = answer(&mut input, &mut output, true, false)?;
+            let Told { differences, tracks, .. } = answer(&mut input, &mut output, true, false, false)?;
             eprintln!("{} tracks by the Rust's values, {} by the document's", tracks[0], tracks[1]);
             eprintln!("{differences} differences between Rust and document");
+            std::process::exit((differences > 0).into());
+        }
+        ["probe"] => {
+            let Told { differences, tracks, probed } = answer(&mut input, &mut io::sink(), false, false, true)?;
+            println!("{} tracks, {probed} doubles probed, {differences} differing", tracks[0]);
             std::process::exit((differences > 0).into());
         }
         ["gen", seed, replies] => {

@@ -19,7 +19,7 @@ fn word(line: &str) -> &str {
 
 fn replies_to(text: &str) -> String {
     let mut out = Vec::new();
-    crate::answer(&mut text.as_bytes(), &mut out, false, false).expect("in memory");
+    crate::answer(&mut text.as_bytes(), &mut out, false, false, false).expect("in memory");
     String::from_utf8(out).expect("replies are ASCII")
 }
 
