@@ -1,12 +1,9 @@
 // The hash of a track that is too long to print: its changes are walked, and none is kept.
-use crate::lent::Lent;
 use crate::reply;
+use crate::sampled::head;
 use clip::ClipSet;
 use definitions::Manifest;
 use resolver::Resolver;
-use text::first_bytes;
-use text::first_doubles;
-use text::first_numbers;
 use track::entry::Entry;
 use track::entry::entry_at;
 use track_laws::Next;
@@ -190,9 +187,7 @@ fn hash_of(set: ClipSet, times: &[f64], values: &[f64], marks: &[u8], ends: &[u6
 }
 
 fn put_hashed(h: Hashed, out: &mut [u8], full: usize) -> usize {
-    let n = text::put(out, full, b"trackhash");
-    let n = reply::mark(h.mark, out, n);
-    let n = reply::double(h.value, out, n);
+    let n = head(b"trackhash", h.mark, h.value, out, full);
     let n = reply::decimal(h.count, out, n);
     let n = text::put_byte(out, n, b' ');
     let n = text::put_bits(out, n, h.hash);
@@ -200,33 +195,10 @@ fn put_hashed(h: Hashed, out: &mut [u8], full: usize) -> usize {
 }
 
 // The numbers are the bake's, except for 22.
-fn asked(
-    resolver: Resolver,
-    times: &[f64],
-    values: &[f64],
-    marks: &[u8],
-    ends: &[u64],
-    out: &mut [u8],
-    full: usize,
-) -> usize
-    requires { ⌜ Made resolver ⌝ }
-{
-    if !resolver.stands {
-        return reply::refused(20, out, full);
-    }
-    let set = resolver.set;
-    let number = sdf::samples_number(set.clips, times, values, marks, ends);
-    if number != 0 {
-        return reply::refused(number, out, full);
-    }
-    put_hashed(hash_of(set, times, values, marks, ends), out, full)
-}
-
 pub fn track_hash(
     line: &[u8],
     at: usize,
     resolver: Resolver,
-    lent: Lent,
     ends: &[u64],
     times: &[f64],
     values: &[f64],
@@ -239,13 +211,13 @@ pub fn track_hash(
     if !text::is_end(line, at) {
         return reply::unreadable(out, full);
     }
-    asked(
-        resolver,
-        first_doubles(times, lent.times),
-        first_doubles(values, lent.values),
-        first_bytes(marks, lent.marks),
-        first_numbers(ends, lent.ends),
-        out,
-        full,
-    )
+    if !resolver.stands {
+        return reply::refused(20, out, full);
+    }
+    let set = resolver.set;
+    let number = sdf::samples_number(set.clips, times, values, marks, ends);
+    if number != 0 {
+        return reply::refused(number, out, full);
+    }
+    put_hashed(hash_of(set, times, values, marks, ends), out, full)
 }

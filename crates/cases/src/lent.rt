@@ -1,7 +1,4 @@
 // The samples that a case lends with its questions: how much of each of the four lists is in use.
-use text::first_bytes;
-use text::first_doubles;
-use text::first_numbers;
 
 pub struct Lent {
     pub readable: bool,

@@ -8,12 +8,16 @@ mod lent;
 mod question;
 mod reply;
 mod sampled;
+mod slots;
 mod written;
 
 use calls::Call;
 use calls::Question;
 use lent::Lent;
 use resolver::Resolver;
+use text::first_bytes;
+use text::first_doubles;
+use text::first_numbers;
 ghost use mathlib.Core.Path.{_≡_};
 ghost use lib.ListN.{length};
 ghost use Rattle.resolver.specs.State.{Made};
@@ -143,11 +147,10 @@ fn run(
                 line,
                 at,
                 resolver,
-                lent,
-                ends,
-                times,
-                values,
-                marks,
+                first_numbers(ends, lent.ends),
+                first_doubles(times, lent.times),
+                first_doubles(values, lent.values),
+                first_bytes(marks, lent.marks),
                 outtimes,
                 outvalues,
                 outmarks,
@@ -168,7 +171,6 @@ fn ask(
     line: &[u8],
     at: usize,
     resolver: Resolver,
-    lent: Lent,
     ends: &[u64],
     times: &[f64],
     values: &[f64],
@@ -189,37 +191,41 @@ fn ask(
         Question::Normalize => {
             question::normalize(line, at, outtimes, outvalues, outmarks, out, full)
         }
-        Question::Value => sampled::value(
+        Question::Value => {
+            sampled::value(line, at, resolver, ends, times, values, marks, out, full)
+        }
+        Question::Untimed => {
+            sampled::untimed(line, at, resolver, ends, times, values, marks, out, full)
+        }
+        Question::Times => sampled::stage_sample_times(
             line,
             at,
             resolver,
-            lent,
             ends,
             times,
             values,
             marks,
+            outtimes,
             out,
             full,
         ),
-        Question::Untimed => sampled::untimed(
+        Question::StageSamples => sampled::stage_samples(
             line,
             at,
             resolver,
-            lent,
             ends,
             times,
             values,
             marks,
+            outtimes,
+            outmarks,
             out,
             full,
         ),
-        Question::Times => reply::unreadable(out, full),
-        Question::StageSamples => reply::unreadable(out, full),
         Question::Track => sampled::track(
             line,
             at,
             resolver,
-            lent,
             ends,
             times,
             values,
@@ -230,18 +236,9 @@ fn ask(
             out,
             full,
         ),
-        Question::TrackHash => hash::track_hash(
-            line,
-            at,
-            resolver,
-            lent,
-            ends,
-            times,
-            values,
-            marks,
-            out,
-            full,
-        ),
+        Question::TrackHash => {
+            hash::track_hash(line, at, resolver, ends, times, values, marks, out, full)
+        }
     }
 }
 

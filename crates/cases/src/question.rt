@@ -1,6 +1,8 @@
 // The questions about the standing set alone, and those that need none.
 use crate::dump;
 use crate::reply;
+use crate::slots::least;
+use crate::slots::slots;
 use crate::written;
 use definitions::ClipTime;
 use definitions::StageTime;
@@ -8,23 +10,9 @@ use names::Named;
 use resolver::ClipReply;
 use resolver::Resolver;
 use resolver::TimeReply;
-use text::Listed;
 use text::first_bytes;
 use text::first_doubles;
 ghost use Rattle.resolver.specs.State.{Made};
-
-// The length of each lent output list: the line's last word, or `room` if it has no more words.
-pub fn slots(line: &[u8], at: usize, room: usize) -> Listed {
-    if text::is_end(line, at) {
-        return Listed { at, count: room };
-    }
-    let n = text::read_decimal(line, at);
-    let count = n.value;
-    Listed {
-        at: n.at,
-        count: count as usize,
-    }
-}
 
 pub fn dump(line: &[u8], at: usize, resolver: Resolver, out: &mut [u8], full: usize) -> usize {
     if !text::is_end(line, at) {
@@ -80,10 +68,8 @@ fn named(
     out: &mut [u8],
     full: usize,
 ) -> usize {
-    if count > written.len() {
-        return reply::unreadable(out, full);
-    }
-    match names::name(template, ClipTime(time), &mut written[0..count]) {
+    let k = least(count, written.len());
+    match names::name(template, ClipTime(time), &mut written[0..k]) {
         Named::Written(length) => {
             let n = text::put(out, full, b"name ");
             let n = text::put_bytes(out, n, first_bytes(written, length));
@@ -98,7 +84,7 @@ pub fn name(line: &[u8], at: usize, out: &mut [u8], full: usize) -> usize {
     let mut written = [0u8; 512];
     let b = text::read_bytes(line, at, &mut template);
     let t = text::read_double(line, b.at);
-    let s = slots(line, t.at, 400);
+    let s = slots(line, t.at, 400, 512);
     if !text::is_end(line, s.at) {
         return reply::unreadable(out, full);
     }
@@ -124,28 +110,30 @@ fn normalized(
     out: &mut [u8],
     full: usize,
 ) -> usize {
-    if count > outtimes.len() {
-        return reply::unreadable(out, full);
-    }
-    if count > outvalues.len() {
-        return reply::unreadable(out, full);
-    }
-    if count > outmarks.len() {
-        return reply::unreadable(out, full);
-    }
+    let k = least(
+        count,
+        least(outtimes.len(), least(outvalues.len(), outmarks.len())),
+    );
     let counted = sdf::normalize(
         times,
         values,
         marks,
-        &mut outtimes[0..count],
-        &mut outvalues[0..count],
-        &mut outmarks[0..count],
+        &mut outtimes[0..k],
+        &mut outvalues[0..k],
+        &mut outmarks[0..k],
     );
     if counted.number != 0 {
         return reply::refused(counted.number, out, full);
     }
-    let n = text::put(out, full, b"normalize");
-    written::samples(counted.count, outtimes, outvalues, outmarks, out, n)
+    written::samples(
+        b"normalize",
+        counted.count,
+        outtimes,
+        outvalues,
+        outmarks,
+        out,
+        full,
+    )
 }
 
 pub fn normalize(
@@ -161,16 +149,19 @@ pub fn normalize(
     let mut values = [0.0f64; 5120];
     let mut marks = [0u8; 5120];
     let t = text::doubles_after(line, at, b"t", &mut times);
+    let times = first_doubles(&times, t.count);
     let v = text::doubles_after(line, t.at, b"v", &mut values);
+    let values = first_doubles(&values, v.count);
     let m = text::marks_after(line, v.at, b"m", &mut marks);
-    let s = slots(line, m.at, 65536);
+    let marks = first_bytes(&marks, m.count);
+    let s = slots(line, m.at, 65536, 65536);
     if !text::is_end(line, s.at) {
         return reply::unreadable(out, full);
     }
     normalized(
-        first_doubles(&times, t.count),
-        first_doubles(&values, v.count),
-        first_bytes(&marks, m.count),
+        times,
+        values,
+        marks,
         s.count,
         outtimes,
         outvalues,

@@ -1,16 +1,13 @@
 // The questions about the standing set and the lent samples.
-use crate::lent::Lent;
-use crate::question::slots;
 use crate::reply;
+use crate::slots::least;
+use crate::slots::slots;
 use crate::written;
 use definitions::Answer;
 use definitions::StageTime;
 use resolver::Resolver;
 use resolver::UntimedReply;
 use resolver::ValueReply;
-use text::first_bytes;
-use text::first_doubles;
-use text::first_numbers;
 use value::untimed::ValueState;
 ghost use Rattle.resolver.specs.State.{Made};
 
@@ -30,7 +27,6 @@ pub fn value(
     line: &[u8],
     at: usize,
     resolver: Resolver,
-    lent: Lent,
     ends: &[u64],
     times: &[f64],
     values: &[f64],
@@ -44,21 +40,14 @@ pub fn value(
     if !text::is_end(line, t.at) {
         return reply::unreadable(out, full);
     }
-    let asked = resolver.value(
-        first_doubles(times, lent.times),
-        first_doubles(values, lent.values),
-        first_bytes(marks, lent.marks),
-        first_numbers(ends, lent.ends),
-        StageTime(t.value),
-    );
-    match asked {
+    match resolver.value(times, values, marks, ends, StageTime(t.value)) {
         ValueReply::Answered(a) => answer(a, out, full),
         ValueReply::Refused(number) => reply::refused(number, out, full),
     }
 }
 
-fn state_of(state: ValueState, out: &mut [u8], full: usize) -> usize {
-    match state {
+fn state(s: ValueState, out: &mut [u8], full: usize) -> usize {
+    match s {
         ValueState::Present => text::put(out, full, b"untimed present\n"),
         ValueState::Blocked => text::put(out, full, b"untimed blocked\n"),
         ValueState::Absent => text::put(out, full, b"untimed absent\n"),
@@ -69,7 +58,6 @@ pub fn untimed(
     line: &[u8],
     at: usize,
     resolver: Resolver,
-    lent: Lent,
     ends: &[u64],
     times: &[f64],
     values: &[f64],
@@ -82,30 +70,83 @@ pub fn untimed(
     if !text::is_end(line, at) {
         return reply::unreadable(out, full);
     }
-    let asked = resolver.untimed(
-        first_doubles(times, lent.times),
-        first_doubles(values, lent.values),
-        first_bytes(marks, lent.marks),
-        first_numbers(ends, lent.ends),
-    );
-    match asked {
-        UntimedReply::Answered(state) => state_of(state, out, full),
+    match resolver.untimed(times, values, marks, ends) {
+        UntimedReply::Answered(s) => state(s, out, full),
         UntimedReply::Refused(number) => reply::refused(number, out, full),
     }
 }
 
+pub fn stage_sample_times(
+    line: &[u8],
+    at: usize,
+    resolver: Resolver,
+    ends: &[u64],
+    times: &[f64],
+    values: &[f64],
+    marks: &[u8],
+    outtimes: &mut [f64],
+    out: &mut [u8],
+    full: usize,
+) -> usize
+    requires { ⌜ Made resolver ⌝ }
+{
+    let s = slots(line, at, 65536, 65536);
+    if !text::is_end(line, s.at) {
+        return reply::unreadable(out, full);
+    }
+    let k = least(s.count, outtimes.len());
+    let counted = resolver.stage_sample_times(times, values, marks, ends, &mut outtimes[0..k]);
+    if counted.number != 0 {
+        return reply::refused(counted.number, out, full);
+    }
+    written::times(b"times", counted.count, outtimes, out, full)
+}
+
+pub fn stage_samples(
+    line: &[u8],
+    at: usize,
+    resolver: Resolver,
+    ends: &[u64],
+    times: &[f64],
+    values: &[f64],
+    marks: &[u8],
+    outtimes: &mut [f64],
+    outmarks: &mut [u8],
+    out: &mut [u8],
+    full: usize,
+) -> usize
+    requires { ⌜ Made resolver ⌝ }
+{
+    let s = slots(line, at, 65536, 65536);
+    if !text::is_end(line, s.at) {
+        return reply::unreadable(out, full);
+    }
+    let k = least(s.count, least(outtimes.len(), outmarks.len()));
+    let counted = resolver.stage_samples(
+        times,
+        values,
+        marks,
+        ends,
+        &mut outtimes[0..k],
+        &mut outmarks[0..k],
+    );
+    if counted.number != 0 {
+        return reply::refused(counted.number, out, full);
+    }
+    written::marked_times(b"ssamples", counted.count, outtimes, outmarks, out, full)
+}
+
 // A track's head, behind the word of its call.
-fn head(word: &[u8], mark: u8, value: f64, out: &mut [u8], full: usize) -> usize {
+pub fn head(word: &[u8], mark: u8, value: f64, out: &mut [u8], full: usize) -> usize {
     let n = text::put(out, full, word);
     let n = reply::mark(mark, out, n);
     reply::double(value, out, n)
 }
 
-pub fn track(
-    line: &[u8],
-    at: usize,
+// The track, in the first `count` entries of the three lists.
+fn bake(
+    count: usize,
     resolver: Resolver,
-    lent: Lent,
     ends: &[u64],
     times: &[f64],
     values: &[f64],
@@ -118,32 +159,57 @@ pub fn track(
 ) -> usize
     requires { ⌜ Made resolver ⌝ }
 {
-    let s = slots(line, at, 65536);
-    let count = s.count;
-    if !text::is_end(line, s.at) {
-        return reply::unreadable(out, full);
-    }
-    if count > outtimes.len() {
-        return reply::unreadable(out, full);
-    }
-    if count > outvalues.len() {
-        return reply::unreadable(out, full);
-    }
-    if count > outmarks.len() {
-        return reply::unreadable(out, full);
-    }
+    let k = least(
+        count,
+        least(outtimes.len(), least(outvalues.len(), outmarks.len())),
+    );
     let baked = resolver.bake(
-        first_doubles(times, lent.times),
-        first_doubles(values, lent.values),
-        first_bytes(marks, lent.marks),
-        first_numbers(ends, lent.ends),
-        &mut outtimes[0..count],
-        &mut outvalues[0..count],
-        &mut outmarks[0..count],
+        times,
+        values,
+        marks,
+        ends,
+        &mut outtimes[0..k],
+        &mut outvalues[0..k],
+        &mut outmarks[0..k],
     );
     if baked.number != 0 {
         return reply::refused(baked.number, out, full);
     }
     let n = head(b"track", baked.mark, baked.value, out, full);
     written::changes(baked.count, outtimes, outvalues, outmarks, out, n)
+}
+
+pub fn track(
+    line: &[u8],
+    at: usize,
+    resolver: Resolver,
+    ends: &[u64],
+    times: &[f64],
+    values: &[f64],
+    marks: &[u8],
+    outtimes: &mut [f64],
+    outvalues: &mut [f64],
+    outmarks: &mut [u8],
+    out: &mut [u8],
+    full: usize,
+) -> usize
+    requires { ⌜ Made resolver ⌝ }
+{
+    let s = slots(line, at, 65536, 65536);
+    if !text::is_end(line, s.at) {
+        return reply::unreadable(out, full);
+    }
+    bake(
+        s.count,
+        resolver,
+        ends,
+        times,
+        values,
+        marks,
+        outtimes,
+        outvalues,
+        outmarks,
+        out,
+        full,
+    )
 }

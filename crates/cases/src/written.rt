@@ -1,22 +1,30 @@
-// The lists that a question has written, as its reply shows them.
+// The lists that a question has written, as its reply shows them: a count, and that many entries.
 use crate::reply;
+use crate::slots::least;
 
-// A count and that many doubles.
+fn begin(word: &[u8], count: usize, out: &mut [u8], full: usize) -> usize {
+    let n = text::put(out, full, word);
+    reply::decimal(count as u64, out, n)
+}
+
+// Each entry a time.
 pub fn times(word: &[u8], count: usize, times: &[f64], out: &mut [u8], full: usize) -> usize {
-    let mut n = text::put(out, full, word);
-    n = reply::decimal(count as u64, out, n);
+    let shown = least(count, times.len());
+    let mut n = begin(word, count, out, full);
     let mut i: usize = 0;
-    while i < count {
-        if i >= times.len() {
-            return n;
-        }
+    while i < shown {
         n = reply::double(times[i], out, n);
         i += 1;
     }
     text::put_byte(out, n, b'\n')
 }
 
-// A count, and a time and a mark for each.
+fn marked_time(time: f64, mark: u8, out: &mut [u8], full: usize) -> usize {
+    let n = reply::double(time, out, full);
+    reply::mark(mark, out, n)
+}
+
+// Each entry a time and a mark.
 pub fn marked_times(
     word: &[u8],
     count: usize,
@@ -25,24 +33,22 @@ pub fn marked_times(
     out: &mut [u8],
     full: usize,
 ) -> usize {
-    let mut n = text::put(out, full, word);
-    n = reply::decimal(count as u64, out, n);
+    let shown = least(count, least(times.len(), marks.len()));
+    let mut n = begin(word, count, out, full);
     let mut i: usize = 0;
-    while i < count {
-        if i >= times.len() {
-            return n;
-        }
-        if i >= marks.len() {
-            return n;
-        }
-        n = reply::double(times[i], out, n);
-        n = reply::mark(marks[i], out, n);
+    while i < shown {
+        n = marked_time(times[i], marks[i], out, n);
         i += 1;
     }
     text::put_byte(out, n, b'\n')
 }
 
-// A count, and the time, mark and value of each change.
+fn change(time: f64, value: f64, mark: u8, out: &mut [u8], full: usize) -> usize {
+    let n = marked_time(time, mark, out, full);
+    reply::double(value, out, n)
+}
+
+// Each entry a change's time, mark and value.
 pub fn changes(
     count: usize,
     times: &[f64],
@@ -51,28 +57,25 @@ pub fn changes(
     out: &mut [u8],
     full: usize,
 ) -> usize {
-    let mut n = reply::decimal(count as u64, out, full);
+    let shown = least(count, least(times.len(), least(values.len(), marks.len())));
+    let mut n = begin(b"", count, out, full);
     let mut i: usize = 0;
-    while i < count {
-        if i >= times.len() {
-            return n;
-        }
-        if i >= values.len() {
-            return n;
-        }
-        if i >= marks.len() {
-            return n;
-        }
-        n = reply::double(times[i], out, n);
-        n = reply::mark(marks[i], out, n);
-        n = reply::double(values[i], out, n);
+    while i < shown {
+        n = change(times[i], values[i], marks[i], out, n);
         i += 1;
     }
     text::put_byte(out, n, b'\n')
 }
 
-// A count, and the time, value and mark of each sample.
+fn sample(time: f64, value: f64, mark: u8, out: &mut [u8], full: usize) -> usize {
+    let n = reply::double(time, out, full);
+    let n = reply::double(value, out, n);
+    reply::mark(mark, out, n)
+}
+
+// Each entry a sample's time, value and mark.
 pub fn samples(
+    word: &[u8],
     count: usize,
     times: &[f64],
     values: &[f64],
@@ -80,21 +83,11 @@ pub fn samples(
     out: &mut [u8],
     full: usize,
 ) -> usize {
-    let mut n = reply::decimal(count as u64, out, full);
+    let shown = least(count, least(times.len(), least(values.len(), marks.len())));
+    let mut n = begin(word, count, out, full);
     let mut i: usize = 0;
-    while i < count {
-        if i >= times.len() {
-            return n;
-        }
-        if i >= values.len() {
-            return n;
-        }
-        if i >= marks.len() {
-            return n;
-        }
-        n = reply::double(times[i], out, n);
-        n = reply::double(values[i], out, n);
-        n = reply::mark(marks[i], out, n);
+    while i < shown {
+        n = sample(times[i], values[i], marks[i], out, n);
         i += 1;
     }
     text::put_byte(out, n, b'\n')

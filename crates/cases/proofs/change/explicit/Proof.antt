@@ -1,3 +1,4 @@
+-- `cases::change::explicit` hands on a resolver that an operation made. Assumes nothing.
 use borrow.Author.Needs.{needs}
 use Rattle.cases.proofs.change.explicit.Statement.{statement}
 use Rattle.cases.proofs.change.explicit.Tie as tie

@@ -1,3 +1,4 @@
+-- `cases::change::template` hands on a resolver that an operation made. Assumes nothing.
 use borrow.Author.Needs.{needs}
 use Rattle.cases.proofs.change.template.Statement.{statement}
 use Rattle.cases.proofs.change.template.Tie as tie

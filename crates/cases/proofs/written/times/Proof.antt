@@ -7,25 +7,19 @@ use Rattle.cases.proofs.written.times.Statement.{statement}
 use Rattle.cases.proofs.written.times.Tie as tie
 
 abbrev Inv-loop : tie.InvT-loop
-Inv-loop word count times out₀ full n₀ i₀ out n i = length out ≡ length out₀
+Inv-loop word count times out₀ full shown n₀ i₀ out n i = length out ≡ length out₀
 
 abbrev μ-loop : tie.MeasureT-loop
-μ-loop word count times out₀ full n₀ i₀ out n i = count - i
+μ-loop word count times out₀ full shown n₀ i₀ out n i = shown - i
 
-put-requires : tie.Need-put-requires Inv-loop μ-loop
-put-requires c κs = search needs
+least-requires : tie.Need-least-requires Inv-loop μ-loop
+least-requires c κs = search needs
 
-decimal-requires : tie.Need-decimal-requires Inv-loop μ-loop
-decimal-requires c κs = search needs
+begin-requires : tie.Need-begin-requires Inv-loop μ-loop
+begin-requires c κs = search needs
 
 loop-holds : tie.Need-loop-holds Inv-loop μ-loop
 loop-holds c = search needs
-
-same-length : tie.Need-same-length Inv-loop μ-loop
-same-length c = search needs
-
-returns : tie.Need-returns Inv-loop μ-loop
-returns c = search needs
 
 mul-double : tie.Need-mul-double Inv-loop μ-loop
 mul-double c = search needs
@@ -48,11 +42,11 @@ loop-again c = search needs
 put-byte-requires : tie.Need-put-byte-requires Inv-loop μ-loop
 put-byte-requires c κs = search needs
 
-same-length-2 : tie.Need-same-length-2 Inv-loop μ-loop
-same-length-2 c = search needs
+same-length : tie.Need-same-length Inv-loop μ-loop
+same-length c = search needs
 
-returns-2 : tie.Need-returns-2 Inv-loop μ-loop
-returns-2 c = search needs
+returns : tie.Need-returns Inv-loop μ-loop
+returns c = search needs
 
 pub times-spec : {M : Type 1} → statement M
 times-spec =
@@ -60,11 +54,9 @@ times-spec =
     (tie.spec
     Inv-loop
     μ-loop
-    put-requires
-    decimal-requires
+    least-requires
+    begin-requires
     loop-holds
-    same-length
-    returns
     mul-double
     shared-slice-read-double
     double-requires
@@ -72,5 +64,5 @@ times-spec =
     loop-less
     loop-again
     put-byte-requires
-    same-length-2
-    returns-2)
+    same-length
+    returns)

@@ -1,4 +1,4 @@
--- `cases::hash::asked` is safe: the resolver is one that an operation made, and the samples are accepted for its set. Assumes nothing.
+-- `cases::hash::track_hash` is safe: the resolver is one that an operation made, and the samples are accepted for its set. Assumes nothing.
 use Prim.Native.Nat.{ℕ}
 use mathlib.Core.Path.{_≡_, refl, ap, subst}
 use mathlib.Core.Bool.{Bool, true, cond}
@@ -13,8 +13,8 @@ use Rattle.resolver.specs.declared.Resolver.{Resolver}
 use Rattle.resolver.specs.Asked.{Asked}
 use Rattle.resolver.specs.State.{Made}
 use borrow.Author.Needs.{needs}
-use Rattle.cases.proofs.hash.asked.Statement.{statement}
-use Rattle.cases.proofs.hash.asked.Tie as tie
+use Rattle.cases.proofs.hash.track_hash.Statement.{statement}
+use Rattle.cases.proofs.hash.track_hash.Tie as tie
 
 -- what was shown of the resolver and of the samples
 is-asked : (d : Resolver) (times values : List Float) (marks ends : List ℕ) (n : ℕ) → Made d → d .stands ≡ true → Judged (d .set .clips) times values marks ends n → n ≡ 0 → Asked (d .set) times values marks ends
@@ -25,8 +25,11 @@ is-asked d times values marks ends n m e j z = record {
   numbers = j .values-fit;
 }
 
-refused-requires : tie.Need-refused-requires
-refused-requires c κs = search needs
+is-end-requires : tie.Need-is-end-requires
+is-end-requires c κs = search needs
+
+unreadable-requires : tie.Need-unreadable-requires
+unreadable-requires c κs = search needs
 
 same-length : tie.Need-same-length
 same-length c = search needs
@@ -34,11 +37,8 @@ same-length c = search needs
 returns : tie.Need-returns
 returns c = search needs
 
-samples-number-requires : tie.Need-samples-number-requires
-samples-number-requires c κs = search needs
-
-refused-requires-2 : tie.Need-refused-requires-2
-refused-requires-2 c κs = search needs
+refused-requires : tie.Need-refused-requires
+refused-requires c κs = search needs
 
 same-length-2 : tie.Need-same-length-2
 same-length-2 c = search needs
@@ -46,13 +46,11 @@ same-length-2 c = search needs
 returns-2 : tie.Need-returns-2
 returns-2 c = search needs
 
-hash-of-requires : tie.Need-hash-of-requires
-hash-of-requires c κs =
-    let s = c .before .before .before .before .before .before .before .before .before .before in
-    is-asked (s .args .resolver) _ _ _ _ _ (s .pre) (not-false _ (c .before .before .before .if1 .left)) (c .before .samples-number .ensures) (c .if2 .left)
+samples-number-requires : tie.Need-samples-number-requires
+samples-number-requires c κs = search needs
 
-put-hashed-requires : tie.Need-put-hashed-requires
-put-hashed-requires c κs = search needs
+refused-requires-2 : tie.Need-refused-requires-2
+refused-requires-2 c κs = search needs
 
 same-length-3 : tie.Need-same-length-3
 same-length-3 c = search needs
@@ -60,18 +58,36 @@ same-length-3 c = search needs
 returns-3 : tie.Need-returns-3
 returns-3 c = search needs
 
-pub asked-spec : {M : Type 1} → statement M
-asked-spec =
+hash-of-requires : tie.Need-hash-of-requires
+hash-of-requires c κs =
+    let s = c .before .before .before .before .before .before .before .before .before .before .before .before .before in
+    is-asked (s .args .resolver) _ _ _ _ _ (s .pre) (not-false _ (c .before .before .before .if2 .left)) (c .before .samples-number .ensures) (c .if3 .left)
+
+put-hashed-requires : tie.Need-put-hashed-requires
+put-hashed-requires c κs = search needs
+
+same-length-4 : tie.Need-same-length-4
+same-length-4 c = search needs
+
+returns-4 : tie.Need-returns-4
+returns-4 c = search needs
+
+pub track-hash-spec : {M : Type 1} → statement M
+track-hash-spec =
     tie.close
     (tie.spec
-    refused-requires
+    is-end-requires
+    unreadable-requires
     same-length
     returns
-    samples-number-requires
-    refused-requires-2
+    refused-requires
     same-length-2
     returns-2
+    samples-number-requires
+    refused-requires-2
+    same-length-3
+    returns-3
     hash-of-requires
     put-hashed-requires
-    same-length-3
-    returns-3)
+    same-length-4
+    returns-4)
