@@ -104,7 +104,7 @@ module _ (set : ClipSet) (s : Samples) (S : SoundSet set) (A : SoundSamples s) (
   pub hi-keys : Keys k (min top (endKey b - 1))
   hi-keys = subst (λ (h : ℕ). Keys k h) last-end (last-keys set s S A k top K (endAt set s k) refl)
 
-  hi-clear : NonePassed k (min top (endKey b - 1)) times
+  pub hi-clear : NonePassed k (min top (endKey b - 1)) times
   hi-clear = subst (λ (h : ℕ). NonePassed k h times) last-end (end-clear set s S A k top K (endAt set s k) refl)
 
   stop-by : (r : Next) → FirstStep (cellPlaceAt set s k) k (min top (endKey b - 1)) r → Stops (entryAtKey set s) k top (orEnd r (stopOf top (endKey b)))
@@ -123,7 +123,7 @@ module _ (set : ClipSet) (s : Samples) (S : SoundSet set) (A : SoundSamples s) (
   -- ---- a clip along a line
 
   module _ (c : ℕ) (line : Line) (e : reading c (lineIs line) ≡ cellOf set s (stage (ofKey k))) (part : List Float) (its : clipTimes s c ≡ part) where
-    same-place : (j : ℕ) → cellPlaceAt set s k j ≡ placeOn part line j
+    pub same-place : (j : ℕ) → cellPlaceAt set s k j ≡ placeOn part line j
     unfolding placeOn cellPlace
     same-place j =
         ap (λ (d : Cell). cellPlace s d (ofKey j)) (sym e)

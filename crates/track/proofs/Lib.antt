@@ -5,6 +5,10 @@ pub mod Lent
 pub mod Ways
 pub mod Likeness
 pub mod Halts
+pub mod Spans
+pub mod Onward
+pub mod Cuts
+pub mod Counting
 pub mod Writing
 pub mod Fronts
 pub mod Baking

@@ -125,7 +125,7 @@ module _ {starts : List Float} {clips : List ℕ} {xs ys blocks : List Float} {m
     direct-reads line l e =
         record {
           is = ap (Cells.reading (getD clips p 0)) (l ∙ knots-are) ∙ sym (reads ready lent t p place active (start-at R p h) (contributing ∙ both .0) (part .0) (part .1) (part .2));
-          clip = below;
+          clip = (below, rw (part .2) (omega arith));
         }
       where
         knots-are : lineOf (knotsOf xs ys) t ≡ lineOf (ready .knots) t

@@ -7,6 +7,10 @@ pub mod Pieces
 pub mod Stops
 -- A value and its mark
 pub mod Entries
+-- The changes where a clip is read along a line
+pub mod Readings
+-- The stretch of keys in one cell
+pub mod Runs
 -- The changes, and the promise of a bake
 pub mod Bakes
 -- A track as three lists

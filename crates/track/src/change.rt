@@ -17,14 +17,14 @@ ghost use Rattle.cell_laws.specs.Walk.{NextOf};
 ghost use Rattle.cell_laws.specs.Unpacked.{setOf, samplesOf, Ready};
 ghost use Rattle.track.specs.Stops.{Numbered, endKey, stopOf};
 
-fn lesser(a: u64, b: u64) -> u64
+pub fn lesser(a: u64, b: u64) -> u64
     ensures { λ r. ⌜ r ≡ min a b ⌝ }
 {
     if a < b { a } else { b }
 }
 
 // The key of a cell's end; above every key where there is none.
-fn end_key(end: Bound) -> u64
+pub fn end_key(end: Bound) -> u64
     requires { ⌜ Numbered end ⌝ }
     ensures { λ r. ⌜ r ≡ endKey end ⌝ }
 {

@@ -20,7 +20,7 @@ pub struct Entry {
 }
 
 // What an answer is in a track. The value of a block or of an absent answer is 0.0.
-fn entry_of(a: Answer) -> Entry
+pub fn entry_of(a: Answer) -> Entry
     ensures { λ r. ⌜ entryIs r ≡ Track.entryOf a ⌝ }
 {
     match a {

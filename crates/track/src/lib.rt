@@ -8,6 +8,13 @@ pub mod line;
 pub mod cell;
 // The next change.
 pub mod change;
+// The changes where a clip is read along a line.
+pub mod reading;
+// The stretch of keys in one cell.
+pub mod stretch;
+// The two passes of a bake: the changes counted, and written.
+pub mod count;
+pub mod write;
 // The bake.
 pub mod bake;
 // The held reading.

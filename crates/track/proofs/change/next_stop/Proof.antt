@@ -18,7 +18,7 @@ use Rattle.cell_laws.specs.Keys.{Keys, Stops, entryAtKey, orEnd}
 use Rattle.cell_laws.specs.Unpacked.{setOf, samplesOf}
 use Rattle.track.specs.Lines.{lineIs, placeOn}
 use Rattle.track.specs.Stops.{endKey, stopOf}
-use Rattle.track.specs.Pieces.{cellIs, ClipBelow, PieceIs}
+use Rattle.track.specs.Pieces.{cellIs, Sampled, PieceIs}
 use Rattle.value.specs.Reads.{ready-readable}
 use Rattle.track.proofs.Lent.{sound, samples}
 use borrow.Author.Needs.{needs}
@@ -60,7 +60,7 @@ is-reading c = ap cellIs (sym (c .before .cell .given .1)) ∙ piece (piece-at c
 
 clip-below : (c : tie.After-known-told) → clip c < length (entry (piece-at c) .args .ends .now)
 unfolding setOf
-clip-below c = subst (ClipBelow (length (entry (piece-at c) .args .ends .now))) (c .before .cell .given .1) (piece (piece-at c) .clip)
+clip-below c = subst (Sampled (set (entry (piece-at c))) (lent (entry (piece-at c)))) (c .before .cell .given .1) (piece (piece-at c) .clip) .0
 
 -- the clip's part lies inside the list
 part-inside : (c : tie.After-clip-end) → (c .before .clip-begin .result ≤ c .clip-end .result) × (c .clip-end .result ≤ length (entry (piece-at (c .before .before .before)) .args .times .now))

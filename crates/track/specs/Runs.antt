@@ -1,0 +1,74 @@
+-- A stretch of keys in one cell: what the cell says there, its changes with the one at its beginning, and what the search for it promises. Assumes nothing.
+use mathlib.Core.Path.{_≡_}
+use mathlib.Core.Bool.{cond}
+use mathlib.Core.List.{List, [], _∷_, _++_}
+use Prim.Native.Nat.{ℕ, _-_, _≤_, _<_}
+use lib.ListN.{length, take, drop}
+use lib.Ieee.{Float}
+use Rattle.definitions.specs.declared.Source.{Source}
+use Rattle.definitions.specs.declared.Source.the-variants.{Sample}
+use Rattle.definitions.specs.ClipSet.{ClipSet}
+use Rattle.definitions.specs.Samples.{Samples, clipBegin, clipEnd}
+use Rattle.definitions.specs.Track.{Entry, alike}
+use Rattle.track_laws.specs.Track.{Change, changesTo}
+use Rattle.track_laws.specs.Laws.{Agree}
+use Rattle.cell_laws.specs.Keys.{Keys, entryAtKey}
+use Rattle.cell_laws.specs.Tracks.{entry-same}
+use Rattle.track.specs.declared.line.Line.{Line}
+use Rattle.track.specs.declared.cell.Cell.{Cell}
+use Rattle.track.specs.declared.cell.Cell.the-variants.{Constant, Reading}
+use Rattle.track.specs.declared.stretch.Stretch.{Stretch}
+use Rattle.track.specs.Lines.{placeOn}
+use Rattle.track.specs.Entries.{entryIs}
+use Rattle.track.specs.Readings.{Turns, Reads, readingAt}
+
+-- a clip's part of a lent list
+abbrev pub part : {A : Type 0} → List A → List ℕ → ℕ → List A
+part l ends c = take (clipEnd ends c - clipBegin ends c) (drop (clipBegin ends c) l)
+
+-- the clip's part can be read along the line from k to hi
+pub record Run (times values : List Float) (marks ends : List ℕ) (c : ℕ) (line : Line) (k hi : ℕ) : Type 0 where
+  pub clip : c < length ends
+  pub from : clipBegin ends c ≤ clipEnd ends c
+  pub inside : clipEnd ends c ≤ length times
+  pub valued : length values ≡ length times
+  pub flagged : length marks ≡ length times
+  pub reads : Reads (part times ends c) (part values ends c) (part marks ends c)
+  pub turns : Turns (placeOn (part times ends c) line) k hi
+
+abbrev pub Runs : List Float → List Float → List ℕ → List ℕ → Cell → ℕ → ℕ → Type 0
+Runs times values marks ends (Constant r) k hi = Unit {0}
+Runs times values marks ends (Reading c line) k hi = Run times values marks ends c line k hi
+
+-- what the cell reads at the key k
+abbrev pub readOn : List Float → List ℕ → Cell → ℕ → Source
+readOn times ends (Constant r) k = r
+readOn times ends (Reading c line) k = Sample c (placeOn (part times ends c) line k)
+
+-- what the cell says at the key j: everywhere what it says at its beginning, or what the clip's samples say along the line
+abbrev pub saysOn : List Float → List Float → List ℕ → List ℕ → Cell → Entry → ℕ → Entry
+saysOn times values marks ends (Constant r) here j = here
+saysOn times values marks ends (Reading c line) here j = readingAt (part times ends c) (part values ends c) (part marks ends c) line j
+
+-- the change where a cell begins at k, if there is one: before it the value is last, there it is here
+abbrev pub begun : Entry → Entry → ℕ → List (Change Entry)
+begun last here k = cond (alike here last) [] (record { key = k; value = here } ∷ [])
+
+-- the changes in the cell above k, and with the one at k
+abbrev pub changesIn : List Float → List Float → List ℕ → List ℕ → Stretch → ℕ → List (Change Entry)
+changesIn times values marks ends s k = changesTo entry-same (saysOn times values marks ends (s .cell) (entryIs (s .here))) k (s .hi)
+
+abbrev pub changesOn : List Float → List Float → List ℕ → List ℕ → Stretch → Entry → ℕ → List (Change Entry)
+changesOn times values marks ends s last k = begun last (entryIs (s .here)) k ++ changesIn times values marks ends s k
+
+-- what the cell says at its last key
+abbrev pub lastOn : List Float → List Float → List ℕ → List ℕ → Stretch → Entry
+lastOn times values marks ends s = saysOn times values marks ends (s .cell) (entryIs (s .here)) (s .hi)
+
+-- the stretch from k on in the cell of k, up to top: the value there is what the cell says
+pub record StretchIs (set : ClipSet) (s : Samples) (k top : ℕ) (r : Stretch) : Type 0 where
+  pub keys : Keys k (r .hi)
+  pub within : r .hi ≤ top
+  pub here : entryIs (r .here) ≡ entryAtKey set s k
+  pub runs : Runs (s .times) (s .values) (s .marks) (s .ends) (r .cell) k (r .hi)
+  pub says : Agree k (r .hi) (entryAtKey set s) (saysOn (s .times) (s .values) (s .marks) (s .ends) (r .cell) (entryIs (r .here)))

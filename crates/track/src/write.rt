@@ -1,0 +1,153 @@
+// The second pass of a bake: the changes are written, stretch by stretch.
+use crate::cell::Cell;
+use crate::entry::Entry;
+use crate::entry::alike;
+use crate::reading::Wrote;
+use crate::reading::write_changes;
+use crate::stretch::Stretch;
+use crate::stretch::stretch_at;
+use definitions::Manifest;
+use value::direct::clip_begin;
+use value::direct::clip_end;
+ghost use mathlib.Core.Path.{_≡_};
+ghost use Prim.Native.Nat.{_≤_};
+ghost use lib.ListN.{length};
+ghost use Rattle.gf.specs.Key as Key;
+ghost use Rattle.cell_laws.specs.Keys.{Keys, entryAtKey};
+ghost use Rattle.cell_laws.specs.Unpacked.{setOf, samplesOf, Ready};
+ghost use Rattle.track.specs.Entries.{entryIs};
+ghost use Rattle.track.specs.Bakes.{changesOf, Room, Written};
+ghost use Rattle.track.specs.Readings.{RoomFrom, WrittenFrom};
+ghost use Rattle.track.specs.Runs.{Runs, begun, changesIn, changesOn, lastOn};
+
+// Writes the change at the key k where the value there is not alike to the one before, to slot n.
+fn write_first(
+    here: Entry,
+    last: Entry,
+    k: u64,
+    n: usize,
+    outtimes: &mut [f64],
+    outvalues: &mut [f64],
+    outmarks: &mut [u8],
+) -> usize
+    requires { ⌜ (Key.least ≤ k) × (k ≤ Key.most) ⌝ }
+    requires { ⌜ RoomFrom n (begun (entryIs last) (entryIs here) k) (now outtimes) (now outvalues) (now outmarks) ⌝ }
+    ensures { λ r. ⌜ WrittenFrom n (begun (entryIs last) (entryIs here) k) (entryIs here) (now (outtimes .entry)) (now (outvalues .entry)) (now (outmarks .entry)) (now (outtimes .exit)) (now (outvalues .exit)) (now (outmarks .exit)) r (entryIs here) ⌝ }
+{
+    if alike(here, last) {
+        return n;
+    }
+    outtimes[n] = gf::of_key(k);
+    outvalues[n] = here.value;
+    outmarks[n] = here.mark;
+    n + 1
+}
+
+// Writes the changes above the key k in its stretch from slot n on.
+fn write_in(
+    times: &[f64],
+    values: &[f64],
+    marks: &[u8],
+    ends: &[u64],
+    s: Stretch,
+    k: u64,
+    n: usize,
+    outtimes: &mut [f64],
+    outvalues: &mut [f64],
+    outmarks: &mut [u8],
+) -> Wrote
+    requires { ⌜ Keys k (s .hi) ⌝ }
+    requires { ⌜ Runs (now times) (now values) (now marks) (now ends) (s .cell) k (s .hi) ⌝ }
+    requires { ⌜ RoomFrom n (changesIn (now times) (now values) (now marks) (now ends) s k) (now outtimes) (now outvalues) (now outmarks) ⌝ }
+    ensures { λ r. ⌜ WrittenFrom n (changesIn (now (times .entry)) (now (values .entry)) (now (marks .entry)) (now (ends .entry)) s k) (lastOn (now (times .entry)) (now (values .entry)) (now (marks .entry)) (now (ends .entry)) s) (now (outtimes .entry)) (now (outvalues .entry)) (now (outmarks .entry)) (now (outtimes .exit)) (now (outvalues .exit)) (now (outmarks .exit)) (r .count) (entryIs (r .last)) ⌝ }
+{
+    let cell = s.cell;
+    let here = s.here;
+    let Cell::Reading(clip, line) = cell else {
+        return Wrote {
+            count: n,
+            last: here,
+        };
+    };
+    let a = clip_begin(ends, clip);
+    let b = clip_end(ends, clip);
+    write_changes(
+        &times[a..b],
+        &values[a..b],
+        &marks[a..b],
+        line,
+        k,
+        s.hi,
+        n,
+        outtimes,
+        outvalues,
+        outmarks,
+    )
+}
+
+// Writes the changes above low and up to top, for which there is room, and gives their number. `head`
+// is the value at low.
+pub fn write(
+    starts: &[f64],
+    clips: &[u64],
+    xs: &[f64],
+    ys: &[f64],
+    blocks: &[f64],
+    m: Manifest,
+    times: &[f64],
+    values: &[f64],
+    marks: &[u8],
+    ends: &[u64],
+    head: Entry,
+    low: u64,
+    top: u64,
+    outtimes: &mut [f64],
+    outvalues: &mut [f64],
+    outmarks: &mut [u8],
+) -> usize
+    requires { ⌜ Ready (now starts) (now clips) (now xs) (now ys) (now blocks) m (now times) (now values) (now marks) (now ends) ⌝ }
+    requires { ⌜ Keys low top ⌝ }
+    requires { ⌜ entryIs head ≡ entryAtKey (setOf (length (now ends)) (now starts) (now clips) (now xs) (now ys) (now blocks) m) (samplesOf (now times) (now values) (now marks) (now ends)) low ⌝ }
+    requires { ⌜ Room (changesOf (setOf (length (now ends)) (now starts) (now clips) (now xs) (now ys) (now blocks) m) (samplesOf (now times) (now values) (now marks) (now ends)) low top) (now outtimes) (now outvalues) (now outmarks) ⌝ }
+    ensures { λ r. ⌜ Written (changesOf (setOf (length (now (ends .entry))) (now (starts .entry)) (now (clips .entry)) (now (xs .entry)) (now (ys .entry)) (now (blocks .entry)) m) (samplesOf (now (times .entry)) (now (values .entry)) (now (marks .entry)) (now (ends .entry))) low top) (now (outtimes .entry)) (now (outvalues .entry)) (now (outmarks .entry)) (now (outtimes .exit)) (now (outvalues .exit)) (now (outmarks .exit)) r ⌝ }
+{
+    let mut n: usize = 0;
+    let mut last = head;
+    let mut k = low;
+    loop {
+        let s = stretch_at(
+            starts,
+            clips,
+            xs,
+            ys,
+            blocks,
+            m,
+            times,
+            values,
+            marks,
+            ends,
+            k,
+            top,
+        );
+        let here = s.here;
+        let slot = write_first(here, last, k, n, outtimes, outvalues, outmarks);
+        let wrote = write_in(
+            times,
+            values,
+            marks,
+            ends,
+            s,
+            k,
+            slot,
+            outtimes,
+            outvalues,
+            outmarks,
+        );
+        if s.hi == top {
+            return wrote.count;
+        }
+        n = wrote.count;
+        last = wrote.last;
+        k = s.hi + 1;
+    }
+}
