@@ -9,6 +9,7 @@ pub mod Spans
 pub mod Onward
 pub mod Cuts
 pub mod Counting
+pub mod Slots
 pub mod Writing
 pub mod Fronts
 pub mod Baking

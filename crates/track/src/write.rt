@@ -85,6 +85,41 @@ fn write_in(
     )
 }
 
+// Writes the changes from the key k on in its stretch from slot n on. Before k the value is `last`.
+fn write_on(
+    times: &[f64],
+    values: &[f64],
+    marks: &[u8],
+    ends: &[u64],
+    s: Stretch,
+    last: Entry,
+    k: u64,
+    n: usize,
+    outtimes: &mut [f64],
+    outvalues: &mut [f64],
+    outmarks: &mut [u8],
+) -> Wrote
+    requires { ⌜ Keys k (s .hi) ⌝ }
+    requires { ⌜ Runs (now times) (now values) (now marks) (now ends) (s .cell) k (s .hi) ⌝ }
+    requires { ⌜ RoomFrom n (changesOn (now times) (now values) (now marks) (now ends) s (entryIs last) k) (now outtimes) (now outvalues) (now outmarks) ⌝ }
+    ensures { λ r. ⌜ WrittenFrom n (changesOn (now (times .entry)) (now (values .entry)) (now (marks .entry)) (now (ends .entry)) s (entryIs last) k) (lastOn (now (times .entry)) (now (values .entry)) (now (marks .entry)) (now (ends .entry)) s) (now (outtimes .entry)) (now (outvalues .entry)) (now (outmarks .entry)) (now (outtimes .exit)) (now (outvalues .exit)) (now (outmarks .exit)) (r .count) (entryIs (r .last)) ⌝ }
+{
+    let here = s.here;
+    let slot = write_first(here, last, k, n, outtimes, outvalues, outmarks);
+    write_in(
+        times,
+        values,
+        marks,
+        ends,
+        s,
+        k,
+        slot,
+        outtimes,
+        outvalues,
+        outmarks,
+    )
+}
+
 // Writes the changes above low and up to top, for which there is room, and gives their number. `head`
 // is the value at low.
 pub fn write(
@@ -129,16 +164,15 @@ pub fn write(
             k,
             top,
         );
-        let here = s.here;
-        let slot = write_first(here, last, k, n, outtimes, outvalues, outmarks);
-        let wrote = write_in(
+        let wrote = write_on(
             times,
             values,
             marks,
             ends,
             s,
+            last,
             k,
-            slot,
+            n,
             outtimes,
             outvalues,
             outmarks,

@@ -23,7 +23,7 @@ abbrev lent : tie.Start → Samples
 lent a = samplesOf (a .args .times .now) (a .args .values .now) (a .args .marks .now) (a .args .ends .now)
 
 abbrev entry : tie.After-has-room → tie.Start
-entry c = c .before .before .before .before .before .before .before .before .before .before .before .before .before .before
+entry c = c .before .before .before .before .before .before .before .before .before .before .before .before .before .before .before
 
 abbrev count : tie.After-has-room → ℕ
 count c = length (changesOf (set (entry c)) (lent (entry c)) least most)
@@ -35,11 +35,14 @@ room c =
     let n = leb-true (count (c .before)) (c .before .before .shortest .result) (sym (c .before .has-room .ensures) ∙ not-false (c .before .has-room .result) (c .if1 .left)) in
     omega arith
 
+entry-at-requires : tie.Need-entry-at-requires
+entry-at-requires c κs = search needs
+
 shortest-requires : tie.Need-shortest-requires
 shortest-requires c κs = search needs
 
 has-room-requires : tie.Need-has-room-requires
-has-room-requires c κs = search needs
+has-room-requires c κs = (c .before .before .before .before .before .before .before .before .before .before .before .before .before .before .pre, (record { low = lit≤ tt; order = lit≤ tt; high = lit≤ tt }, c .before .entry-at .ensures))
 
 returns : tie.Need-returns
 returns c =
@@ -54,10 +57,7 @@ write-requires c κs =
     let e = c .before .before .before in
     let a = entry (e .before) in
     let h = room e in
-    (a .pre, (record { low = lit≤ tt; order = lit≤ tt; high = lit≤ tt }, record { times = omega arith; values = omega arith; marks = omega arith }))
-
-entry-at-requires : tie.Need-entry-at-requires
-entry-at-requires c κs = let a = entry (c .before .before .before .before .before .before .before .before .before .before .before) in (a .pre, (lit≤ tt, lit≤ tt))
+    (a .pre, (record { low = lit≤ tt; order = lit≤ tt; high = lit≤ tt }, (e .before .before .before .entry-at .ensures, record { times = omega arith; values = omega arith; marks = omega arith })))
 
 same-length : tie.Need-same-length
 same-length c = search needs
@@ -70,20 +70,20 @@ same-length-3 c = search needs
 
 returns-2 : tie.Need-returns-2
 returns-2 c =
-    let w = c .before .before .before .before .before .before .before in
+    let w = c .before .before .before .before .before .before in
     let e = w .before .before .before .before in
     let a = entry (e .before) in
-    bake-done (set a) (lent a) (a .args .outtimes .now) (a .args .outvalues .now) (a .args .outmarks .now) _ _ _ _ _ _ (room e) (c .entry-at .ensures) (w .write .ensures)
+    bake-done (set a) (lent a) (a .args .outtimes .now) (a .args .outvalues .now) (a .args .outmarks .now) _ _ _ _ _ _ (room e) (e .before .before .before .entry-at .ensures) (w .write .ensures)
 
 pub bake-spec : {M : Type 1} → statement M
 bake-spec =
     tie.close
     (tie.spec
+    entry-at-requires
     shortest-requires
     has-room-requires
     returns
     write-requires
-    entry-at-requires
     same-length
     same-length-2
     same-length-3

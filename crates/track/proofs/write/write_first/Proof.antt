@@ -1,62 +1,63 @@
+-- `write::write_first` meets its contract. Assumes nothing.
+use mathlib.Core.Path.{_≡_, sym, _∙_}
+use mathlib.Core.Bool.{false}
+use Rattle.definitions.specs.Track.{alike}
+use Rattle.track.specs.Entries.{entryIs}
+use Rattle.track.proofs.Slots.{begun-not, begun-room, begun-written}
 use borrow.Author.Needs.{needs}
 use Rattle.track.proofs.write.write_first.Statement.{statement}
 use Rattle.track.proofs.write.write_first.Tie as tie
-use Rattle.track.proofs.write.write_first.Reads as reads
-use Rattle.track.proofs.write.write_first.Lts as lts
-use Rattle.gf.proofs.of_key.Reads as of-key-reads
-use Rattle.track.proofs.entry.alike.Reads as alike-reads
 
--- src/write.rt:37:8
+abbrev entry : tie.After-alike → tie.Start
+entry c = c .before .before .before .before
+
+-- there is a change
+unlike : (c : tie.After-of-key) → alike (entryIs (entry (c .before .before) .args .here)) (entryIs (entry (c .before .before) .args .last)) ≡ false
+unlike c = sym (c .before .before .alike .ensures) ∙ c .before .if1 .left
+
 alike-requires : tie.Need-alike-requires
 alike-requires c κs = search needs
 
--- src/write.rt:38:9
 returns : tie.Need-returns
-returns c = ?
+returns c =
+    let a = entry (c .before) .args in
+    begun-not (entryIs (a .last)) (entryIs (a .here)) (a .k) (a .n) (a .outtimes .now) (a .outvalues .now) (a .outmarks .now) (entryIs (a .here)) (sym (c .before .alike .ensures) ∙ c .if1 .taken)
 
--- src/write.rt:40:19
 of-key-requires : tie.Need-of-key-requires
 of-key-requires c κs = search needs
 
--- src/write.rt:40:5
 mul-outtimes : tie.Need-mul-outtimes
 mul-outtimes c = search needs
 
--- src/write.rt:40:5
 slice-write-outtimes : tie.Need-slice-write-outtimes
-slice-write-outtimes c = ?
+slice-write-outtimes c = let b = entry (c .before .before) in let a = b .args in begun-room (entryIs (a .last)) (entryIs (a .here)) (a .k) (a .n) (a .outtimes .now) (a .outvalues .now) (a .outmarks .now) (unlike c) (b .pre .1) .0
 
--- src/write.rt:41:5
 mul-outvalues : tie.Need-mul-outvalues
 mul-outvalues c = search needs
 
--- src/write.rt:41:5
 slice-write-outvalues : tie.Need-slice-write-outvalues
-slice-write-outvalues c = ?
+slice-write-outvalues c = let b = entry (c .before .before) in let a = b .args in begun-room (entryIs (a .last)) (entryIs (a .here)) (a .k) (a .n) (a .outtimes .now) (a .outvalues .now) (a .outmarks .now) (unlike c) (b .pre .1) .1
 
--- src/write.rt:42:5
 slice-write-outmarks : tie.Need-slice-write-outmarks
-slice-write-outmarks c = ?
+slice-write-outmarks c = let b = entry (c .before .before) in let a = b .args in begun-room (entryIs (a .last)) (entryIs (a .here)) (a .k) (a .n) (a .outtimes .now) (a .outvalues .now) (a .outmarks .now) (unlike c) (b .pre .1) .2
 
--- src/write.rt:43:5
 add-result : tie.Need-add-result
 add-result c = search needs
 
--- src/write.rt:24:1
 same-length : tie.Need-same-length
 same-length c = search needs
 
--- src/write.rt:24:1
 same-length-2 : tie.Need-same-length-2
 same-length-2 c = search needs
 
--- src/write.rt:24:1
 same-length-3 : tie.Need-same-length-3
 same-length-3 c = search needs
 
--- src/write.rt:24:1
 returns-2 : tie.Need-returns-2
-returns-2 c = ?
+returns-2 c =
+    let b = entry (c .before .before) in
+    let a = b .args in
+    begun-written (entryIs (a .last)) (entryIs (a .here)) (a .k) (a .n) (a .outtimes .now) (a .outvalues .now) (a .outmarks .now) (entryIs (a .here)) (c .of-key .result) (c .of-key .ensures) (unlike c) (b .pre .1)
 
 pub write-first-spec : {M : Type 1} → statement M
 write-first-spec =
