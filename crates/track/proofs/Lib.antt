@@ -1,4 +1,5 @@
 -- Laws that the proofs of src/ cite.
+pub mod Gallops
 pub mod Segments
 pub mod Firsts
 pub mod Lent

@@ -4,6 +4,8 @@
 pub mod entry;
 // From stage times to clip times in a cell.
 pub mod line;
+// The first step of the place that is read along a line.
+pub mod steps;
 // The stretches on which one source is read, or one clip along one line.
 pub mod cell;
 // The next change.
