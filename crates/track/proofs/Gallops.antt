@@ -1,6 +1,6 @@
 -- A step of a function that is left once, found in a part of its keys. Assumes nothing.
 use mathlib.Core.Path.{_≡_, sym, _∙_}
-use Prim.Native.Nat.{ℕ, _-_, _≤_, _<_}
+use Prim.Native.Nat.{ℕ, _-_, _≤_}
 use native.Mathlib.Omega.{arith}
 use Rattle.track_laws.specs.Steps.{Once, Level, StepAt, FirstStep}
 use Rattle.track_laws.specs.declared.Next.{Next}

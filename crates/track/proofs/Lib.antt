@@ -6,6 +6,8 @@ pub mod Lent
 pub mod Ways
 pub mod Likeness
 pub mod Halts
+pub mod Readings
 pub mod Writing
+pub mod Filling
 pub mod Fronts
 pub mod Baking

@@ -7,6 +7,8 @@ pub mod Pieces
 pub mod Stops
 -- A value and its mark
 pub mod Entries
+-- A clip's samples read along a line
+pub mod Readings
 -- The changes, and the promise of a bake
 pub mod Bakes
 -- A track as three lists

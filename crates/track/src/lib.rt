@@ -6,6 +6,8 @@ pub mod entry;
 pub mod line;
 // The first step of the place that is read along a line.
 pub mod steps;
+// The changes where a clip is read along a line.
+pub mod reading;
 // The stretches on which one source is read, or one clip along one line.
 pub mod cell;
 // The next change.

@@ -1,6 +1,6 @@
 -- `steps::step_above` meets its contract. The invariant: the sample at q is read at a, which is the steps so far above k. The measure is hi - a. Assumes nothing.
-use mathlib.Core.Path.{_≡_, refl, sym, ap, _∙_}
-use Prim.Native.Nat.{ℕ, _+_, _-_, _≤_, _<_}
+use mathlib.Core.Path.{_≡_, sym, _∙_}
+use Prim.Native.Nat.{ℕ, _+_, _-_, _≤_}
 use native.Mathlib.Omega.{arith}
 use borrow.Author.Tests.{eqb-true, eqb-false, not-true, not-false}
 use Rattle.track_laws.specs.Steps.{Once}
