@@ -21,13 +21,13 @@ module _ {A B : Type 0} (f : A → B) where
 
 -- one column of the changes
 module _ {A : Type 0} (g : Change → A) where
-  abbrev column : List (steps.Change Entry) → List A
+  abbrev pub column : List (steps.Change Entry) → List A
   column cs = map g (map writtenChange cs)
 
-  column-length : (cs : List (steps.Change Entry)) → length (column cs) ≡ length cs
+  pub column-length : (cs : List (steps.Change Entry)) → length (column cs) ≡ length cs
   column-length cs = map-length g (map writtenChange cs) ∙ map-length writtenChange cs
 
-  column-snoc : (cs : List (steps.Change Entry)) (c : steps.Change Entry) → column (cs ++ c ∷ []) ≡ column cs ++ g (writtenChange c) ∷ []
+  pub column-snoc : (cs : List (steps.Change Entry)) (c : steps.Change Entry) → column (cs ++ c ∷ []) ≡ column cs ++ g (writtenChange c) ∷ []
   column-snoc cs c = ap (map g) (map-snoc writtenChange cs c) ∙ map-snoc g (map writtenChange cs) (writtenChange c)
 
   -- none is written

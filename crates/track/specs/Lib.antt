@@ -7,7 +7,7 @@ pub mod Pieces
 pub mod Stops
 -- A value and its mark
 pub mod Entries
--- The changes where a clip is read along a line
+-- A clip's samples read along a line
 pub mod Readings
 -- The stretch of keys in one cell
 pub mod Runs

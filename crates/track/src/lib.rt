@@ -4,12 +4,14 @@
 pub mod entry;
 // From stage times to clip times in a cell.
 pub mod line;
+// The first step of the place that is read along a line.
+pub mod steps;
+// The changes where a clip is read along a line.
+pub mod reading;
 // The stretches on which one source is read, or one clip along one line.
 pub mod cell;
 // The next change.
 pub mod change;
-// The changes where a clip is read along a line.
-pub mod reading;
 // The stretch of keys in one cell.
 pub mod stretch;
 // The two passes of a bake: the changes counted, and written.

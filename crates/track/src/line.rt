@@ -1,4 +1,5 @@
 // The line that leads from stage times to clip times in a cell, and the first step of the place that is read along it.
+use crate::steps::next_step;
 use track_laws::Next;
 ghost use mathlib.Core.Path.{_≡_};
 ghost use mathlib.Core.Bool.{not};
@@ -70,27 +71,16 @@ pub fn place_on(times: &[f64], line: Line, k: u64) -> usize
     lists::last_at_most(times, along(line, gf::of_key(k)))
 }
 
-// The least key above lo and up to hi at which another sample is read than at lo. The place is left
-// once, so a bisection finds it.
+// The least key above lo and up to hi at which another sample is read than at lo.
 pub fn step_in_cell(times: &[f64], line: Line, lo: u64, hi: u64) -> Next
     requires { ⌜ Ascending (now times) ⌝ }
     requires { ⌜ Keys lo hi ⌝ }
     requires { ⌜ Once (placeOn (now times) line) lo hi ⌝ }
     ensures { λ r. ⌜ FirstStep (placeOn (now (times .entry)) line) lo hi r ⌝ }
 {
-    let base = place_on(times, line, lo);
-    if place_on(times, line, hi) == base {
+    if times.len() == 0 {
         return Next::Nothing;
     }
-    let mut a = lo;
-    let mut b = hi;
-    while 1 < b - a {
-        let mid = a + (b - a) / 2;
-        if place_on(times, line, mid) == base {
-            a = mid;
-        } else {
-            b = mid;
-        }
-    }
-    Next::At(b)
+    let place = place_on(times, line, lo);
+    next_step(times, line, place, lo, hi)
 }
