@@ -4,8 +4,6 @@ use mathlib.Core.List.{List, [], _∷_, _++_, map, append-assoc}
 use Prim.Native.Nat.{ℕ, _+_, _≤_, _<_}
 use native.Mathlib.Omega.{arith}
 use lib.ListN.{length, take, drop, set, length-append}
-use lib.Seq.{take-append-seam, drop-append-add, drop-drop}
-use Rattle.definitions.specs.Lists.{writtenOver}
 use Rattle.definitions.specs.Track.{Entry, Change}
 use Rattle.track_laws.specs.Track as steps
 use Rattle.track_laws.specs.Laws.{put, length-put, length-part, no-part}
@@ -16,27 +14,21 @@ use Rattle.track.proofs.Writing.{column-length, column-snoc}
 -- ---- any list
 
 module _ {A : Type 0} (n : ℕ) (old : List A) where
-  from-none : (new : List A) → new ≡ [] → old ≡ writtenFrom n new old
+  pub from-none : (new : List A) → new ≡ [] → old ≡ writtenFrom n new old
   from-none new e =
       let z : n ≡ n + length new = let q = ap length e in omega arith in
       no-part old new n e ∙ ap (λ (i : ℕ). (take n old ++ new) ++ drop i old) z
 
-  from-length : (new : List A) → n + length new ≤ length old → length (writtenFrom n new old) ≡ length old
+  pub from-length : (new : List A) → n + length new ≤ length old → length (writtenFrom n new old) ≡ length old
   from-length new h = length-put (take n old ++ new) old (n + length new) (length-part old new n (omega arith)) h
 
-  from-put : (new : List A) (a : A) → n + length new < length old → set (writtenFrom n new old) (n + length new) a ≡ writtenFrom n (new ++ a ∷ []) old
+  pub from-put : (new : List A) (a : A) → n + length new < length old → set (writtenFrom n new old) (n + length new) a ≡ writtenFrom n (new ++ a ∷ []) old
   from-put new a h =
       put (take n old ++ new) old (n + length new) a (length-part old new n (omega arith)) h
       ∙ ap₂ (λ (l : List A) (i : ℕ). l ++ drop i old) (append-assoc (take n old) new (a ∷ [])) longer
     where
       longer : n + length new + 1 ≡ n + length (new ++ a ∷ [])
       longer = let e = length-append new (a ∷ []) in omega arith
-
--- what stands at the front, and then what is written behind it
-pub over-from : {A : Type 0} (p new old : List A) → writtenFrom (length p) new (writtenOver p old) ≡ writtenOver (p ++ new) old
-over-from {A} p new old =
-    ap₂ (λ (l m : List A). (l ++ new) ++ m) (take-append-seam p (drop (length p) old)) (drop-append-add p (drop (length p) old) (length new) ∙ drop-drop (length new) (length p) old)
-    ∙ ap (λ (i : ℕ). (p ++ new) ++ drop i old) (sym (length-append p new))
 
 -- ---- a column of the changes
 

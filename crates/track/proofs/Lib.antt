@@ -11,8 +11,8 @@ pub mod Spans
 pub mod Onward
 pub mod Cuts
 pub mod Counting
-pub mod Slots
 pub mod Writing
 pub mod Filling
+pub mod Slots
 pub mod Fronts
 pub mod Baking

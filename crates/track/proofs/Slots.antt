@@ -1,37 +1,29 @@
 -- Changes written from a slot on: none, one, and those of two stretches one after the other. Assumes nothing.
 use mathlib.Core.Path.{_≡_, refl, sym, ap, ap₂, _∙_, subst}
 use mathlib.Core.Bool.{Bool, true, false, cond}
-use mathlib.Core.List.{List, [], _∷_, _++_, map, append-assoc, append-nil}
-use Prim.Native.Nat.{ℕ, suc, _+_, _-_, _≤_, _<_}
+use mathlib.Core.List.{List, [], _∷_, _++_, map, append-assoc}
+use Prim.Native.Nat.{ℕ, _+_, _≤_, _<_}
 use native.Mathlib.Omega.{arith}
-use native.Mathlib.Nat.{le-of-eq}
-use lib.ListN.{length, getD, take, drop, set, length-append, length-drop, take-append-drop}
+use lib.ListN.{length, take, drop, set, length-append, take-append-drop}
 use lib.Seq.{take-append-seam, drop-append-add, drop-drop, length-take-le}
 use lib.Ieee.{Float}
 use Rattle.gf.specs.Key.{ofKey}
 use Rattle.definitions.specs.Lists.{writtenOver}
 use Rattle.definitions.specs.Track.{Entry, Change, alike}
 use Rattle.track_laws.specs.Track as steps
-use Rattle.track_laws.specs.Laws.{put, length-part, length-put}
+use Rattle.track_laws.specs.Laws.{put, length-part}
 use Rattle.cell_laws.specs.Tracks.{writtenChange}
 use Rattle.track.specs.Bakes.{Room, Written}
 use Rattle.track.specs.Readings.{writtenFrom, RoomFrom, WrittenFrom}
 use Rattle.track.specs.Runs.{begun}
+use Rattle.track.proofs.Writing.{column, column-length}
+use Rattle.track.proofs.Filling.{from-none, from-length}
 
 -- ---- one list
 
 module _ {A : Type 0} where
-  -- as long as it came
-  from-length : (n : ℕ) (new old : List A) → n + length new ≤ length old → length (writtenFrom n new old) ≡ length old
-  from-length n new old h = length-put (take n old ++ new) old (n + length new) (length-part old new n (omega arith)) h
-
-  from-none : (n : ℕ) (old : List A) → old ≡ writtenFrom n [] old
-  from-none n old =
-      sym (take-append-drop n old)
-      ∙ ap₂ (λ (l r : List A). l ++ r) (sym (append-nil (take n old))) (let e : n ≡ n + 0 = omega arith in ap (λ (i : ℕ). drop i old) e)
-
-  from-one : (n : ℕ) (a : A) (old : List A) → n < length old → set old n a ≡ writtenFrom n (a ∷ []) old
-  from-one n a old h =
+  one-put : (n : ℕ) (a : A) (old : List A) → n < length old → set old n a ≡ writtenFrom n (a ∷ []) old
+  one-put n a old h =
       ap (λ (l : List A). set l n a) (sym (take-append-drop n old))
       ∙ put (take n old) old n a (length-take-le n old (omega arith)) h
 
@@ -69,43 +61,36 @@ module _ {A : Type 0} where
 -- ---- a column of changes
 
 module _ {A : Type 0} (g : Change → A) where
-  abbrev column : List (steps.Change Entry) → List A
-  column cs = map g (map writtenChange cs)
-
-  column-length : (cs : List (steps.Change Entry)) → length (column cs) ≡ length cs
-  column-length [] = refl
-  column-length (c ∷ cs) = ap suc (column-length cs)
-
-  column-append : (cs ds : List (steps.Change Entry)) → column (cs ++ ds) ≡ column cs ++ column ds
+  column-append : (cs ds : List (steps.Change Entry)) → column g (cs ++ ds) ≡ column g cs ++ column g ds
   column-append [] ds = refl
   column-append (c ∷ cs) ds = ap {B = List A} (λ (l : List A). g (writtenChange c) ∷ l) (column-append cs ds)
 
   column-join : (n : ℕ) (cs ds : List (steps.Change Entry)) (old mid new : List A) → n + length cs ≤ length old
-      → mid ≡ writtenFrom n (column cs) old → new ≡ writtenFrom (n + length cs) (column ds) mid → new ≡ writtenFrom n (column (cs ++ ds)) old
+      → mid ≡ writtenFrom n (column g cs) old → new ≡ writtenFrom (n + length cs) (column g ds) mid → new ≡ writtenFrom n (column g (cs ++ ds)) old
   column-join n cs ds old mid new h p q =
-      let l = column-length cs in
-      q ∙ ap₂ (λ (i : ℕ) (m : List A). writtenFrom (n + i) (column ds) m) (sym l) p
-      ∙ from-join n (column cs) (column ds) old (omega arith)
+      let l = column-length g cs in
+      q ∙ ap₂ (λ (i : ℕ) (m : List A). writtenFrom (n + i) (column g ds) m) (sym l) p
+      ∙ from-join n (column g cs) (column g ds) old (omega arith)
       ∙ ap (λ (c : List A). writtenFrom n c old) (sym (column-append cs ds))
 
-  column-whole : (n : ℕ) (cs : List (steps.Change Entry)) (old new : List A) → n + length cs ≤ length old → new ≡ writtenFrom n (column cs) old → length new ≡ length old
-  column-whole n cs old new h p = let l = column-length cs in ap length p ∙ from-length n (column cs) old (omega arith)
+  column-whole : (n : ℕ) (cs : List (steps.Change Entry)) (old new : List A) → n + length cs ≤ length old → new ≡ writtenFrom n (column g cs) old → length new ≡ length old
+  column-whole n cs old new h p = let l = column-length g cs in ap length p ∙ from-length n old (column g cs) (omega arith)
 
 -- ---- the three outputs
 
 module _ (n : ℕ) (w : Entry) (ts vs : List Float) (ms : List ℕ) where
   pub written-none : (cs : List (steps.Change Entry)) → cs ≡ [] → WrittenFrom n cs w ts vs ms ts vs ms n w
   written-none cs e = subst (λ (l : List (steps.Change Entry)). WrittenFrom n l w ts vs ms ts vs ms n w) (sym e)
-      (record { count = omega arith; last = refl; times = from-none n ts; values = from-none n vs; marks = from-none n ms })
+      (record { count = omega arith; last = refl; times = from-none n ts [] refl; values = from-none n vs [] refl; marks = from-none n ms [] refl })
 
   pub written-one : (k : ℕ) (here : Entry) → RoomFrom n (record { key = k; value = here } ∷ []) ts vs ms
       → WrittenFrom n (record { key = k; value = here } ∷ []) w ts vs ms (set ts n (ofKey k)) (set vs n (here .value)) (set ms n (here .mark)) (n + 1) w
   written-one k here r = record {
     count = omega arith;
     last = refl;
-    times = from-one n (ofKey k) ts (let h = r .times in omega arith);
-    values = from-one n (here .value) vs (let h = r .values in omega arith);
-    marks = from-one n (here .mark) ms (let h = r .marks in omega arith);
+    times = one-put n (ofKey k) ts (let h = r .times in omega arith);
+    values = one-put n (here .value) vs (let h = r .values in omega arith);
+    marks = one-put n (here .mark) ms (let h = r .marks in omega arith);
   }
 
 -- the change where a stretch begins, by the test of likeness
