@@ -1,15 +1,14 @@
--- One law for each way out of `direct_cell` and of `piece_of`: the cell is the one that the laws of cells name. Assumes nothing.
+-- One law for each way out of `direct_cell` and of `piece_at`: the cell is the one that the laws of cells name. Assumes nothing.
 use mathlib.Core.Path.{_≡_, refl, sym, ap, _∙_, subst}
 use mathlib.Core.Bool.{Bool, true, false, not, _&&_, cond, false≢true}
 use mathlib.Core.List.{List, [], _∷_}
 use mathlib.Core.Option.{none, some}
 use Prim.Native.Nat.{ℕ, _-_, _≤_, _<_}
 use native.Mathlib.Omega.{arith}
-use lib.Dec.{ltb}
-use lib.ListN.{length, getD, getElem?, take, drop, length-drop}
+use lib.ListN.{length, getD, getElem?, drop, length-drop}
 use lib.Seq.{length-take-le}
 use lib.Ieee.{Float, nan, eq}
-use borrow.Author.Tests.{ltb-true, ltb-false, lt-ltb, le-ltb}
+use borrow.Author.Tests.{lt-ltb, le-ltb}
 use Rattle.definitions.specs.declared.Start.{Start}
 use Rattle.definitions.specs.declared.Manifest.{Manifest}
 use Rattle.definitions.specs.declared.Source.{Source}
@@ -18,7 +17,7 @@ use Rattle.definitions.specs.Lists.{any}
 use Rattle.definitions.specs.Doubles.{FiniteDouble}
 use Rattle.definitions.specs.ClipSet.{ClipSet, knotTimes, stage}
 use Rattle.definitions.specs.Timing.{lastAtMost, activePosition}
-use Rattle.definitions.specs.Samples.{Samples, clipBegin, clipEnd, clipTimes}
+use Rattle.definitions.specs.Samples.{Samples, clipTimes}
 use Rattle.definitions.specs.Value.{contributes, blockedAt, manifestDefault, gapSource, _orElse_, directSource, gathered, jump}
 use Rattle.cell_laws.specs.Knots.{lineOf}
 use Rattle.cell_laws.specs.Stretches.{severalStarts, boundaries}
@@ -30,40 +29,17 @@ use Rattle.track.specs.declared.cell.Cell.{Cell}
 use Rattle.track.specs.declared.cell.Cell.the-variants.{Constant, Reading}
 use Rattle.value.specs.declared.window.Bound.{Bound}
 use Rattle.value.specs.declared.window.Bounds.{Bounds}
+use Rattle.value.specs.declared.windowed.Window.{Window}
+use Rattle.value.specs.declared.near.Near.{Near}
 use Rattle.value.specs.declared.window.Bound.the-variants.{At, Nothing}
 use Rattle.value.specs.Bounds.{LowerIs, UpperIs, NeighboursAre}
 use Rattle.track.specs.Lines.{lineIs}
 use Rattle.track.specs.Pieces.{heldOf, DirectIs, PieceIs}
-use Rattle.value.specs.Reads.{ready-clip, ready-readable}
+use Rattle.value.specs.Reads.{partOf, ready-clip}
+use Rattle.value.specs.Windows.{ifOwn}
+use Rattle.value.specs.Windowed.{samplesIn, windowTimes, windowSource, boundsOf}
+use Rattle.value.specs.Handed.{WindowIs, window-gathered, window-held}
 use Rattle.track.proofs.Lent.{sound, samples, several, position, start-at}
-
--- ---- a clip with samples, and one without
-
-module _ (s : Samples) (c : ℕ) where
-  some-part : clipBegin (s .ends) c < clipEnd (s .ends) c → clipEnd (s .ends) c ≤ length (s .times) → (x : Float) × (l : List Float) × (clipTimes s c ≡ x ∷ l)
-  unfolding clipTimes
-  some-part h k = go (take n (drop b (s .times))) long
-    where
-      b : ℕ
-      b = clipBegin (s .ends) c
-
-      n : ℕ
-      n = clipEnd (s .ends) c - clipBegin (s .ends) c
-
-      long : 0 < length (take n (drop b (s .times)))
-      long = rw (length-take-le n (drop b (s .times)) (rw (length-drop b (s .times)) (omega arith))) (omega arith)
-
-      go : (l : List Float) → 0 < length l → (x : Float) × (r : List Float) × (l ≡ x ∷ r)
-      go [] h = absurd (omega arith)
-      go (x ∷ r) h = (x, r, refl)
-
-  no-part : clipEnd (s .ends) c ≤ clipBegin (s .ends) c → clipTimes s c ≡ []
-  unfolding clipTimes
-  no-part h = let e : clipEnd (s .ends) c - clipBegin (s .ends) c ≡ 0 = omega arith in rw e (none-taken (drop (clipBegin (s .ends) c) (s .times)))
-    where
-      none-taken : (l : List Float) → take 0 l ≡ []
-      none-taken [] = refl
-      none-taken (x ∷ l) = refl
 
 -- ---- the cell of the direct reading
 
@@ -101,16 +77,14 @@ module _ {starts : List Float} {clips : List ℕ} {xs ys blocks : List Float} {m
       none-at [] k h = unfold setOf in refl
       none-at (x ∷ l) k h = absurd (omega arith)
 
-  module _ (p : ℕ) (at : p ≡ lastAtMost starts t) (h : p < length starts) where
+  -- by the window
+  module _ (p : ℕ) (w : Window) (W : WindowIs starts clips xs ys blocks m times values marks ends p w) (at : p ≡ lastAtMost starts t) where
     -- the active start and its clip
     abbrev active : Start
     active = start (getD starts p nan) (getD clips p 0)
 
     abbrev test : Bool
     test = not (m .interpolate && any (λ (b : Float). eq b (getD starts p nan)) blocks)
-
-    abbrev sampled : Bool
-    sampled = ltb (clipBegin ends (getD clips p 0)) (clipEnd ends (getD clips p 0))
 
     contributing : contributes ready active ≡ test
     unfolding contributes blockedAt setOf
@@ -119,42 +93,63 @@ module _ {starts : List Float} {clips : List ℕ} {xs ys blocks : List Float} {m
     place : activePosition (ready .active) (stage t) ≡ p
     place = position R t ∙ sym at
 
-    pub direct-reads : (line : Line) → lineIs line ≡ lineOf (knotsOf xs ys) t
-        → (not (m .interpolate && any (λ (b : Float). eq b (getD starts p nan)) blocks) && ltb (clipBegin ends (getD clips p 0)) (clipEnd ends (getD clips p 0))) ≡ true
-        → DirectIs (setOf (length ends) starts clips xs ys blocks m) (samplesOf times values marks ends) t (Reading (getD clips p 0) line)
-    direct-reads line l e =
-        record {
-          is = ap (Cells.reading (getD clips p 0)) (l ∙ knots-are) ∙ sym (reads ready lent t p place active (start-at R p h) (contributing ∙ both .0) (part .0) (part .1) (part .2));
-          clip = (below, rw (part .2) (omega arith));
-        }
+    its-part : (b : Bool) → test ≡ b → samplesIn times w ≡ ifOwn b (clipTimes lent (getD clips p 0))
+    unfolding clipTimes
+    its-part b e = W .part ∙ ap (λ (q : Bool). ifOwn q (partOf times ends (getD clips p 0))) e
+
+    its-length : length (samplesIn times w) ≡ w .end - w .begin
+    its-length = let u = W .upto in length-take-le (w .end - w .begin) (drop (w .begin) times) (rw (length-drop (w .begin) times) (omega arith))
+
+    pub direct-reads : (line : Line) → lineIs line ≡ lineOf (knotsOf xs ys) t → w .begin < w .end
+        → DirectIs (setOf (length ends) starts clips xs ys blocks m) (samplesOf times values marks ends) t (Reading (w .clip) line)
+    direct-reads line l h = subst (λ (c : ℕ). DirectIs ready lent t (Reading c line)) (sym (W .clip)) (go test refl)
       where
         knots-are : lineOf (knotsOf xs ys) t ≡ lineOf (ready .knots) t
         knots-are = unfold setOf in refl
 
         below : getD clips p 0 < ready .clips
-        below = unfold setOf in ready-clip R p h
+        below = unfold setOf in ready-clip R p (W .place)
 
-        both : (test ≡ true) × (sampled ≡ true)
-        both = split test sampled e
-          where
-            split : (a b : Bool) → (a && b) ≡ true → (a ≡ true) × (b ≡ true)
-            split true b q = (refl, q)
-            split false b q = (q, absurd (false≢true q))
+        reading-part : test ≡ true → (k : List Float) → clipTimes lent (getD clips p 0) ≡ k → 0 < length k → DirectIs ready lent t (Reading (getD clips p 0) line)
+        reading-part f [] g n = absurd (omega arith)
+        reading-part f (x ∷ k) g n = record {
+          is = ap (Cells.reading (getD clips p 0)) (l ∙ knots-are) ∙ sym (reads ready lent t p place active (start-at R p (W .place)) (contributing ∙ f) x k g);
+          clip = (below, rw g (omega arith));
+        }
 
-        part : (x : Float) × (r : List Float) × (clipTimes lent (getD clips p 0) ≡ x ∷ r)
-        part = some-part lent (getD clips p 0) (ltb-true (clipBegin ends (getD clips p 0)) (clipEnd ends (getD clips p 0)) (both .1)) (ready-readable R .inside (getD clips p 0) (ready-clip R p h))
+        go : (b : Bool) → test ≡ b → DirectIs ready lent t (Reading (getD clips p 0) line)
+        go true f = reading-part f (clipTimes lent (getD clips p 0)) refl (let n = its-length in let e = ap length (its-part true f) in omega arith)
+        go false f = let n = its-length in let e = ap length (its-part false f) in absurd (omega arith)
 
-    pub direct-gap : (r : Source) → r ≡ (manifestDefault (setOf (length ends) starts clips xs ys blocks m) orElse gapSource (setOf (length ends) starts clips xs ys blocks m) (samplesOf times values marks ends) p)
-        → (not (m .interpolate && any (λ (b : Float). eq b (getD starts p nan)) blocks) && ltb (clipBegin ends (getD clips p 0)) (clipEnd ends (getD clips p 0))) ≡ false
-        → DirectIs (setOf (length ends) starts clips xs ys blocks m) (samplesOf times values marks ends) t (Constant r)
-    direct-gap r q e = record { is = ap Cells.constant q ∙ sym (go test sampled refl refl e); clip = tt }
+    pub direct-gap : w .end ≤ w .begin → DirectIs (setOf (length ends) starts clips xs ys blocks m) (samplesOf times values marks ends) t (Constant (w .gap))
+    unfolding windowSource Cells.readCell
+    direct-gap h = record { is = ap Cells.constant (sym said) ∙ sym cell; clip = tt }
       where
-        go : (a b : Bool) → test ≡ a → sampled ≡ b → (a && b) ≡ false → Cells.directCell ready lent (stage t) ≡ Cells.constant (manifestDefault ready orElse gapSource ready lent p)
-        go true true f g k = absurd (false≢true (sym k))
-        go true false f g k = empty ready lent t p place active (start-at R p h) (contributing ∙ f) (no-part lent (getD clips p 0) (ltb-false (clipBegin ends (getD clips p 0)) (clipEnd ends (getD clips p 0)) g))
-        go false b f g k = blocked ready lent t p place active (start-at R p h) (contributing ∙ f)
+        rest : Source
+        rest = manifestDefault ready orElse gapSource ready lent p
 
-  -- ---- the ways out of `piece_of`
+        none-there : (k : List Float) → length k ≡ 0 → k ≡ []
+        none-there [] e = refl
+        none-there (x ∷ k) e = absurd (omega arith)
+
+        go : (b : Bool) → test ≡ b → Cells.directCell ready lent (stage t) ≡ Cells.constant rest
+        go true f = empty ready lent t p place active (start-at R p (W .place)) (contributing ∙ f)
+            (none-there (clipTimes lent (getD clips p 0)) (let n = its-length in let e = ap length (its-part true f) in omega arith))
+        go false f = blocked ready lent t p place active (start-at R p (W .place)) (contributing ∙ f)
+
+        cell : Cells.directCell ready lent (stage t) ≡ Cells.constant rest
+        cell = go test refl
+
+        gap-read : windowSource xs ys times w t ≡ w .gap
+        gap-read = rw (le-ltb (w .begin) (w .end) h)
+
+        read : Cells.readCell lent (Cells.directCell ready lent (stage t)) t ≡ rest
+        read = ap (λ (c : Cells.Cell). Cells.readCell lent c t) cell
+
+        said : rest ≡ w .gap
+        said = sym read ∙ sym (Cells.direct-reads ready lent t) ∙ W .direct t (sym at) ∙ gap-read
+
+  -- ---- the ways out of `piece_at`
 
   pub piece-few : (c : Cell) (e : Bound) → length starts < 2 → DirectIs (setOf (length ends) starts clips xs ys blocks m) (samplesOf times values marks ends) t c → UpperIs xs t e
       → PieceIs (setOf (length ends) starts clips xs ys blocks m) (samplesOf times values marks ends) t c e
@@ -266,3 +261,29 @@ module _ {starts : List Float} {clips : List ℕ} {xs ys blocks : List Float} {m
               held : (b : Bool) → cond b Nothing (At l) ≡ At f → (b ≡ false) × (l ≡ f)
               held true q = absurd (none-held q)
               held false q = (refl, cc)
+
+    -- by the neighbours in the window
+
+    module _ (w : Window) (W : WindowIs starts clips xs ys blocks m times values marks ends p w) (n : Near) (N : NeighboursAre (windowTimes xs ys (samplesIn times w) w) t (boundsOf n)) where
+      among : NeighboursAre (gathered ready lent p) t (boundsOf n)
+      among = subst (λ (l : List Float). NeighboursAre l t (boundsOf n)) (sym (window-gathered R p w W)) N
+
+      pub near-direct : (c : Cell) → heldOf (knotsOf xs ys) (n .lower) (n .upper) ≡ Nothing → DirectIs (setOf (length ends) starts clips xs ys blocks m) (samplesOf times values marks ends) t c
+          → PieceIs (setOf (length ends) starts clips xs ys blocks m) (samplesOf times values marks ends) t c (n .upper)
+      near-direct c e d = piece-direct (boundsOf n) among c e d
+
+      pub near-held : (f : Float) (r : Source) → heldOf (knotsOf xs ys) (n .lower) (n .upper) ≡ At f → r ≡ windowSource xs ys times w f
+          → PieceIs (setOf (length ends) starts clips xs ys blocks m) (samplesOf times values marks ends) t (Constant r) (n .upper)
+      near-held f r e q = piece-constant (boundsOf n) among f r e (q ∙ sym (window-held R p w W t at (ft .fitting) f (lower (n .lower) (n .upper) e (among .lower))))
+        where
+          differ : {B : Type 0} → Nothing ≡ At f → B
+          differ z = let y : _≡_ {A = ℕ} 0 1 = cc in absurd (omega arith)
+
+          picked : (b : Bool) (l : Float) → cond b Nothing (At l) ≡ At f → l ≡ f
+          picked true l z = differ z
+          picked false l z = cc
+
+          lower : (l h : Bound) → heldOf (knotsOf xs ys) l h ≡ At f → LowerIs (gathered ready lent p) t l → IsLower (gathered ready lent p) t f
+          lower Nothing h z L = differ z
+          lower (At l) Nothing z L = differ z
+          lower (At l) (At h) z L = subst (IsLower (gathered ready lent p) t) (picked (jump (knotsOf xs ys) l h) l z) L

@@ -9,6 +9,8 @@ pub mod Stops
 pub mod Entries
 -- A clip's samples read along a line
 pub mod Readings
+-- The spot of a walk
+pub mod Spots
 -- The stretch of keys in one cell
 pub mod Runs
 -- The changes, and the promise of a bake

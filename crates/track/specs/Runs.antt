@@ -5,6 +5,7 @@ use mathlib.Core.List.{List, [], _∷_, _++_}
 use Prim.Native.Nat.{ℕ, _-_, _≤_, _<_}
 use lib.ListN.{length, take, drop}
 use lib.Ieee.{Float}
+use Rattle.definitions.specs.declared.Manifest.{Manifest}
 use Rattle.definitions.specs.declared.Source.{Source}
 use Rattle.definitions.specs.declared.Source.the-variants.{Sample}
 use Rattle.definitions.specs.ClipSet.{ClipSet}
@@ -14,12 +15,15 @@ use Rattle.track_laws.specs.Track.{Change, changesTo}
 use Rattle.track_laws.specs.Laws.{Agree}
 use Rattle.cell_laws.specs.Keys.{Keys, entryAtKey}
 use Rattle.cell_laws.specs.Tracks.{entry-same}
+use Rattle.cell_laws.specs.Unpacked.{setOf, samplesOf}
 use Rattle.track.specs.declared.line.Line.{Line}
 use Rattle.track.specs.declared.cell.Cell.{Cell}
 use Rattle.track.specs.declared.cell.Cell.the-variants.{Constant, Reading}
 use Rattle.track.specs.declared.stretch.Stretch.{Stretch}
+use Rattle.track.specs.declared.stretch.Step.{Step}
 use Rattle.track.specs.Lines.{placeOn}
 use Rattle.track.specs.Entries.{entryIs}
+use Rattle.track.specs.Spots.{SpotIs}
 use Rattle.track.specs.Readings.{Turns, Reads, readingAt}
 
 -- a clip's part of a lent list
@@ -72,3 +76,8 @@ pub record StretchIs (set : ClipSet) (s : Samples) (k top : ℕ) (r : Stretch) :
   pub here : entryIs (r .here) ≡ entryAtKey set s k
   pub runs : Runs (s .times) (s .values) (s .marks) (s .ends) (r .cell) k (r .hi)
   pub says : Agree k (r .hi) (entryAtKey set s) (saysOn (s .times) (s .values) (s .marks) (s .ends) (r .cell) (entryIs (r .here)))
+
+-- the stretch, and the spot of the walk
+pub record StepIs (starts : List Float) (clips : List ℕ) (xs ys blocks : List Float) (m : Manifest) (times values : List Float) (marks ends : List ℕ) (k top : ℕ) (r : Step) : Type 0 where
+  pub stretch : StretchIs (setOf (length ends) starts clips xs ys blocks m) (samplesOf times values marks ends) k top (r .stretch)
+  pub spot : SpotIs starts clips xs ys blocks m times values marks ends (r .spot .p) (r .spot .w)

@@ -3,6 +3,7 @@ use crate::count::has_room;
 use crate::entry::entry_at;
 use crate::write::write;
 use definitions::Manifest;
+use value::tops::tops_of;
 ghost use mathlib.Core.Path.{_≡_};
 ghost use Prim.Native.Nat.{min};
 ghost use lib.ListN.{length};
@@ -72,6 +73,7 @@ pub fn bake(
         ends,
         LEAST,
     );
+    let tops = tops_of(xs, ys);
     let room = shortest(outtimes.len(), outvalues.len(), outmarks.len());
     if !has_room(
         starts,
@@ -84,6 +86,7 @@ pub fn bake(
         values,
         marks,
         ends,
+        &tops.items,
         head,
         LEAST,
         MOST,
@@ -107,6 +110,7 @@ pub fn bake(
         values,
         marks,
         ends,
+        &tops.items,
         head,
         LEAST,
         MOST,

@@ -1,30 +1,26 @@
 // A cell: a stretch of stage times on which one source is read, or one clip along one line.
 use crate::line::Line;
 use crate::line::line_of;
+use crate::spot::Spot;
+use crate::spot::no_spot;
+use crate::spot::spot_at;
 use definitions::Manifest;
 use definitions::Source;
-use value::direct::clip_begin;
-use value::direct::clip_end;
-use value::direct::contributes;
-use value::direct::direct_source;
-use value::direct::gap_source;
 use value::jump::is_jump;
+use value::near::Near;
+use value::near::near_in;
+use value::tops::tops_of;
 use value::window::Bound;
-use value::window::Bounds;
-use value::window::neighbours;
+use value::windowed::source_in;
 ghost use mathlib.Core.Path.{_≡_};
-ghost use mathlib.Core.Bool.{not, _&&_};
-ghost use Prim.Native.Nat.{_<_};
-ghost use lib.Dec.{ltb};
 ghost use lib.ListN.{length};
-ghost use lib.Ieee.{Float, eq};
-ghost use Rattle.definitions.specs.Lists.{any};
 ghost use Rattle.definitions.specs.Doubles.{FiniteDouble};
-ghost use Rattle.definitions.specs.Samples.{clipBegin, clipEnd};
 ghost use Rattle.set_laws.specs.Places.{Ascending};
 ghost use Rattle.cell_laws.specs.Unpacked.{knotsOf, setOf, samplesOf, Ready};
 ghost use Rattle.value.specs.Bounds.{UpperIs};
+ghost use Rattle.value.specs.Tops.{TopsOf};
 ghost use Rattle.track.specs.Pieces.{heldOf, DirectIs, PieceIs};
+ghost use Rattle.track.specs.Spots.{SpotAt};
 
 // What is read from a stage time on: one source, or a clip's samples held along a line.
 pub enum Cell {
@@ -32,10 +28,13 @@ pub enum Cell {
     Reading(u64, Line),
 }
 
-// The cell of a stage time, and the least boundary above it, up to which the cell says the value.
+// The cell of a stage time, and the least boundary above it, up to which the cell says the value; and a
+// knot and a sample near it.
 pub struct Piece {
     pub cell: Cell,
     pub end: Bound,
+    pub knot: usize,
+    pub sample: usize,
 }
 
 // The least of ascending times that is above t.
@@ -57,18 +56,7 @@ fn first_above(xs: &[f64], t: f64) -> Bound
     Bound::Nothing
 }
 
-// The clip contributes from this start, and it has samples.
-fn has_reading(blocks: &[f64], m: Manifest, ends: &[u64], start: f64, clip: u64) -> bool
-    requires { ⌜ clip < length (now ends) ⌝ }
-    ensures { λ r. ⌜ r ≡ (not (m .interpolate && any (λ (b : Float). eq b start) (now (blocks .entry))) && ltb (clipBegin (now (ends .entry)) clip) (clipEnd (now (ends .entry)) clip)) ⌝ }
-{
-    if contributes(blocks, m, start) {
-        return clip_begin(ends, clip) < clip_end(ends, clip);
-    }
-    false
-}
-
-// The cell of the direct reading at t.
+// The cell of the direct reading at t, by its window.
 fn direct_cell(
     starts: &[f64],
     clips: &[u64],
@@ -80,38 +68,29 @@ fn direct_cell(
     values: &[f64],
     marks: &[u8],
     ends: &[u64],
+    spot: Spot,
     t: f64,
 ) -> Cell
     requires { ⌜ Ready (now starts) (now clips) (now xs) (now ys) (now blocks) m (now times) (now values) (now marks) (now ends) ⌝ }
+    requires { ⌜ SpotAt (now starts) (now clips) (now xs) (now ys) (now blocks) m (now times) (now values) (now marks) (now ends) t (spot .p) (spot .w) ⌝ }
     requires { ⌜ FiniteDouble t ⌝ }
     ensures { λ r. ⌜ DirectIs (setOf (length (now (ends .entry))) (now (starts .entry)) (now (clips .entry)) (now (xs .entry)) (now (ys .entry)) (now (blocks .entry)) m) (samplesOf (now (times .entry)) (now (values .entry)) (now (marks .entry)) (now (ends .entry))) t r ⌝ }
 {
     if starts.len() == 0 {
         return Cell::Constant(Source::Absent);
     }
-    let p = lists::last_at_most(starts, t);
-    let clip = clips[p];
-    if has_reading(blocks, m, ends, starts[p], clip) {
-        return Cell::Reading(clip, line_of(xs, ys, t));
+    let w = spot.w;
+    if w.begin < w.end {
+        return Cell::Reading(w.clip, line_of(xs, ys, t));
     }
-    Cell::Constant(gap_source(
-        starts,
-        clips,
-        xs,
-        ys,
-        blocks,
-        m,
-        times,
-        values,
-        marks,
-        ends,
-        p,
-    ))
+    let gap = w.gap;
+    Cell::Constant(gap)
 }
 
 // The time whose direct value is held between two neighbours: the lower one, unless one of them is
 // missing or two knots share an x between them.
-fn held_from(xs: &[f64], ys: &[f64], near: Bounds) -> Bound
+fn held_from(xs: &[f64], ys: &[f64], near: Near) -> Bound
+    requires { ⌜ Ascending (now xs) ⌝ }
     requires { ⌜ length (now xs) ≡ length (now ys) ⌝ }
     ensures { λ r. ⌜ r ≡ heldOf (knotsOf (now (xs .entry)) (now (ys .entry))) (near .lower) (near .upper) ⌝ }
 {
@@ -123,7 +102,7 @@ fn held_from(xs: &[f64], ys: &[f64], near: Bounds) -> Bound
     let Bound::At(h) = upper else {
         return Bound::Nothing;
     };
-    if is_jump(xs, ys, l, h) {
+    if is_jump(xs, ys, l, h, near.knot) {
         return Bound::Nothing;
     }
     Bound::At(l)
@@ -131,6 +110,95 @@ fn held_from(xs: &[f64], ys: &[f64], near: Bounds) -> Bound
 
 // The cell of t and its end. One start: direct, up to the next knot. Several: held from the lower
 // neighbour or direct, up to the upper one.
+pub fn piece_at(
+    starts: &[f64],
+    clips: &[u64],
+    xs: &[f64],
+    ys: &[f64],
+    blocks: &[f64],
+    m: Manifest,
+    times: &[f64],
+    values: &[f64],
+    marks: &[u8],
+    ends: &[u64],
+    tops: &[f64],
+    spot: Spot,
+    t: f64,
+) -> Piece
+    requires { ⌜ Ready (now starts) (now clips) (now xs) (now ys) (now blocks) m (now times) (now values) (now marks) (now ends) ⌝ }
+    requires { ⌜ TopsOf (now xs) (now ys) (now tops) ⌝ }
+    requires { ⌜ SpotAt (now starts) (now clips) (now xs) (now ys) (now blocks) m (now times) (now values) (now marks) (now ends) t (spot .p) (spot .w) ⌝ }
+    requires { ⌜ FiniteDouble t ⌝ }
+    ensures { λ r. ⌜ PieceIs (setOf (length (now (ends .entry))) (now (starts .entry)) (now (clips .entry)) (now (xs .entry)) (now (ys .entry)) (now (blocks .entry)) m) (samplesOf (now (times .entry)) (now (values .entry)) (now (marks .entry)) (now (ends .entry))) t (r .cell) (r .end) ⌝ }
+{
+    if starts.len() < 2 {
+        let cell = direct_cell(
+            starts,
+            clips,
+            xs,
+            ys,
+            blocks,
+            m,
+            times,
+            values,
+            marks,
+            ends,
+            spot,
+            t,
+        );
+        return Piece {
+            cell,
+            end: first_above(xs, t),
+            knot: spot.knot,
+            sample: spot.sample,
+        };
+    }
+    let w = spot.w;
+    let begin = w.begin;
+    let end = w.end;
+    let found = near_in(
+        xs,
+        ys,
+        tops,
+        &times[begin..end],
+        w,
+        t,
+        spot.knot,
+        spot.sample,
+    );
+    let upper = found.upper;
+    let Bound::At(l) = held_from(xs, ys, found) else {
+        let cell = direct_cell(
+            starts,
+            clips,
+            xs,
+            ys,
+            blocks,
+            m,
+            times,
+            values,
+            marks,
+            ends,
+            spot,
+            t,
+        );
+        return Piece {
+            cell,
+            end: upper,
+            knot: found.knot,
+            sample: found.sample,
+        };
+    };
+    let held = source_in(xs, ys, times, w, l, found.knot, found.sample);
+    Piece {
+        cell: Cell::Constant(held),
+        end: upper,
+        knot: found.knot,
+        sample: found.sample,
+    }
+}
+
+// The cell of t and its end, from nothing.
 pub fn piece_of(
     starts: &[f64],
     clips: &[u64],
@@ -148,27 +216,9 @@ pub fn piece_of(
     requires { ⌜ FiniteDouble t ⌝ }
     ensures { λ r. ⌜ PieceIs (setOf (length (now (ends .entry))) (now (starts .entry)) (now (clips .entry)) (now (xs .entry)) (now (ys .entry)) (now (blocks .entry)) m) (samplesOf (now (times .entry)) (now (values .entry)) (now (marks .entry)) (now (ends .entry))) t (r .cell) (r .end) ⌝ }
 {
-    if starts.len() < 2 {
-        let cell = direct_cell(
-            starts,
-            clips,
-            xs,
-            ys,
-            blocks,
-            m,
-            times,
-            values,
-            marks,
-            ends,
-            t,
-        );
-        return Piece {
-            cell,
-            end: first_above(xs, t),
-        };
-    }
-    let p = lists::last_at_most(starts, t);
-    let near = neighbours(
+    let tops = tops_of(xs, ys);
+    let none = no_spot(starts);
+    let spot = spot_at(
         starts,
         clips,
         xs,
@@ -179,27 +229,10 @@ pub fn piece_of(
         values,
         marks,
         ends,
-        p,
+        none,
         t,
     );
-    let end = near.upper;
-    let Bound::At(l) = held_from(xs, ys, near) else {
-        let cell = direct_cell(
-            starts,
-            clips,
-            xs,
-            ys,
-            blocks,
-            m,
-            times,
-            values,
-            marks,
-            ends,
-            t,
-        );
-        return Piece { cell, end };
-    };
-    let held = direct_source(
+    piece_at(
         starts,
         clips,
         xs,
@@ -210,10 +243,8 @@ pub fn piece_of(
         values,
         marks,
         ends,
-        l,
-    );
-    Piece {
-        cell: Cell::Constant(held),
-        end,
-    }
+        &tops.items,
+        spot,
+        t,
+    )
 }

@@ -4,6 +4,7 @@ use crate::entry::Entry;
 use crate::entry::alike;
 use crate::reading::Counted;
 use crate::reading::count_changes;
+use crate::spot::no_spot;
 use crate::stretch::Stretch;
 use crate::stretch::stretch_at;
 use definitions::Manifest;
@@ -14,6 +15,7 @@ ghost use lib.Dec.{leb};
 ghost use lib.ListN.{length};
 ghost use Rattle.cell_laws.specs.Keys.{Keys, entryAtKey};
 ghost use Rattle.cell_laws.specs.Unpacked.{setOf, samplesOf, Ready};
+ghost use Rattle.value.specs.Tops.{TopsOf};
 ghost use Rattle.track.specs.Entries.{entryIs};
 ghost use Rattle.track.specs.Bakes.{changesOf};
 ghost use Rattle.track.specs.Readings.{CountIs};
@@ -110,21 +112,24 @@ pub fn has_room(
     values: &[f64],
     marks: &[u8],
     ends: &[u64],
+    tops: &[f64],
     head: Entry,
     low: u64,
     top: u64,
     room: usize,
 ) -> bool
     requires { ⌜ Ready (now starts) (now clips) (now xs) (now ys) (now blocks) m (now times) (now values) (now marks) (now ends) ⌝ }
+    requires { ⌜ TopsOf (now xs) (now ys) (now tops) ⌝ }
     requires { ⌜ Keys low top ⌝ }
     requires { ⌜ entryIs head ≡ entryAtKey (setOf (length (now ends)) (now starts) (now clips) (now xs) (now ys) (now blocks) m) (samplesOf (now times) (now values) (now marks) (now ends)) low ⌝ }
     ensures { λ r. ⌜ r ≡ leb (length (changesOf (setOf (length (now (ends .entry))) (now (starts .entry)) (now (clips .entry)) (now (xs .entry)) (now (ys .entry)) (now (blocks .entry)) m) (samplesOf (now (times .entry)) (now (values .entry)) (now (marks .entry)) (now (ends .entry))) low top)) room ⌝ }
 {
     let mut count: usize = 0;
     let mut last = head;
+    let mut spot = no_spot(starts);
     let mut k = low;
     loop {
-        let s = stretch_at(
+        let step = stretch_at(
             starts,
             clips,
             xs,
@@ -135,9 +140,12 @@ pub fn has_room(
             values,
             marks,
             ends,
+            tops,
+            spot,
             k,
             top,
         );
+        let s = step.stretch;
         let found = count_on(times, values, marks, ends, s, last, k, room - count);
         if !found.fits {
             return false;
@@ -147,6 +155,7 @@ pub fn has_room(
         }
         count += found.count;
         last = found.last;
+        spot = step.spot;
         k = s.hi + 1;
     }
 }

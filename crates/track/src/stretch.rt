@@ -1,27 +1,36 @@
 // The stretch of keys from a key on that lie in its cell, and what the cell says at its beginning.
 use crate::cell::Cell;
-use crate::cell::piece_of;
+use crate::cell::piece_at;
 use crate::change::end_key;
 use crate::change::lesser;
 use crate::entry::Entry;
 use crate::entry::entry_of;
 use crate::line::place_on;
+use crate::spot::Spot;
+use crate::spot::spot_at;
 use definitions::Manifest;
 use definitions::Source;
 use value::direct::clip_begin;
 use value::direct::clip_end;
 use value::value::says;
 ghost use mathlib.Core.Path.{_≡_};
-ghost use lib.ListN.{length};
 ghost use Rattle.cell_laws.specs.Keys.{Keys};
-ghost use Rattle.cell_laws.specs.Unpacked.{setOf, samplesOf, Ready};
-ghost use Rattle.track.specs.Runs.{Runs, readOn, StretchIs};
+ghost use Rattle.cell_laws.specs.Unpacked.{Ready};
+ghost use Rattle.value.specs.Tops.{TopsOf};
+ghost use Rattle.track.specs.Spots.{SpotIs};
+ghost use Rattle.track.specs.Runs.{Runs, readOn, StepIs};
 
 // A cell from a key on, what it says there, and its last key up to a top.
 pub struct Stretch {
     pub cell: Cell,
     pub here: Entry,
     pub hi: u64,
+}
+
+// A stretch, and the spot of the walk in it.
+pub struct Step {
+    pub stretch: Stretch,
+    pub spot: Spot,
 }
 
 // What the cell reads at the key k.
@@ -48,7 +57,7 @@ fn read_on(
     }
 }
 
-// The stretch from the key k on.
+// The stretch from the key k on, and the spot of the walk there.
 pub fn stretch_at(
     starts: &[f64],
     clips: &[u64],
@@ -60,15 +69,19 @@ pub fn stretch_at(
     values: &[f64],
     marks: &[u8],
     ends: &[u64],
+    tops: &[f64],
+    spot: Spot,
     k: u64,
     top: u64,
-) -> Stretch
+) -> Step
     requires { ⌜ Ready (now starts) (now clips) (now xs) (now ys) (now blocks) m (now times) (now values) (now marks) (now ends) ⌝ }
+    requires { ⌜ TopsOf (now xs) (now ys) (now tops) ⌝ }
+    requires { ⌜ SpotIs (now starts) (now clips) (now xs) (now ys) (now blocks) m (now times) (now values) (now marks) (now ends) (spot .p) (spot .w) ⌝ }
     requires { ⌜ Keys k top ⌝ }
-    ensures { λ r. ⌜ StretchIs (setOf (length (now (ends .entry))) (now (starts .entry)) (now (clips .entry)) (now (xs .entry)) (now (ys .entry)) (now (blocks .entry)) m) (samplesOf (now (times .entry)) (now (values .entry)) (now (marks .entry)) (now (ends .entry))) k top r ⌝ }
+    ensures { λ r. ⌜ StepIs (now (starts .entry)) (now (clips .entry)) (now (xs .entry)) (now (ys .entry)) (now (blocks .entry)) m (now (times .entry)) (now (values .entry)) (now (marks .entry)) (now (ends .entry)) k top r ⌝ }
 {
     let t = gf::of_key(k);
-    let piece = piece_of(
+    let at = spot_at(
         starts,
         clips,
         xs,
@@ -79,6 +92,22 @@ pub fn stretch_at(
         values,
         marks,
         ends,
+        spot,
+        t,
+    );
+    let piece = piece_at(
+        starts,
+        clips,
+        xs,
+        ys,
+        blocks,
+        m,
+        times,
+        values,
+        marks,
+        ends,
+        tops,
+        at,
         t,
     );
     let cell = piece.cell;
@@ -87,5 +116,16 @@ pub fn stretch_at(
     let hi = lesser(top, e - 1);
     let source = read_on(times, values, marks, ends, cell, k, hi);
     let here = entry_of(says(m, values, marks, ends, source));
-    Stretch { cell, here, hi }
+    let stretch = Stretch { cell, here, hi };
+    let w = at.w;
+    let reached = Spot {
+        p: at.p,
+        w,
+        knot: piece.knot,
+        sample: piece.sample,
+    };
+    Step {
+        stretch,
+        spot: reached,
+    }
 }

@@ -4,6 +4,7 @@ use crate::entry::Entry;
 use crate::entry::alike;
 use crate::reading::Wrote;
 use crate::reading::write_changes;
+use crate::spot::no_spot;
 use crate::stretch::Stretch;
 use crate::stretch::stretch_at;
 use definitions::Manifest;
@@ -15,6 +16,7 @@ ghost use lib.ListN.{length};
 ghost use Rattle.gf.specs.Key as Key;
 ghost use Rattle.cell_laws.specs.Keys.{Keys, entryAtKey};
 ghost use Rattle.cell_laws.specs.Unpacked.{setOf, samplesOf, Ready};
+ghost use Rattle.value.specs.Tops.{TopsOf};
 ghost use Rattle.track.specs.Entries.{entryIs};
 ghost use Rattle.track.specs.Bakes.{changesOf, Room, Written};
 ghost use Rattle.track.specs.Readings.{RoomFrom, WrittenFrom};
@@ -133,6 +135,7 @@ pub fn write(
     values: &[f64],
     marks: &[u8],
     ends: &[u64],
+    tops: &[f64],
     head: Entry,
     low: u64,
     top: u64,
@@ -141,6 +144,7 @@ pub fn write(
     outmarks: &mut [u8],
 ) -> usize
     requires { ⌜ Ready (now starts) (now clips) (now xs) (now ys) (now blocks) m (now times) (now values) (now marks) (now ends) ⌝ }
+    requires { ⌜ TopsOf (now xs) (now ys) (now tops) ⌝ }
     requires { ⌜ Keys low top ⌝ }
     requires { ⌜ entryIs head ≡ entryAtKey (setOf (length (now ends)) (now starts) (now clips) (now xs) (now ys) (now blocks) m) (samplesOf (now times) (now values) (now marks) (now ends)) low ⌝ }
     requires { ⌜ Room (changesOf (setOf (length (now ends)) (now starts) (now clips) (now xs) (now ys) (now blocks) m) (samplesOf (now times) (now values) (now marks) (now ends)) low top) (now outtimes) (now outvalues) (now outmarks) ⌝ }
@@ -148,9 +152,10 @@ pub fn write(
 {
     let mut n: usize = 0;
     let mut last = head;
+    let mut spot = no_spot(starts);
     let mut k = low;
     loop {
-        let s = stretch_at(
+        let step = stretch_at(
             starts,
             clips,
             xs,
@@ -161,9 +166,12 @@ pub fn write(
             values,
             marks,
             ends,
+            tops,
+            spot,
             k,
             top,
         );
+        let s = step.stretch;
         let wrote = write_on(
             times,
             values,
@@ -182,6 +190,7 @@ pub fn write(
         }
         n = wrote.count;
         last = wrote.last;
+        spot = step.spot;
         k = s.hi + 1;
     }
 }

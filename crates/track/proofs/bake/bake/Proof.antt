@@ -9,7 +9,9 @@ use Rattle.gf.specs.Key.{least, most}
 use Rattle.definitions.specs.ClipSet.{ClipSet}
 use Rattle.definitions.specs.Samples.{Samples}
 use Rattle.cell_laws.specs.Unpacked.{setOf, samplesOf}
+use Rattle.value.specs.Reads.{ready-readable}
 use Rattle.track.specs.Bakes.{changesOf}
+use Rattle.track.proofs.Lent.{few-knots}
 use Rattle.track.proofs.Baking.{bake-refused, bake-done}
 use borrow.Author.Needs.{needs}
 use Rattle.track.proofs.bake.bake.Statement.{statement}
@@ -23,7 +25,7 @@ abbrev lent : tie.Start → Samples
 lent a = samplesOf (a .args .times .now) (a .args .values .now) (a .args .marks .now) (a .args .ends .now)
 
 abbrev entry : tie.After-has-room → tie.Start
-entry c = c .before .before .before .before .before .before .before .before .before .before .before .before .before .before .before
+entry c = c .before .before .before .before .before .before .before .before .before .before .before .before .before .before .before .before .before .before .before
 
 abbrev count : tie.After-has-room → ℕ
 count c = length (changesOf (set (entry c)) (lent (entry c)) least most)
@@ -31,33 +33,37 @@ count c = length (changesOf (set (entry c)) (lent (entry c)) least most)
 -- the changes have room
 room : (c : tie.Else1) → count (c .before) ≤ min (length (entry (c .before) .args .outtimes .now)) (min (length (entry (c .before) .args .outvalues .now)) (length (entry (c .before) .args .outmarks .now)))
 room c =
-    let r = c .before .before .shortest .ensures in
-    let n = leb-true (count (c .before)) (c .before .before .shortest .result) (sym (c .before .has-room .ensures) ∙ not-false (c .before .has-room .result) (c .if1 .left)) in
+    let r = c .before .before .before .before .before .shortest .ensures in
+    let n = leb-true (count (c .before)) (c .before .before .before .before .before .shortest .result) (sym (c .before .has-room .ensures) ∙ not-false (c .before .has-room .result) (c .if1 .left)) in
     omega arith
 
 entry-at-requires : tie.Need-entry-at-requires
 entry-at-requires c κs = search needs
 
+tops-of-requires : tie.Need-tops-of-requires
+tops-of-requires c κs = let a = c .before .before .before .before .before .before .before .before .before .before .before .before .before in (a .pre .knots-paired, (few-knots (a .pre), ready-readable (a .pre) .segments))
+
 shortest-requires : tie.Need-shortest-requires
 shortest-requires c κs = search needs
 
 has-room-requires : tie.Need-has-room-requires
-has-room-requires c κs = (c .before .before .before .before .before .before .before .before .before .before .before .before .before .before .pre, (record { low = lit≤ tt; order = lit≤ tt; high = lit≤ tt }, c .before .entry-at .ensures))
+has-room-requires c κs = (c .before .before .before .before .before .before .before .before .before .before .before .before .before .before .before .before .before .before .pre, (c .before .before .before .before .tops-of .ensures, (record { low = lit≤ tt; order = lit≤ tt; high = lit≤ tt }, c .before .before .before .before .before .entry-at .ensures)))
 
 returns : tie.Need-returns
 returns c =
     let k = c .before in
     let a = entry k in
-    let r = k .before .shortest .ensures in
-    let n = leb-false (count k) (k .before .shortest .result) (sym (k .has-room .ensures) ∙ not-true (k .has-room .result) (c .if1 .taken)) in
+    let r = k .before .before .before .before .shortest .ensures in
+    let n = leb-false (count k) (k .before .before .before .before .shortest .result) (sym (k .has-room .ensures) ∙ not-true (k .has-room .result) (c .if1 .taken)) in
     bake-refused (set a) (lent a) (a .args .outtimes .now) (a .args .outvalues .now) (a .args .outmarks .now) _ _ _ (omega arith)
 
 write-requires : tie.Need-write-requires
 write-requires c κs =
-    let e = c .before .before .before in
-    let a = entry (e .before) in
+    let e = c .before .before .before .before .before .before in
+    let k = e .before in
+    let a = entry k in
     let h = room e in
-    (a .pre, (record { low = lit≤ tt; order = lit≤ tt; high = lit≤ tt }, (e .before .before .before .entry-at .ensures, record { times = omega arith; values = omega arith; marks = omega arith })))
+    (a .pre, (k .before .before .before .before .before .tops-of .ensures, (record { low = lit≤ tt; order = lit≤ tt; high = lit≤ tt }, (k .before .before .before .before .before .before .entry-at .ensures, record { times = omega arith; values = omega arith; marks = omega arith }))))
 
 same-length : tie.Need-same-length
 same-length c = search needs
@@ -71,15 +77,17 @@ same-length-3 c = search needs
 returns-2 : tie.Need-returns-2
 returns-2 c =
     let w = c .before .before .before .before .before .before in
-    let e = w .before .before .before .before in
-    let a = entry (e .before) in
-    bake-done (set a) (lent a) (a .args .outtimes .now) (a .args .outvalues .now) (a .args .outmarks .now) _ _ _ _ _ _ (room e) (e .before .before .before .entry-at .ensures) (w .write .ensures)
+    let e = w .before .before .before .before .before .before .before in
+    let k = e .before in
+    let a = entry k in
+    bake-done (set a) (lent a) (a .args .outtimes .now) (a .args .outvalues .now) (a .args .outmarks .now) _ _ _ _ _ _ (room e) (k .before .before .before .before .before .before .entry-at .ensures) (w .write .ensures)
 
 pub bake-spec : {M : Type 1} → statement M
 bake-spec =
     tie.close
     (tie.spec
     entry-at-requires
+    tops-of-requires
     shortest-requires
     has-room-requires
     returns

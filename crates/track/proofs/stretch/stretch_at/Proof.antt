@@ -32,32 +32,32 @@ set a = setOf (length (a .args .ends .now)) (a .args .starts .now) (a .args .cli
 abbrev lent : tie.Start → Samples
 lent a = samplesOf (a .args .times .now) (a .args .values .now) (a .args .marks .now) (a .args .ends .now)
 
-abbrev entry : tie.After-piece-of → tie.Start
-entry c = c .before .before .before .before .before .before .before .before .before .before .before
+abbrev entry : tie.After-piece-at → tie.Start
+entry c = c .before .before .before .before .before .before .before .before .before .before .before .before .before
 
 -- k is the key of a finite double
 finite-key : (a : tie.Start) → FiniteDouble (ofKey (a .args .k))
-finite-key a = let K = a .pre .1 in record { fitting = ofKey-fits (a .args .k); finitely = ofKey-finite (a .args .k) (K .low) (omega (arith, K .order, K .high)) }
+finite-key a = let K = a .pre .1 .1 .1 in record { fitting = ofKey-fits (a .args .k); finitely = ofKey-finite (a .args .k) (K .low) (omega (arith, K .order, K .high)) }
 
-piece : (c : tie.After-piece-of) → PieceIs (set (entry c)) (lent (entry c)) (ofKey (entry c .args .k)) (c .piece-of .result .cell) (c .piece-of .result .end)
-piece c = subst (λ (t : Float). PieceIs (set (entry c)) (lent (entry c)) t (c .piece-of .result .cell) (c .piece-of .result .end)) (c .before .of-key .ensures) (c .piece-of .ensures)
+piece : (c : tie.After-piece-at) → PieceIs (set (entry c)) (lent (entry c)) (ofKey (entry c .args .k)) (c .piece-at .result .cell) (c .piece-at .result .end)
+piece c = subst (λ (t : Float). PieceIs (set (entry c)) (lent (entry c)) t (c .piece-at .result .cell) (c .piece-at .result .end)) (c .before .before .of-key .ensures) (c .piece-at .ensures)
 
 -- the last key
-hi-is : (c : tie.After-lesser) → min (entry (c .before .before) .args .top) (endKey (c .before .before .piece-of .result .end) - 1) ≡ c .lesser .result
+hi-is : (c : tie.After-lesser) → min (entry (c .before .before) .args .top) (endKey (c .before .before .piece-at .result .end) - 1) ≡ c .lesser .result
 hi-is c = sym (c .lesser .ensures ∙ ap (λ (e : ℕ). min (entry (c .before .before) .args .top) (e - 1)) (c .before .end-key .ensures))
 
 keys : (c : tie.After-lesser) → Keys (entry (c .before .before) .args .k) (c .lesser .result)
 keys c =
     let q = c .before .before in
     let a = entry q in
-    subst (Keys (a .args .k)) (hi-is c) (span-keys (a .pre .0) (a .args .k) (a .args .top) (a .pre .1) (q .piece-of .result .cell) (q .piece-of .result .end) (piece q))
+    subst (Keys (a .args .k)) (hi-is c) (span-keys (a .pre .0) (a .args .k) (a .args .top) (a .pre .1 .1 .1) (q .piece-at .result .cell) (q .piece-at .result .end) (piece q))
 
-runs : (c : tie.After-lesser) → Runs (entry (c .before .before) .args .times .now) (entry (c .before .before) .args .values .now) (entry (c .before .before) .args .marks .now) (entry (c .before .before) .args .ends .now) (c .before .before .piece-of .result .cell) (entry (c .before .before) .args .k) (c .lesser .result)
+runs : (c : tie.After-lesser) → Runs (entry (c .before .before) .args .times .now) (entry (c .before .before) .args .values .now) (entry (c .before .before) .args .marks .now) (entry (c .before .before) .args .ends .now) (c .before .before .piece-at .result .cell) (entry (c .before .before) .args .k) (c .lesser .result)
 runs c =
     let q = c .before .before in
     let a = entry q in
-    subst (Runs (a .args .times .now) (a .args .values .now) (a .args .marks .now) (a .args .ends .now) (q .piece-of .result .cell) (a .args .k)) (hi-is c)
-    (span-runs (a .pre .0) (a .args .k) (a .args .top) (a .pre .1) (q .piece-of .result .cell) (q .piece-of .result .end) (piece q))
+    subst (Runs (a .args .times .now) (a .args .values .now) (a .args .marks .now) (a .args .ends .now) (q .piece-at .result .cell) (a .args .k)) (hi-is c)
+    (span-runs (a .pre .0) (a .args .k) (a .args .top) (a .pre .1 .1 .1) (q .piece-at .result .cell) (q .piece-at .result .end) (piece q))
 
 -- what is said at k
 here : (c : tie.After-entry-of) → entryIs (c .entry-of .result) ≡ entryAtKey (set (entry (c .before .before .before .before .before))) (lent (entry (c .before .before .before .before .before))) (entry (c .before .before .before .before .before) .args .k)
@@ -66,22 +66,25 @@ here c =
     let a = entry q in
     c .entry-of .ensures
     ∙ ap entryOf (c .before .says .ensures ∙ ap (saysIn (a .args .m) (a .args .values .now) (a .args .marks .now) (a .args .ends .now)) (c .before .before .read-on .ensures))
-    ∙ span-here (a .pre .0) (a .args .k) (a .args .top) (a .pre .1) (q .piece-of .result .cell) (q .piece-of .result .end) (piece q)
+    ∙ span-here (a .pre .0) (a .args .k) (a .args .top) (a .pre .1 .1 .1) (q .piece-at .result .cell) (q .piece-at .result .end) (piece q)
 
 of-key-requires : tie.Need-of-key-requires
 of-key-requires c κs = search needs
 
-piece-of-requires : tie.Need-piece-of-requires
-piece-of-requires c κs = let a = c .before .before .before .before .before .before .before .before .before .before in (a .pre .0, subst FiniteDouble (sym (c .of-key .ensures)) (finite-key a))
+spot-at-requires : tie.Need-spot-at-requires
+spot-at-requires c κs = let a = c .before .before .before .before .before .before .before .before .before .before .before in (a .pre .0, (a .pre .1 .1 .0, subst FiniteDouble (sym (c .of-key .ensures)) (finite-key a)))
+
+piece-at-requires : tie.Need-piece-at-requires
+piece-at-requires c κs = let a = c .before .before .before .before .before .before .before .before .before .before .before .before in (a .pre .0, (a .pre .1 .0, (c .spot-at .ensures, subst FiniteDouble (sym (c .before .of-key .ensures)) (finite-key a))))
 
 end-key-requires : tie.Need-end-key-requires
-end-key-requires c κs = let a = entry c in end-numbered (set a) (lent a) (sound (a .pre .0)) (samples (a .pre .0)) (a .args .k) (a .args .top) (a .pre .1) (c .piece-of .result .end) (piece c .ends)
+end-key-requires c κs = let a = entry c in end-numbered (set a) (lent a) (sound (a .pre .0)) (samples (a .pre .0)) (a .args .k) (a .args .top) (a .pre .1 .1 .1) (c .piece-at .result .end) (piece c .ends)
 
 sub-lesser : tie.Need-sub-lesser
 sub-lesser c =
     let q = c .before in
     let a = entry q in
-    omega (arith, end-later (set a) (lent a) (sound (a .pre .0)) (samples (a .pre .0)) (a .args .k) (a .args .top) (a .pre .1) (q .piece-of .result .end) (piece q .ends), c .end-key .ensures)
+    omega (arith, end-later (set a) (lent a) (sound (a .pre .0)) (samples (a .pre .0)) (a .args .k) (a .args .top) (a .pre .1 .1 .1) (q .piece-at .result .end) (piece q .ends), c .end-key .ensures)
 
 lesser-requires : tie.Need-lesser-requires
 lesser-requires c κs = search needs
@@ -93,23 +96,27 @@ says-requires : tie.Need-says-requires
 says-requires c κs =
     let q = c .before .before .before in
     let a = entry q in
-    (subst (Sayable (length (a .args .values .now)) (a .args .ends .now)) (sym (c .read-on .ensures)) (span-sayable (a .pre .0) (a .args .k) (a .args .top) (a .pre .1) (q .piece-of .result .cell) (q .piece-of .result .end) (piece q)), ready-marks (a .pre .0))
+    (subst (Sayable (length (a .args .values .now)) (a .args .ends .now)) (sym (c .read-on .ensures)) (span-sayable (a .pre .0) (a .args .k) (a .args .top) (a .pre .1 .1 .1) (q .piece-at .result .cell) (q .piece-at .result .end) (piece q)), ready-marks (a .pre .0))
 
 entry-of-requires : tie.Need-entry-of-requires
 entry-of-requires c κs = search needs
 
 returns : tie.Need-returns
 returns c =
-    let l = c .before .before .before in
+    let x = c .before in
+    let l = x .before .before .before in
     let q = l .before .before in
     let a = entry q in
     record {
-      keys = keys l;
-      within = let e = hi-is l in omega arith;
-      here = here c;
-      runs = runs l;
-      says = subst (λ (h : ℕ). Agree (a .args .k) h (entryAtKey (set a) (lent a)) (saysOn (a .args .times .now) (a .args .values .now) (a .args .marks .now) (a .args .ends .now) (q .piece-of .result .cell) (entryIs (c .entry-of .result)))) (hi-is l)
-          (span-says (a .pre .0) (a .args .k) (a .args .top) (a .pre .1) (q .piece-of .result .cell) (q .piece-of .result .end) (piece q) (entryIs (c .entry-of .result)) (here c));
+      stretch = record {
+        keys = keys l;
+        within = let e = hi-is l in omega arith;
+        here = here x;
+        runs = runs l;
+        says = subst (λ (h : ℕ). Agree (a .args .k) h (entryAtKey (set a) (lent a)) (saysOn (a .args .times .now) (a .args .values .now) (a .args .marks .now) (a .args .ends .now) (q .piece-at .result .cell) (entryIs (x .entry-of .result)))) (hi-is l)
+            (span-says (a .pre .0) (a .args .k) (a .args .top) (a .pre .1 .1 .1) (q .piece-at .result .cell) (q .piece-at .result .end) (piece q) (entryIs (x .entry-of .result)) (here x));
+      };
+      spot = q .before .spot-at .ensures .window;
     }
 
 pub stretch-at-spec : {M : Type 1} → statement M
@@ -117,7 +124,8 @@ stretch-at-spec =
     tie.close
     (tie.spec
     of-key-requires
-    piece-of-requires
+    spot-at-requires
+    piece-at-requires
     end-key-requires
     sub-lesser
     lesser-requires
