@@ -124,12 +124,20 @@ impl<'a> Inverses<'a> {
 fn first(mut lo: i64, mut hi: i64, guess: i64, test: impl Fn(f64) -> bool) -> i64 {
     let guess = guess.clamp(lo + 1, hi);
     let down = test(at(guess));
-    if down { hi = guess } else { lo = guess }
+    if down {
+        hi = guess
+    } else {
+        lo = guess
+    }
     let mut step = 1i64;
     while lo + 1 < hi {
         let probe = if down { hi.saturating_sub(step).max(lo + 1) } else { lo.saturating_add(step).min(hi - 1) };
         let yes = test(at(probe));
-        if yes { hi = probe } else { lo = probe }
+        if yes {
+            hi = probe
+        } else {
+            lo = probe
+        }
         if yes != down {
             break;
         }
@@ -180,7 +188,8 @@ impl<'a> Facts<'a> {
         if filling.mark == 0 {
             return number(filling.value);
         }
-        let found = |q: usize| self.clip(q).map(|clip| clip.answer(clip.held(self.set.clip_time(self.set.starts[q].0), 0)));
+        let found =
+            |q: usize| self.clip(q).map(|clip| clip.answer(clip.held(self.set.clip_time(self.set.starts[q].0), 0)));
         let nearest = || (0..p).rev().find_map(found).or_else(|| (p + 1..self.set.starts.len()).find_map(found));
         filling.flag.then(nearest).flatten().unwrap_or(BLOCKED)
     }

@@ -34,7 +34,7 @@ mod sets;
 use std::hint::black_box;
 use std::time::Duration;
 
-use measure::{Baked, library_bake, take_turns};
+use measure::{Baked, bake_apart, take_turns};
 use rust::{Library, Rust};
 use sets::{Case, Growing, Random};
 use track::Track;
@@ -47,31 +47,43 @@ const BAKE_TARGETS: [(&str, f64); 7] =
     [("A", 3500.0), ("B", 5.0), ("C", 30.0), ("D", 70.0), ("E", 20.0), ("F", 5.0), ("G", 60.0)];
 
 /// The plain Rust bake into lists made as the library's wrapper makes them.
-pub fn plain_bake(set: &plain::Set, samples: &calls::Samples) -> Track {
-    let (mut times, mut values, mut marks) = (vec![0.0; LONGEST], vec![0.0; LONGEST], vec![0; LONGEST]);
+fn plain_bake(set: &plain::Set, samples: &calls::Samples, room: usize) -> tavitrozy::Track {
+    let (mut times, mut values, mut marks) = (vec![0.0; room], vec![0.0; room], vec![0; room]);
     let (head, count) = bake::bake(set, samples, &mut times, &mut values, &mut marks).expect("room enough");
-    rust::track(head, &times[..count], &values[..count], &marks[..count])
+    times.truncate(count);
+    values.truncate(count);
+    marks.truncate(count);
+    tavitrozy::Track {
+        head: tavitrozy::Entry { mark: head.mark, value: f64::from_bits(head.bits) },
+        times,
+        values,
+        marks,
+    }
 }
 
-fn time_plain(case: &Case) -> (Baked, Track) {
-    let set = plain::explicit(&case.set);
-    let mut lists = || {
-        let (mut times, mut values, mut marks) = (vec![0.0; LONGEST], vec![0.0; LONGEST], vec![0; LONGEST]);
-        bake::bake(&set, &case.samples, &mut times, &mut values, &mut marks).expect("room enough");
-        (times, values, marks)
-    };
-    let track = plain_bake(&set, &case.samples);
-    let baked = measure::bake(&mut lists, |_| (track.changes.len(), track::hash(&track.changes)));
-    (baked, track)
+fn plain_track(set: &plain::Set, samples: &calls::Samples) -> Track {
+    rust::track(&plain_bake(set, samples, LONGEST))
 }
 
-/// In the child: the library's bake of a set, told as time, count and hash.
-fn tell_library_bake(name: &str, limits: &str) {
+/// In a child: a side's bake of a set, told as time, count and hash.
+fn tell_bake(side: &str, name: &str, room: usize, limits: &str) {
     let case = sets::named(name, limits).expect("a set of that name");
     let library = Library::new(&case.set, &case.samples);
-    let look = |track: &tavitrozy::Track| (track.times.len(), track::hash(&rust::library_track(track).changes));
-    let Baked { seconds, count, hash } = measure::bake(|| library.bake(LONGEST), look);
+    let set = plain::explicit(&case.set);
+    let bake = || match side {
+        "plain" => plain_bake(&set, &case.samples, room),
+        _ => library.bake(room),
+    };
+    let look = |track: &tavitrozy::Track| (track.times.len(), track::hash(&rust::track(track).changes));
+    let Baked { seconds, count, hash } = measure::bake(bake, look);
     println!("{seconds} {count} {hash}");
+}
+
+/// The plain Rust bake's time, with just room enough, and its track.
+fn time_plain(case: &Case, limit: Duration) -> (Baked, Track) {
+    let track = plain_track(&plain::explicit(&case.set), &case.samples);
+    let baked = bake_apart("plain", &case.name, track.changes.len(), limit).expect("the plain bake in time");
+    (baked, track)
 }
 
 /// Seconds with a unit and three digits.
@@ -86,12 +98,18 @@ fn time(seconds: f64) -> String {
 }
 
 fn times(number: f64) -> String {
-    let digits = if number < 10.0 { 2 } else if number < 100.0 { 1 } else { 0 };
+    let digits = if number < 10.0 {
+        2
+    } else if number < 100.0 {
+        1
+    } else {
+        0
+    };
     format!("{number:.digits$}")
 }
 
-fn verdict(number: f64, target: f64) -> &'static str {
-    if number <= target { "yes" } else { "no" }
+fn verdict(met: bool) -> &'static str {
+    if met { "yes" } else { "no" }
 }
 
 /// Table 1; the Rust's time of one value, for each case.
@@ -105,7 +123,7 @@ fn value_table(cases: &[Case]) -> Vec<f64> {
         let taken = take_turns(asked.len(), &mut [ask_rust, ask_library]);
         let target = if case.name.len() == 1 { 0.5 } else { 1.0 };
         let ratio = taken[1] / taken[0];
-        let met = verdict(ratio, target);
+        let met = verdict(ratio <= target);
         println!("| {} | {} | {} | {ratio:.3} | {target} | {met} |", case.name, time(taken[0]), time(taken[1]));
         taken[0]
     };
@@ -114,20 +132,25 @@ fn value_table(cases: &[Case]) -> Vec<f64> {
 
 /// Table 2.
 fn bake_table(cases: &[Case], values: &[f64], limit: Duration) {
-    println!("\n## Bake\n\nAs multiples of one Rust value; the last column but one is held against the plain Rust bake, target 2.\n");
-    println!("| set | changes | plain Rust bake | × value | library | × value | target | met | library / plain | tracks |");
+    println!(
+        "\n## Bake\n\nAs multiples of one Rust value; the last column but one is held against the plain Rust bake, target 2.\n"
+    );
+    println!(
+        "| set | changes | plain Rust bake | × value | library | × value | target | met | library / plain | tracks |"
+    );
     println!("|---|---|---|---|---|---|---|---|---|---|");
     for (case, &value) in cases.iter().zip(values) {
-        let (plain, track) = time_plain(case);
+        let (plain, track) = time_plain(case, limit);
         let checked = check::by_values(case, &track, value);
         let target = BAKE_TARGETS.iter().find(|target| target.0 == case.name).map(|target| target.1);
-        let front = format!("| {} | {} | {} | {} ", case.name, plain.count, time(plain.seconds), times(plain.seconds / value));
+        let front =
+            format!("| {} | {} | {} | {} ", case.name, plain.count, time(plain.seconds), times(plain.seconds / value));
         let target_text = target.map_or("–".into(), |target| target.to_string());
-        match library_bake(&case.name, limit) {
+        match bake_apart("library", &case.name, plain.count, limit) {
             Err(why) => println!("{front}| {why} | – | {target_text} | no | – | {checked} |"),
             Ok(baked) => {
                 let (multiple, ratio) = (baked.seconds / value, baked.seconds / plain.seconds);
-                let met = verdict(ratio, 2.0).min(target.map_or("yes", |target| verdict(multiple, target)));
+                let met = verdict(ratio <= 2.0 && target.is_none_or(|target| multiple <= target));
                 let equal = if (baked.count, baked.hash) == (plain.count, plain.hash) { "equal" } else { "DIFFERING" };
                 let (taken, multiple) = (time(baked.seconds), times(multiple));
                 println!("{front}| {taken} | {multiple} | {target_text} | {met} | {ratio:.2} | {equal}, {checked} |");
@@ -144,8 +167,9 @@ fn growth_table(title: &str, steps: &[(usize, Growing)], per_change: bool, limit
     let (mut before, mut over) = ([None, None], None);
     for (n, growing) in steps {
         let case = growing.case();
-        let (plain, _) = time_plain(&case);
-        let library = over.clone().map_or_else(|| library_bake(&case.name, limit), Err);
+        let (plain, _) = time_plain(&case, limit);
+        // Once over its limit, it is not asked for more.
+        let library = over.map_or_else(|| bake_apart("library", &case.name, plain.count, limit), Err);
         over = library.as_ref().err().cloned();
         let equal = match &library {
             Ok(baked) if (baked.count, baked.hash) != (plain.count, plain.hash) => "DIFFERING",
@@ -193,20 +217,22 @@ fn normalize_table() {
     let times: Vec<f64> = order.iter().map(|&i| i as f64 * 0.37).collect();
     let (values, marks) = (times.clone(), vec![0u8; n]);
     let lent: Vec<_> = times.iter().map(|&t| (t, vt::Value::Double(t))).collect();
-    // The Rust's function eats its list, so lists are made before the clock runs and dropped after it.
-    let rounds = (0..9).map(|_| {
-        let lists = vec![lent.clone(); 100];
+    // The Rust's function eats its list: the clock runs neither while a list is made nor while one is dropped.
+    let calls = (0..1000).map(|_| {
+        let list = black_box(lent.clone());
         let began = std::time::Instant::now();
-        let sorted: Vec<_> = lists.into_iter().map(sdf::normalize_time_samples).collect();
-        let taken = began.elapsed().as_secs_f64() / 100.0;
-        drop(black_box(sorted));
+        let sorted = black_box(sdf::normalize_time_samples(list));
+        let taken = began.elapsed().as_secs_f64();
+        drop(sorted);
         taken
     });
-    let rust = measure::median(rounds.collect());
+    let rust = measure::median(calls.collect());
     let ask = &mut |_| drop(black_box(tavitrozy::normalize(&times, &values, &marks, n).expect("no refusal")));
     let library = take_turns(1, &mut [ask])[0];
-    println!("\n## Normalising 4,096 shuffled samples\n\n| the Rust | library | library / Rust | target | met |\n|---|---|---|---|---|");
-    println!("| {} | {} | {:.2} | 2 | {} |", time(rust), time(library), library / rust, verdict(library / rust, 2.0));
+    println!(
+        "\n## Normalising 4,096 shuffled samples\n\n| the Rust | library | library / Rust | target | met |\n|---|---|---|---|---|"
+    );
+    println!("| {} | {} | {:.2} | 2 | {} |", time(rust), time(library), library / rust, verdict(library / rust <= 2.0));
 }
 
 fn machine() {
@@ -222,7 +248,7 @@ fn main() {
     let limit = Duration::from_secs(setting("LIMIT", "20").parse().expect("LIMIT in seconds"));
     let arguments: Vec<String> = std::env::args().skip(1).collect();
     match arguments.iter().map(String::as_str).collect::<Vec<_>>()[..] {
-        ["library", name] => tell_library_bake(name, &limits),
+        ["bake", side, name, room] => tell_bake(side, name, room.parse().expect("a count"), &limits),
         ["check", cases, replies] => check::by_replies(cases, replies),
         _ => {
             machine();

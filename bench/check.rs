@@ -7,7 +7,7 @@ use crate::rust::Rust;
 use crate::sets::{Case, Random};
 use crate::text::{Line, Words};
 use crate::track::{self, Track};
-use crate::{bake, plain_bake, rust};
+use crate::{bake, plain_track};
 
 /// What a track gives at a stage time.
 fn held(track: &Track, t: f64) -> Answer {
@@ -27,7 +27,8 @@ pub fn by_values(case: &Case, track: &Track, value: f64) -> String {
     times.extend((0..times.len().max(500)).map(|_| f64::from_bits(random.bits())).filter(|t| t.is_finite()));
     times.extend(&case.times);
     let mut side = Rust::new(set, &case.samples);
-    let asked = (0..most.min(times.len())).map(|i| if most < times.len() { random.bits() as usize % times.len() } else { i });
+    let asked =
+        (0..most.min(times.len())).map(|i| if most < times.len() { random.bits() as usize % times.len() } else { i });
     let (mut count, mut differing) = (0, 0);
     for i in asked {
         count += 1;
@@ -40,7 +41,7 @@ pub fn by_values(case: &Case, track: &Track, value: f64) -> String {
 fn reply(set: &Set, samples: &Samples, slots: Option<u64>) -> Line {
     let mut out = Line::default();
     let Some(slots) = slots else {
-        let track = plain_bake(set, samples);
+        let track = plain_track(set, samples);
         out.word("trackhash").number(track.head.mark.into()).bits(track.head.bits);
         out.number(track.changes.len() as u64).bits(track::hash(&track.changes));
         return out;
@@ -56,10 +57,9 @@ fn reply(set: &Set, samples: &Samples, slots: Option<u64>) -> Line {
             out.word("refused").number(number.into());
         }
         Ok((head, _)) => {
-            let track = rust::track(head, &times[..count], &values[..count], &marks[..count]);
             out.word("track").number(head.mark.into()).bits(head.bits).number(count as u64);
-            for (time, answer) in &track.changes {
-                out.double(*time).number(answer.mark.into()).bits(answer.bits);
+            for i in 0..count {
+                out.double(times[i]).number(marks[i].into()).double(values[i]);
             }
         }
     }
@@ -95,7 +95,14 @@ pub fn by_replies(cases: &str, replies: &str) {
     std::process::exit((differing > 0).into());
 }
 
-fn compare(set: &Option<Set>, samples: &Samples, slots: Option<u64>, told: &[u8], count: &mut usize, differing: &mut usize) {
+fn compare(
+    set: &Option<Set>,
+    samples: &Samples,
+    slots: Option<u64>,
+    told: &[u8],
+    count: &mut usize,
+    differing: &mut usize,
+) {
     let refused = told.starts_with(b"refused ") && (slots.is_none() || told != b"refused 22");
     let Some(set) = set.as_ref().filter(|_| !refused) else { return };
     let mut out = reply(set, samples, slots);

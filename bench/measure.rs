@@ -1,4 +1,4 @@
-//! Time taken: medians of rounds, the sides taking turns; and a bake of the library with a limit on its time.
+//! Time taken: medians of rounds, the sides taking turns; and bakes in processes of their own, with a limit on their time.
 
 use std::io::Read;
 use std::process::{Command, Stdio};
@@ -54,11 +54,12 @@ pub fn bake<T>(mut bake: impl FnMut() -> T, look: impl FnOnce(&T) -> (usize, u64
     Baked { seconds: taken, count, hash }
 }
 
-/// The library's bake of a named set in a process of its own, or why there is none.
-pub fn library_bake(name: &str, limit: Duration) -> Result<Baked, String> {
+/// A side's bake of a named set in a process of its own, or why there is none.
+pub fn bake_apart(side: &str, name: &str, room: usize, limit: Duration) -> Result<Baked, String> {
     let over = format!("over {} s", limit.as_secs());
     let program = std::env::current_exe().expect("a path");
-    let mut child = Command::new(program).args(["library", name]).stdout(Stdio::piped()).spawn().expect("a child");
+    let words = ["bake", side, name, &room.to_string()];
+    let mut child = Command::new(program).args(words).stdout(Stdio::piped()).spawn().expect("a child");
     let began = Instant::now();
     // Its own rounds come after the one bake that the limit is for.
     let rounds = Duration::from_secs(5);

@@ -113,11 +113,7 @@ fn entry(mark: u8, value: f64) -> Answer {
 }
 
 /// A track out of the lists that were lent for it.
-pub fn track(head: Answer, times: &[f64], values: &[f64], marks: &[u8]) -> Track {
-    let changes = (0..times.len()).map(|i| (times[i], entry(marks[i], values[i]))).collect();
-    Track { head, changes }
-}
-
-pub fn library_track(t: &tavitrozy::Track) -> Track {
-    track(entry(t.head.mark, t.head.value), &t.times, &t.values, &t.marks)
+pub fn track(t: &tavitrozy::Track) -> Track {
+    let changes = (0..t.times.len()).map(|i| (t.times[i], entry(t.marks[i], t.values[i]))).collect();
+    Track { head: entry(t.head.mark, t.head.value), changes }
 }

@@ -174,5 +174,8 @@ pub fn named(name: &str, limits: &str) -> Option<Case> {
     if let Some(growing) = Growing::read(name) {
         return Some(growing.case());
     }
-    everyday().into_iter().find(|case| case.name == name).or_else(|| read(limits).into_iter().find(|case| case.name == name))
+    everyday()
+        .into_iter()
+        .find(|case| case.name == name)
+        .or_else(|| read(limits).into_iter().find(|case| case.name == name))
 }
