@@ -4,9 +4,10 @@ pub mod sorting;
 pub mod writing;
 
 ghost use mathlib.Core.Path.{_≡_};
-ghost use mathlib.Core.Bool.{_&&_};
+ghost use mathlib.Core.Bool.{not, _&&_, cond};
 ghost use lib.ListN.{length};
 ghost use lib.Ieee.{eq};
+ghost use Rattle.gf.specs.Doubles.{storable};
 ghost use Rattle.definitions.specs.Doubles.{twoEqual, threeEqual};
 ghost use Rattle.definitions.specs.ClipSet.{anyUnstorable};
 ghost use Rattle.definitions.specs.Explicit.{knot};
@@ -14,18 +15,28 @@ ghost use Rattle.definitions.specs.Timing.{lastAtMost, onSegment, mapTime};
 ghost use Rattle.set_laws.specs.Places.{Ascending};
 ghost use Rattle.cell_laws.specs.Unpacked.{knotsOf};
 
-// A time that is not finite, or beyond 2^40, is among them.
+// 1 for a time that may not be stored, else 0.
+fn unstorable(time: f64) -> u64
+    ensures { λ r. ⌜ r ≡ cond (not (storable time)) 1 0 ⌝ }
+{
+    if gf::is_storable(time) {
+        return 0;
+    }
+    1
+}
+
+// A time that is not finite, or beyond 2^40, is among them. They are counted, and no count ends the loop, so that several
+// are tested at once.
 pub fn any_unstorable(times: &[f64]) -> bool
     ensures { λ r. ⌜ r ≡ anyUnstorable (now (times .entry)) ⌝ }
 {
+    let mut found: u64 = 0;
     let mut i: usize = 0;
     while i < times.len() {
-        if !gf::is_storable(times[i]) {
-            return true;
-        }
+        found += unstorable(times[i]);
         i += 1;
     }
-    false
+    0 < found
 }
 
 // Two neighbours are equal. In a sorted list all equals are neighbours.

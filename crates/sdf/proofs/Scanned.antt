@@ -1,18 +1,19 @@
 -- What the tests over lent samples come to at a place of their lists. Assumes nothing.
 use mathlib.Core.Path.{_≡_, refl, sym, ap, ap₂, _∙_, subst}
-use mathlib.Core.Bool.{Bool, true, false, not, _&&_, _||_}
+use mathlib.Core.Bool.{Bool, true, false, not, _&&_, _||_, cond, true≢false}
 use mathlib.Core.List.{List, [], _∷_, _++_}
 use Prim.Native.Nat.{ℕ, zero, suc, _+_, _-_, _≤_, _<_}
 use native.Mathlib.Numerals.{add-one}
 use native.Mathlib.Nat.{not-suc-le-zero, le-trans, le-of-eq}
 use native.Mathlib.Decide.{decLe}
 use native.Mathlib.Omega.{arith}
-use borrow.Author.Tests.{not-true, not-false}
-use lib.Dec.{T, leb, eqb, eqb→eq, leb→le}
+use borrow.Author.Tests.{ltb-true, ltb-false, ne-eqb}
+use lib.Dec.{T, leb, ltb, eqb, eqb→eq, leb→le}
 use lib.ListN.{length, getD, take, drop, length-drop}
 use lib.Ieee.{Float, nan, inf, fin, lt, ne, isNan}
 use Rattle.definitions.specs.Lists.{any, all, zipWith, below}
 use Rattle.definitions.specs.Doubles.{ascending}
+use Rattle.definitions.specs.ClipSet.{markValue, markBlock}
 use Rattle.definitions.specs.Samples.{nanValue, closes, clipBegin, clipEnd}
 use lib.Ieee.Fits.{and-l, and-r}
 use lib.Ieee.Compare.{differs-from-itself}
@@ -54,6 +55,64 @@ module _ (ends : List ℕ) (count : ℕ) where
   unfolding closes
   closes-end end i h = ap (λ (l : List ℕ). closes end l count) (no-front ends i h)
 
+-- ---- marks
+
+abbrev pub badMark : ℕ → Bool
+badMark m = ltb markBlock m
+
+larger-bad : (a m : ℕ) → ltb 1 (cond (ltb a m) m a) ≡ (ltb 1 a || ltb 1 m)
+larger-bad a m = go (ltb a m) refl (ltb 1 a) refl (ltb 1 m) refl
+  where
+    go : (p : Bool) → ltb a m ≡ p → (q : Bool) → ltb 1 a ≡ q → (r : Bool) → ltb 1 m ≡ r → ltb 1 (cond p m a) ≡ (q || r)
+    go true e true f true g = g
+    go true e true f false g = absurd (omega (arith, ltb-true a m e, ltb-true 1 a f, ltb-false 1 m g))
+    go true e false f r g = g
+    go false e true f r g = f
+    go false e false f true g = absurd (omega (arith, ltb-false a m e, ltb-false 1 a f, ltb-true 1 m g))
+    go false e false f false g = f
+
+module _ (ms : List ℕ) where
+  -- the largest so far: with the mark at i
+  pub mark-on : (i largest : ℕ) → i < length ms → (ltb 1 largest || any badMark (drop i ms)) ≡ (ltb 1 (cond (ltb largest (getD ms i 0)) (getD ms i 0) largest) || any badMark (drop (i + 1) ms))
+  mark-on i largest h =
+      ap (λ (l : List ℕ). ltb 1 largest || any badMark l) (front ms i 0 h)
+      ∙ or-both (ltb 1 largest) (ltb 1 (getD ms i 0)) (any badMark (drop (i + 1) ms))
+      ∙ ap (λ (b : Bool). b || any badMark (drop (i + 1) ms)) (sym (larger-bad largest (getD ms i 0)))
+    where
+      or-both : (a b c : Bool) → (a || (b || c)) ≡ ((a || b) || c)
+      or-both true b c = refl
+      or-both false b c = refl
+
+pub or-nothing : (b : Bool) → (b || false) ≡ b
+or-nothing true = refl
+or-nothing false = refl
+
+pub and-all : (b : Bool) → (b && true) ≡ b
+and-all true = refl
+and-all false = refl
+
+pub one-fall : (b : Bool) {n : ℕ} → n ≡ cond b 0 1 → n ≤ 1
+one-fall true e = omega arith
+one-fall false e = omega arith
+
+number-no-nan : (v : Float) (m : ℕ) → isNan v ≡ false → nanValue v m ≡ false
+number-no-nan v m f = ap (λ (b : Bool). eqb m markValue && b) f ∙ neither (eqb m markValue)
+  where
+    neither : (b : Bool) → (b && false) ≡ false
+    neither true = refl
+    neither false = refl
+
+-- where no value is a NaN, none is under any mark
+pub no-nan : (vs : List Float) (ms : List ℕ) → any isNan vs ≡ false → false ≡ any (λ (b : Bool). b) (zipWith nanValue vs ms)
+no-nan [] ms e = refl
+no-nan (v ∷ vs) [] e = refl
+no-nan (v ∷ vs) (m ∷ ms) e = go (isNan v) refl e (no-nan vs ms)
+  where
+    go : (b : Bool) → isNan v ≡ b → (b || any isNan vs) ≡ false → (any isNan vs ≡ false → false ≡ any (λ (b : Bool). b) (zipWith nanValue vs ms))
+        → false ≡ (nanValue v m || any (λ (b : Bool). b) (zipWith nanValue vs ms))
+    go true f g rest = absurd (true≢false g)
+    go false f g rest = rest g ∙ sym (ap (λ (b : Bool). b || any (λ (b : Bool). b) (zipWith nanValue vs ms)) (number-no-nan v m f))
+
 -- ---- ascending times
 
 module _ (xs : List Float) where
@@ -63,11 +122,18 @@ module _ (xs : List Float) where
       ∙ ap (λ (l : List Float). ascending (getD xs i nan ∷ l)) (front xs (i + 1) nan h)
       ∙ ap (λ (l : List Float). lt (getD xs i nan) (getD xs (i + 1) nan) && ascending l) (sym (front xs (i + 1) nan h))
 
-  pub ascending-off : (i : ℕ) → i + 1 < length xs → not (lt (getD xs i nan) (getD xs (i + 1) nan)) ≡ true → ascending (drop i xs) ≡ false
-  ascending-off i h e = ascending-on i h ∙ ap (λ (b : Bool). b && ascending (drop (i + 1) xs)) (not-true (lt (getD xs i nan) (getD xs (i + 1) nan)) e)
+  -- so many fall before i: with the two neighbours from i on, one more or as many
+  pub ascending-found : (i found : ℕ) → i + 1 < length xs
+      → (eqb found 0 && ascending (drop i xs)) ≡ (eqb (found + cond (lt (getD xs i nan) (getD xs (i + 1) nan)) 0 1) 0 && ascending (drop (i + 1) xs))
+  ascending-found i found h = ap (λ (b : Bool). eqb found 0 && b) (ascending-on i h) ∙ go (lt (getD xs i nan) (getD xs (i + 1) nan))
+    where
+      neither : (b : Bool) → (b && false) ≡ false
+      neither true = refl
+      neither false = refl
 
-  pub ascending-later : (i : ℕ) → i + 1 < length xs → not (lt (getD xs i nan) (getD xs (i + 1) nan)) ≡ false → ascending (drop i xs) ≡ ascending (drop (i + 1) xs)
-  ascending-later i h e = ascending-on i h ∙ ap (λ (b : Bool). b && ascending (drop (i + 1) xs)) (not-false (lt (getD xs i nan) (getD xs (i + 1) nan)) e)
+      go : (b : Bool) → (eqb found 0 && (b && ascending (drop (i + 1) xs))) ≡ (eqb (found + cond b 0 1) 0 && ascending (drop (i + 1) xs))
+      go true = let q : found ≡ found + 0 = omega arith in ap (λ (n : ℕ). eqb n 0 && ascending (drop (i + 1) xs)) q
+      go false = neither (eqb found 0) ∙ sym (ap (λ (b : Bool). b && ascending (drop (i + 1) xs)) (ne-eqb (found + 1) 0 (λ e. omega arith)))
 
   pub ascending-end : (i : ℕ) → length xs ≤ i + 1 → ascending (drop i xs) ≡ true
   ascending-end i h = go (drop i xs) (omega (arith, length-drop i xs))

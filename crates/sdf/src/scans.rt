@@ -1,8 +1,9 @@
 // The tests over lent samples, each in one pass over its lists.
 ghost use mathlib.Core.Path.{_≡_};
-ghost use mathlib.Core.Bool.{Bool};
-ghost use lib.Dec.{T};
+ghost use mathlib.Core.Bool.{Bool, cond};
+ghost use lib.Dec.{T, ltb};
 ghost use lib.ListN.{length};
+ghost use lib.Ieee.{isNan, lt};
 ghost use Rattle.definitions.specs.Lists.{any, all, zipWith, below};
 ghost use Rattle.definitions.specs.Doubles as Doubles;
 ghost use Rattle.definitions.specs.Samples as Samples;
@@ -32,8 +33,31 @@ fn is_nan_value(value: f64, mark: u8) -> bool
     false
 }
 
+// 1 for a NaN, else 0.
+fn nan_found(value: f64) -> u64
+    ensures { λ r. ⌜ r ≡ cond (isNan value) 1 0 ⌝ }
+{
+    if value != value {
+        return 1;
+    }
+    0
+}
+
+// A NaN is among the values. They are counted, and no count ends the loop, so that several are tested at once.
+fn any_not_a_number(values: &[f64]) -> bool
+    ensures { λ r. ⌜ r ≡ any isNan (now (values .entry)) ⌝ }
+{
+    let mut found: u64 = 0;
+    let mut i: usize = 0;
+    while i < values.len() {
+        found += nan_found(values[i]);
+        i += 1;
+    }
+    0 < found
+}
+
 // A NaN under the mark of a value is among the values.
-pub fn any_nan(values: &[f64], marks: &[u8]) -> bool
+fn any_nan_marked(values: &[f64], marks: &[u8]) -> bool
     requires { ⌜ length (now values) ≡ length (now marks) ⌝ }
     ensures { λ r. ⌜ r ≡ any (λ (b : Bool). b) (zipWith Samples.nanValue (now (values .entry)) (now (marks .entry))) ⌝ }
 {
@@ -47,18 +71,37 @@ pub fn any_nan(values: &[f64], marks: &[u8]) -> bool
     false
 }
 
-// A mark other than that of a value or a block is among them.
+// The same, where the marks are looked at only if there is a NaN at all.
+pub fn any_nan(values: &[f64], marks: &[u8]) -> bool
+    requires { ⌜ length (now values) ≡ length (now marks) ⌝ }
+    ensures { λ r. ⌜ r ≡ any (λ (b : Bool). b) (zipWith Samples.nanValue (now (values .entry)) (now (marks .entry))) ⌝ }
+{
+    if any_not_a_number(values) {
+        return any_nan_marked(values, marks);
+    }
+    false
+}
+
+fn larger(a: u8, b: u8) -> u8
+    ensures { λ r. ⌜ r ≡ cond (ltb a b) b a ⌝ }
+{
+    if a < b {
+        return b;
+    }
+    a
+}
+
+// A mark other than that of a value or a block is among them: the largest is.
 pub fn bad_marks(marks: &[u8]) -> bool
     ensures { λ r. ⌜ r ≡ Samples.badMarks (now (marks .entry)) ⌝ }
 {
+    let mut largest: u8 = 0;
     let mut i: usize = 0;
     while i < marks.len() {
-        if marks[i] > 1 {
-            return true;
-        }
+        largest = larger(largest, marks[i]);
         i += 1;
     }
-    false
+    1 < largest
 }
 
 // No end falls behind the one before, and the last is the list's length.
@@ -78,18 +121,27 @@ pub fn closes(ends: &[u64], count: usize) -> bool
     end == count as u64
 }
 
-// Each time is below the one after it.
+// 0 where a time is below the one after it, else 1.
+fn fall(time: f64, next: f64) -> u64
+    ensures { λ r. ⌜ r ≡ cond (lt time next) 0 1 ⌝ }
+{
+    if time < next {
+        return 0;
+    }
+    1
+}
+
+// Each time is below the one after it. Those that are not are counted, as the NaNs are.
 pub fn ascending(times: &[f64]) -> bool
     ensures { λ r. ⌜ r ≡ Doubles.ascending (now (times .entry)) ⌝ }
 {
+    let mut found: u64 = 0;
     let mut i: usize = 0;
     while i + 1 < times.len() {
-        if !(times[i] < times[i + 1]) {
-            return false;
-        }
+        found += fall(times[i], times[i + 1]);
         i += 1;
     }
-    true
+    found == 0
 }
 
 // The times ascend within each clip. That the ends close the list keeps every part inside it.

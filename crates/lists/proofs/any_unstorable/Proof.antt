@@ -1,15 +1,16 @@
--- `lists::any_unstorable` meets its contract: what is left of the list answers for the whole. Assumes nothing.
-use Prim.Native.Nat.{_-_, _≤_}
+-- `lists::any_unstorable` meets its contract: those counted and what is left of the list answer for the whole. Assumes nothing.
+use Prim.Native.Nat.{ℕ, _+_, _-_, _≤_}
 use mathlib.Core.Path.{_≡_, refl, sym, ap, _∙_}
-use mathlib.Core.Bool.{Bool, not}
+use mathlib.Core.Bool.{Bool, not, _||_}
 use native.Mathlib.Omega.{arith}
 use borrow.Author.Needs.{needs}
-use lib.ListN.{length, drop}
+use lib.Dec.{ltb}
+use lib.ListN.{length, getD, drop}
 use lib.Ieee.{Float, nan}
 use denote.Ref.{now}
 use Rattle.gf.specs.Doubles.{storable}
 use Rattle.definitions.specs.Lists.{any}
-use Rattle.lists.specs.Fronts.{any-here, any-later, any-end}
+use Rattle.lists.specs.Fronts.{any-found, at-most-one, counted-all}
 use Rattle.lists.proofs.any_unstorable.Statement.{statement}
 use Rattle.lists.proofs.any_unstorable.Tie as tie
 
@@ -17,28 +18,29 @@ abbrev bad : Float → Bool
 bad t = not (storable t)
 
 abbrev Inv-loop : tie.InvT-loop
-Inv-loop times i₀ i = (i ≤ length times) × (any bad times ≡ any bad (drop i times))
+Inv-loop times found₀ i₀ found i = (i ≤ length times) × (found ≤ i) × (any bad times ≡ (ltb 0 found || any bad (drop i times)))
 
 abbrev μ-loop : tie.MeasureT-loop
-μ-loop times i₀ i = length times - i
+μ-loop times found₀ i₀ found i = length times - i
+
+-- what is counted of one time
+one-more : (c : tie.After-unstorable Inv-loop μ-loop) → c .unstorable .result ≤ 1
+one-more c = at-most-one (bad (getD (c .before .before .before .before .before .args .times .now) (c .before .before .before .loop .i) nan)) (c .unstorable .ensures)
 
 loop-holds : tie.Need-loop-holds Inv-loop μ-loop
-loop-holds c = (omega arith, refl)
+loop-holds c = (omega arith, omega arith, refl)
 
-mul-is-storable : tie.Need-mul-is-storable Inv-loop μ-loop
-mul-is-storable c = search needs
+mul-unstorable : tie.Need-mul-unstorable Inv-loop μ-loop
+mul-unstorable c = search needs
 
-shared-slice-read-is-storable : tie.Need-shared-slice-read-is-storable Inv-loop μ-loop
-shared-slice-read-is-storable c = omega arith
+shared-slice-read-unstorable : tie.Need-shared-slice-read-unstorable Inv-loop μ-loop
+shared-slice-read-unstorable c = omega arith
 
-is-storable-requires : tie.Need-is-storable-requires Inv-loop μ-loop
-is-storable-requires c κs = search needs
+unstorable-requires : tie.Need-unstorable-requires Inv-loop μ-loop
+unstorable-requires c κs = search needs
 
-returns : tie.Need-returns Inv-loop μ-loop
-returns c =
-    let k = c .before .before .before .before .loop in
-    let s = c .before .before .before .before .before .before in
-    sym (k .inv .1 ∙ any-here bad (now (s .args .times)) (k .i) nan (omega arith) (ap not (sym (c .before .is-storable .ensures)) ∙ c .if1 .taken))
+add-found : tie.Need-add-found Inv-loop μ-loop
+add-found c = let k = c .before .before .before .loop in omega (arith, k .inv .1, one-more c)
 
 add-i : tie.Need-add-i Inv-loop μ-loop
 add-i c = omega arith
@@ -48,14 +50,19 @@ loop-less c = omega arith
 
 loop-again : tie.Need-loop-again Inv-loop μ-loop
 loop-again c =
-    let k = c .before .before .before .before .loop in
-    let s = c .before .before .before .before .before .before in
-    (omega arith, k .inv .1 ∙ any-later bad (now (s .args .times)) (k .i) nan (omega arith) (ap not (sym (c .before .is-storable .ensures)) ∙ c .if1 .left))
+    let k = c .before .before .before .loop in
+    let xs = c .before .before .before .before .before .args .times .now in (
+      omega arith,
+      omega (arith, k .inv .1, one-more c),
+      k .inv .2 ∙ any-found bad xs (k .i) (k .found) nan (omega arith)
+          ∙ ap (λ (n : ℕ). ltb 0 (k .found + n) || any bad (drop (k .i + 1) xs)) (sym (c .unstorable .ensures)),
+    )
 
-returns-2 : tie.Need-returns-2 Inv-loop μ-loop
-returns-2 c =
-    let s = c .before .before .before in
-    sym (c .before .loop .inv .1 ∙ any-end bad (now (s .args .times)) (c .before .loop .i) (omega arith))
+returns : tie.Need-returns Inv-loop μ-loop
+returns c =
+    let k = c .before .loop in
+    let xs = c .before .before .before .args .times .now in
+    counted-all bad xs (k .i) (k .found) (omega arith) (k .inv .2)
 
 pub any-unstorable-spec : {M : Type 1} → statement M
 any-unstorable-spec =
@@ -64,11 +71,11 @@ any-unstorable-spec =
     Inv-loop
     μ-loop
     loop-holds
-    mul-is-storable
-    shared-slice-read-is-storable
-    is-storable-requires
-    returns
+    mul-unstorable
+    shared-slice-read-unstorable
+    unstorable-requires
+    add-found
     add-i
     loop-less
     loop-again
-    returns-2)
+    returns)

@@ -1,40 +1,32 @@
--- `sdf::scans::bad_marks` meets its contract: what is left of the list answers for the whole. Assumes nothing.
-use Prim.Native.Nat.{_-_, _≤_}
-use mathlib.Core.Path.{_≡_, refl, sym, _∙_}
-use mathlib.Core.Bool.{Bool}
+-- `sdf::scans::bad_marks` meets its contract: the largest so far and what is left of the list answer for the whole. Assumes nothing.
+use Prim.Native.Nat.{ℕ, _+_, _-_, _≤_}
+use mathlib.Core.Path.{_≡_, refl, sym, ap, _∙_}
+use mathlib.Core.Bool.{Bool, _||_}
 use native.Mathlib.Omega.{arith}
-use lib.ListN.{length, drop}
+use borrow.Author.Needs.{needs}
 use lib.Dec.{ltb}
-use Prim.Native.Nat.{ℕ}
-use borrow.Author.Tests.{lt-ltb, le-ltb}
+use lib.ListN.{length, drop}
 use Rattle.definitions.specs.Lists.{any}
-use Rattle.definitions.specs.ClipSet.{markBlock}
 use Rattle.definitions.specs.Samples.{badMarks}
-use Rattle.lists.specs.Fronts.{any-here, any-later, any-end}
+use Rattle.lists.specs.Fronts.{any-end}
+use Rattle.sdf.proofs.Scanned.{badMark, mark-on, or-nothing}
 use Rattle.sdf.proofs.scans.bad_marks.Statement.{statement}
 use Rattle.sdf.proofs.scans.bad_marks.Tie as tie
 
-abbrev bad : ℕ → Bool
-bad m = ltb markBlock m
-
 abbrev Inv-loop : tie.InvT-loop
-Inv-loop marks i₀ i = (i ≤ length marks) × (any bad marks ≡ any bad (drop i marks))
+Inv-loop marks largest₀ i₀ largest i = (i ≤ length marks) × (any badMark marks ≡ (ltb 1 largest || any badMark (drop i marks)))
 
 abbrev μ-loop : tie.MeasureT-loop
-μ-loop marks i₀ i = length marks - i
+μ-loop marks largest₀ i₀ largest i = length marks - i
 
 loop-holds : tie.Need-loop-holds Inv-loop μ-loop
 loop-holds c = (omega arith, refl)
 
-shared-slice-read-if1 : tie.Need-shared-slice-read-if1 Inv-loop μ-loop
-shared-slice-read-if1 c = omega arith
+shared-slice-read-larger : tie.Need-shared-slice-read-larger Inv-loop μ-loop
+shared-slice-read-larger c = omega arith
 
-returns : tie.Need-returns Inv-loop μ-loop
-unfolding badMarks
-returns c =
-    let k = c .before .before .before .loop in
-    let m = c .before .before .before .before .args .marks .now in
-    sym (k .inv .1 ∙ any-here bad m (k .i) 0 (omega arith) (lt-ltb _ _ (c .if1 .taken)))
+larger-requires : tie.Need-larger-requires Inv-loop μ-loop
+larger-requires c κs = search needs
 
 add-i : tie.Need-add-i Inv-loop μ-loop
 add-i c = omega arith
@@ -45,13 +37,15 @@ loop-less c = omega arith
 loop-again : tie.Need-loop-again Inv-loop μ-loop
 loop-again c =
     let k = c .before .before .before .loop in
-    let m = c .before .before .before .before .args .marks .now in
-    (omega arith, k .inv .1 ∙ any-later bad m (k .i) 0 (omega arith) (le-ltb _ _ (c .if1 .left)))
+    let ms = c .before .before .before .before .before .args .marks .now in
+    (omega arith, k .inv .1 ∙ mark-on ms (k .i) (k .largest) (omega arith) ∙ ap (λ (n : ℕ). ltb 1 n || any badMark (drop (k .i + 1) ms)) (sym (c .larger .ensures)))
 
-returns-2 : tie.Need-returns-2 Inv-loop μ-loop
+returns : tie.Need-returns Inv-loop μ-loop
 unfolding badMarks
-returns-2 c =
-    sym (c .before .loop .inv .1 ∙ any-end bad (c .before .before .args .marks .now) (c .before .loop .i) (omega arith))
+returns c =
+    let k = c .before .loop in
+    let ms = c .before .before .before .args .marks .now in
+    sym (k .inv .1 ∙ ap (λ (b : Bool). ltb 1 (k .largest) || b) (any-end badMark ms (k .i) (omega arith)) ∙ or-nothing (ltb 1 (k .largest)))
 
 pub bad-marks-spec : {M : Type 1} → statement M
 bad-marks-spec =
@@ -60,9 +54,9 @@ bad-marks-spec =
     Inv-loop
     μ-loop
     loop-holds
-    shared-slice-read-if1
-    returns
+    shared-slice-read-larger
+    larger-requires
     add-i
     loop-less
     loop-again
-    returns-2)
+    returns)
