@@ -32,7 +32,7 @@ module _ {A B : Type 0} where
   every-of P f [] h = tt
   every-of P f (x ∷ l) h = every-append P (f x) (gather f l) (h .0) (every-of P f l (h .1))
 
-  every-each : (P : B → Type 0) (f : A → List B) (l : List A) → Every P (gather f l) → Every (λ (x : A). Every P (f x)) l
+  pub every-each : (P : B → Type 0) (f : A → List B) (l : List A) → Every P (gather f l) → Every (λ (x : A). Every P (f x)) l
   every-each P f [] h = tt
   every-each P f (x ∷ l) h = (every-left P (f x) (gather f l) h, every-each P f l (every-right P (f x) (gather f l) h))
 

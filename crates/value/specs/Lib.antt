@@ -19,3 +19,9 @@ pub mod Values
 pub mod Says
 -- The answer without a time
 pub mod Untimed
+-- The neighbours of a time by candidates
+pub mod Nearest
+-- The times of an ascending list on either side of a time
+pub mod Beside
+-- The samples of a segment on either side of a time
+pub mod Turns
