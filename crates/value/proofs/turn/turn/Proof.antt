@@ -19,9 +19,9 @@ begins-at-requires-2 c κs = search needs
 
 returns : tie.Need-returns
 returns c =
-    let b = c .before .before .before .before in
-    let a = b .before .args in
-    let h = b .begins-at .ensures .1 (not-true (b .begins-at .result) (c .before .before .before .if1 .taken)) in
+    let b = c .before .before .before in
+    let a = b .before .before .args in
+    let h = b .begins-at .ensures .1 (not-true (b .begins-at .result) (c .before .before .if1 .taken)) in
     turn-next (isBeyond (a .t) (knot (a .sa) (a .ca), knot (a .sb) (a .cb))) (now (a .cs)) (a .hint) (h .0) (h .1) (c .before .begins-at2 .ensures .0 (c .if2 .taken))
 
 search-turn-requires : tie.Need-search-turn-requires
