@@ -2,3 +2,4 @@
 pub mod ClipTimes
 pub mod Neighbours
 pub mod Sorts
+pub mod Beside

@@ -1,4 +1,5 @@
 // Lists of times as they are lent: tests over the whole list, and the search in an ascending one.
+pub mod near;
 pub mod sorting;
 pub mod writing;
 
