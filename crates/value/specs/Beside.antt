@@ -8,7 +8,7 @@ use native.Mathlib.Decide.{decLe}
 use lib.Dec.{T, ltb}
 use lib.ListN.{length, getD}
 use lib.Ieee.{Float, nan, lt, le}
-use borrow.Author.Tests.{ltb-true, ltb-false}
+use borrow.Author.Tests.{ltb-true, lt-ltb}
 use Rattle.gf.specs.Key.{key, le→key, lt→key, key→le, key→lt, le-refl, le-no-nan, lt→le, finite-no-nan}
 use Rattle.gf.specs.declared.interval.Interval.{Interval}
 use Rattle.definitions.specs.Lists.{keep}
@@ -29,6 +29,13 @@ use Rattle.value.specs.Nearest.{LowerMet, UpperMet, Met, Sided, Nearer, 
 
 pub finite-number : (x : Float) → FiniteDouble x → Number x
 finite-number x f = (f .fitting, finite-no-nan x (f .finitely))
+
+-- the time at a place
+abbrev pub timeAt : List Float → ℕ → List Float
+timeAt xs i = cond (ltb i (length xs)) (getD xs i nan ∷ []) []
+
+unfoldable pub withPlace : Interval → Float → List Float → Bounds → ℕ → Bounds
+withPlace w t xs h i = cond (ltb i (length xs)) (withInside w t h (getD xs i nan)) h
 
 -- ---- a time inside its window
 
@@ -118,3 +125,44 @@ module _ (xs : List Float) (a : Ascending xs) where
                 meet-above w t F r (getD xs j nan) (getD xs (i + 1) nan) (number-at j h) (number-at (i + 1) l) k (climb (i + 1) j (omega (arith, counted)) h) u (next l)
           ]
         ]
+
+-- ---- a search at those two places
+
+module _ (t : Float) (w : Interval) (xs : List Float) where
+  place-searched : (h : Bounds) (i : ℕ) → Searched t (keep (inside w) (timeAt xs i)) h (withPlace w t xs h i)
+  unfolding withPlace
+  place-searched h i = go (ltb i (length xs))
+    where
+      go : (b : Bool) → Searched t (keep (inside w) (cond b (getD xs i nan ∷ []) [])) h (cond b (withInside w t h (getD xs i nan)) h)
+      go true = searched-inside t w h (getD xs i nan)
+      go false = searched-none t h
+
+  every-place : (P : Float → Type 0) (i : ℕ) → Every P (keep (inside w) xs) → Every P (keep (inside w) (timeAt xs i))
+  every-place P i h = go (ltb i (length xs)) refl
+    where
+      go : (b : Bool) → ltb i (length xs) ≡ b → Every P (keep (inside w) (cond b (getD xs i nan ∷ []) []))
+      go true e = every-if P (inside w) (getD xs i nan ∷ []) (every-at (λ (x : Float). T (inside w x) → P x) xs i nan (every-kept P (inside w) xs h) (ltb-true i (length xs) e), tt)
+      go false e = tt
+
+  place-known : (P : Float → Type 0) (i : ℕ) → Every P (keep (inside w) (timeAt xs i)) → i < length xs → T (inside w (getD xs i nan)) → P (getD xs i nan)
+  place-known P i h l =
+      every-kept P (inside w) (getD xs i nan ∷ []) (subst (λ (b : Bool). Every P (keep (inside w) (cond b (getD xs i nan ∷ []) []))) (lt-ltb i (length xs) l) h) .0
+
+  pub beside-searched : Facing w t → FiniteDouble t → Ascending xs → (i : ℕ) → i ≡ lastAtMost xs t → (h : Bounds) → Searched t (keep (inside w) xs) h (withPlace w t xs (withPlace w t xs h i) (i + 1))
+  beside-searched F ft a i at h =
+      let m = withPlace w t xs h i in
+      let r = withPlace w t xs m (i + 1) in
+      record {
+        run = λ nt g N x s.
+            let u = place-searched h i .run nt g N (every-place (λ (y : Float). In y g) i x) s in
+            let v = place-searched m (i + 1) .run nt g N (every-place (λ (y : Float). In y g) (i + 1) x) (u .among) in
+            record {
+              among = v .among;
+              known = times-met xs a t ft i at w F r (λ l y. v .kept (getD xs i nan) (place-known (Met t m) i (u .known) l y)) (place-known (Met t r) (i + 1) (v .known));
+              kept = λ y z. v .kept y (u .kept y z);
+            };
+      }
+
+-- the place of the last time ≤ t is a place, or 0
+pub last-small : (xs : List Float) (a : Ascending xs) (t : Float) → Fits t → lastAtMost xs t ≤ length xs
+last-small xs a t f = omega (arith, last-is t f xs a, at-most-length xs t)

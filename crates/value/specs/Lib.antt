@@ -25,3 +25,9 @@ pub mod Nearest
 pub mod Beside
 -- The samples of a segment on either side of a time
 pub mod Turns
+-- How far the inverse times of the segments reach
+pub mod Tops
+-- The inverse times of all segments by those near a time
+pub mod Reaches
+-- A window as it is handed on
+pub mod Windowed
