@@ -31,3 +31,9 @@ pub mod Tops
 pub mod Reaches
 -- A window as it is handed on
 pub mod Windowed
+-- The jump test from a place down
+pub mod Jumps
+-- The clip time on a segment that holds the time
+pub mod ClipTimes
+-- What is handed on of a window
+pub mod Handed

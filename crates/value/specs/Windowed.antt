@@ -58,6 +58,12 @@ windowTimes xs ys cs w = w .start ∷ ((keep (inside (intervalOf w)) xs ++ keep 
 unfoldable pub windowSource : List Float → List Float → List Float → Window → Float → Source
 windowSource xs ys times w t = cond (ltb (w .begin) (w .end)) (sample (w .clip) (lastAtMost (samplesIn times w) (mapTime (knotsOf xs ys) t))) (w .gap)
 
+-- the samples that a reading asks for
+pub record Lent (times : List Float) (w : Window) : Type 0 where
+  pub order : w .begin ≤ w .end
+  pub upto : w .end ≤ length times
+  pub rising : Ascending (samplesIn times w)
+
 -- ---- the starts
 
 module _ (w : Window) (t : Float) {h : Bounds} (first : h ≡ withNear t nothing (w .start)) where

@@ -7,6 +7,7 @@ pub mod jump;
 pub mod near;
 pub mod pass;
 pub mod segments;
+pub mod tops;
 pub mod turn;
 pub mod untimed;
 pub mod value;

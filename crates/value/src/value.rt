@@ -96,7 +96,7 @@ pub fn value_source(
             t,
         );
     };
-    if is_jump(xs, ys, l, h) {
+    if is_jump(xs, ys, l, h, 0) {
         return direct_source(
             starts,
             clips,

@@ -28,7 +28,7 @@ pub struct Bounds {
 }
 
 // The first window reaches down without end.
-fn window_min(starts: &[f64], p: usize) -> f64
+pub fn window_min(starts: &[f64], p: usize) -> f64
     requires { ⌜ p < length (now starts) ⌝ }
     ensures { λ r. ⌜ r ≡ minOf (now (starts .entry)) p ⌝ }
 {
@@ -39,7 +39,7 @@ fn window_min(starts: &[f64], p: usize) -> f64
 }
 
 // The last one reaches up without end.
-fn window_max(starts: &[f64], p: usize) -> f64
+pub fn window_max(starts: &[f64], p: usize) -> f64
     requires { ⌜ p < length (now starts) ⌝ }
     ensures { λ r. ⌜ r ≡ maxOf (now (starts .entry)) p ⌝ }
 {
