@@ -67,7 +67,7 @@ module _ (xs ys : List Float) (a : Ascending xs) (e : length xs ≡ length ys) (
           let z : length xs ≡ n = omega arith in
           let d = knot x y in
           let w : lastKnot d (knotsOf xs ys) ≡ knot (getD (x ∷ xs) (length xs) nan) (getD (y ∷ ys) (length xs) nan) =
-              last-knot-is d (knotsOf xs ys) d ∙ rw (zip-length knot xs ys (omega arith)) (zip-at knot (x ∷ xs) (y ∷ ys) (length xs) nan nan d (omega arith) (omega arith)) in
+          last-knot-is d (knotsOf xs ys) d ∙ rw (zip-length knot xs ys (omega arith)) (zip-at knot (x ∷ xs) (y ∷ ys) (length xs) nan nan d (omega arith) (omega arith)) in
           let f : getD (knotsOf (x ∷ xs) (y ∷ ys)) (suc i) d ≡ knot (getD (x ∷ xs) (i + 1) nan) (getD (y ∷ ys) (i + 1) nan) = rw add-one (zip-at knot (x ∷ xs) (y ∷ ys) (suc i) nan nan d (omega arith) (omega arith)) in
           rw (p, w, z, q, knot-times (x ∷ xs) (y ∷ ys) e, ← l, zip-at knot (x ∷ xs) (y ∷ ys) i nan nan d (omega arith) (omega arith), f)
 

@@ -136,12 +136,12 @@ module _ (t : Float) (w : Interval) (xs ys cs : List Float) where
             known = λ n y b. elim (decLe j n) [
               | yes v ↦ u .known n v b
               | no v ↦ segment-times n (Met t r)
-                    (λ c z o. let y = inverse-number n (omega arith) c z .0 in
-                    let xi = number-at xs a i l in
-                    let b = O .above (j - 1) n (omega arith) (omega arith) c z in
-                    let m = le-trans (inv n c) (getD tops (j - 1) nan) (getD xs i nan) (y .0) f (xi .0) b (subst T (sym d) tt) in
-                    meet-below w t F r (inv n c) (getD xs i nan) y xi (le→key (inv n c) (getD xs i nan) (y .0) (xi .0) (y .1) (xi .1) m)
-                    (last-reached xs a t ft i at (omega arith) l) o (λ v. u .kept (getD xs i nan) (k v)))
+                  (λ c z o. let y = inverse-number n (omega arith) c z .0 in
+                  let xi = number-at xs a i l in
+                  let b = O .above (j - 1) n (omega arith) (omega arith) c z in
+                  let m = le-trans (inv n c) (getD tops (j - 1) nan) (getD xs i nan) (y .0) f (xi .0) b (subst T (sym d) tt) in
+                  meet-below w t F r (inv n c) (getD xs i nan) y xi (le→key (inv n c) (getD xs i nan) (y .0) (xi .0) (y .1) (xi .1) m)
+                  (last-reached xs a t ft i at (omega arith) l) o (λ v. u .kept (getD xs i nan) (k v)))
             ];
             kept = u .kept;
           };
@@ -209,11 +209,11 @@ module _ (t : Float) (w : Interval) (xs ys cs : List Float) where
             among = v .among;
             known = from-places (Met t r)
                 (λ j d. elim (decLe i j) [
-                | no o ↦ v .known j zero-le (omega arith)
-                | yes o ↦ elim (decLe j i) [
-                  | yes o′ ↦ let z : i ≡ j = omega arith in subst (λ (n : ℕ). Every (Met t r) (timesOf w xs ys cs n)) z (every-map (Met t m) (Met t r) (v .kept) (timesOf w xs ys cs i) (u .known))
-                  | no o′ ↦ behind r (λ _ d. v .kept (getD xs (i + 1) nan) (u .kept (getD xs (i + 1) nan) (knot-known h k (i + 1) b d))) j (omega arith) d
-                ]
+                  | no o ↦ v .known j zero-le (omega arith)
+                  | yes o ↦ elim (decLe j i) [
+                    | yes o′ ↦ let z : i ≡ j = omega arith in subst (λ (n : ℕ). Every (Met t r) (timesOf w xs ys cs n)) z (every-map (Met t m) (Met t r) (v .kept) (timesOf w xs ys cs i) (u .known))
+                    | no o′ ↦ behind r (λ _ d. v .kept (getD xs (i + 1) nan) (u .kept (getD xs (i + 1) nan) (knot-known h k (i + 1) b d))) j (omega arith) d
+                  ]
                 ]);
             kept = λ z d. v .kept z (u .kept z d);
           };
