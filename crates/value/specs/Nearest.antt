@@ -77,11 +77,11 @@ abbrev pub Met : Float → Bounds → Float → Type 0
 Met t n x = (key x ≤ key t → LowerMet (n .lower) x) × (key t < key x → UpperMet (n .upper) x)
 
 -- the bounds are among the times of g, on their sides of t
-abbrev LowerIn : List Float → Float → Bound → Type 0
+abbrev pub LowerIn : List Float → Float → Bound → Type 0
 LowerIn g t (At l) = In l g × (key l ≤ key t)
 LowerIn g t Nothing = Unit {0}
 
-abbrev UpperIn : List Float → Float → Bound → Type 0
+abbrev pub UpperIn : List Float → Float → Bound → Type 0
 UpperIn g t (At h) = In h g × (key t < key h)
 UpperIn g t Nothing = Unit {0}
 

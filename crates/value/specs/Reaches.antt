@@ -1,5 +1,5 @@
--- The inverse times of all segments by those of the segment of t: behind it they are not below the next knot, before it they are not above the knot of t,
--- but for rounding. Assumes nothing.
+-- The inverse times of all segments by those of the segment of t: behind it they are not below the next knot, before it they are not above the knot of t, but
+-- for rounding. Assumes nothing.
 use mathlib.Core.Path.{_≡_, refl, sym, ap, ap₂, _∙_, subst}
 use mathlib.Core.Logic.{_⊎_, inl, inr}
 use mathlib.Core.Bool.{Bool, true, false, cond}
@@ -26,12 +26,14 @@ use Rattle.cell_laws.specs.Every.{every-by, every-kept, every-map, every-append
 use Rattle.cell_laws.specs.Ends.{Number}
 use Rattle.cell_laws.specs.Places.{Fits}
 use Rattle.cell_laws.specs.Unpacked.{knotsOf}
+use Rattle.value.specs.declared.window.Bound.{Bound}
+use Rattle.value.specs.declared.window.Bound.the-variants.{At, Nothing}
 use Rattle.value.specs.declared.window.Bounds.{Bounds}
-use Rattle.value.specs.Bounds.{In, inside}
+use Rattle.value.specs.Bounds.{In, in-every, inside}
 use Rattle.value.specs.Inverses.{onSegment, inversesOf, every-of, every-each, every-if, by-samples, by-segments, knots-long, knots-at}
 use Rattle.value.specs.Near.{Segment, inverse-fits, range}
-use Rattle.value.specs.Nearest.{Met, Sided, Nearer, Searched}
-use Rattle.value.specs.Beside.{Facing, meet-below, meet-above, number-at, climb, next-above, last-reached}
+use Rattle.value.specs.Nearest.{LowerMet, UpperMet, Met, LowerIn, Sided, Nearer, Searched}
+use Rattle.value.specs.Beside.{Facing, meet-above, number-at, climb, next-above}
 use Rattle.value.specs.Tops.{segmentOf, TopsOf, segment-here}
 
 -- ---- what a search among knots and samples asks
@@ -43,6 +45,14 @@ pub record Searchable (xs ys cs : List Float) (w : Interval) (t : Float) : Type 
   pub samples : Ascending cs
   pub time : FiniteDouble t
   pub faces : Facing w t
+
+-- no time up to `top` is above the lower neighbour
+abbrev pub PastAll : Bound → Float → Type 0
+PastAll (At l) top = T (le top l)
+PastAll Nothing top = ⊥
+
+pub past-all : (b : Bound) (l top : Float) → b ≡ At l → le top l ≡ true → PastAll b top
+past-all b l top e h = rw e (subst T (sym h) tt)
 
 -- ---- what a search among segments promises
 
@@ -58,12 +68,7 @@ pub record Reaching (g : List Float) (t : Float) (w : Interval) (xs ys cs : List
 pub record Reached (t : Float) (w : Interval) (xs ys cs : List Float) (from to : ℕ) (held r : Bounds) : Type 0 where
   pub run : Number t → (g : List Float) → Every Number g → ((j : ℕ) → from ≤ j → j < to → Every (λ (x : Float). In x g) (timesOf w xs ys cs j)) → Sided g t held → Reaching g t w xs ys cs from to held r
 
--- the same of all segments before the place i, where the knot at i is known
-pub record Before (t : Float) (w : Interval) (xs ys cs : List Float) (i : ℕ) (held r : Bounds) : Type 0 where
-  pub run : Number t → (g : List Float) → Every Number g → ((j : ℕ) → j < i → Every (λ (x : Float). In x g) (timesOf w xs ys cs j)) → Sided g t held
-      → (T (inside w (getD xs i nan)) → Met t held (getD xs i nan)) → Reaching g t w xs ys cs 0 i held r
-
--- and of all segments, where the knots are
+-- and of all segments, where the knots are known
 pub record Around (t : Float) (w : Interval) (xs ys cs : List Float) (held r : Bounds) : Type 0 where
   pub run : Number t → (g : List Float) → Every Number g → Every (λ (x : Float). In x g) (keep (inside w) (inversesOf (knotsOf xs ys) cs)) → Sided g t held → Every (Met t held) (keep (inside w) xs)
       → Nearer g t (keep (inside w) (inversesOf (knotsOf xs ys) cs)) held r
@@ -88,9 +93,6 @@ module _ (t : Float) (w : Interval) (xs ys cs : List Float) where
           kept = λ x y. v .kept x (u .kept x y);
         };
   }
-
-  pub before-all : (i : ℕ) {h r : Bounds} → Reached t w xs ys cs 0 i h r → Before t w xs ys cs i h r
-  before-all i {h} {r} A = record { run = λ nt g N e s k. A .run nt g N (λ j a b. e j b) s }
 
   -- what a segment's inverse times are, one by one
   segment-times : (j : ℕ) (P : Float → Type 0) → ((c : Float) → T (spans (getD ys j nan) (getD ys (j + 1) nan) c) → T (inside w (inverse (segmentOf xs ys j .0) (segmentOf xs ys j .1) c)) → P (inverse (segmentOf xs ys j .0) (segmentOf xs ys j .1) c))
@@ -124,28 +126,29 @@ module _ (t : Float) (w : Interval) (xs ys cs : List Float) where
         let f = inverse-fits (segmentOf xs ys j) c in
         ((f, n .1), le→key (getD xs j nan) (inv j c) (x .0) f (x .1) (n .1) (r .0))
 
-    -- ---- the segments before those that were searched reach no further than the knot of t
+    -- ---- the segments before those that were searched reach no further than the lower neighbour
 
-    pub before-tops : (tops : List Float) → TopsOf xs ys tops → (j : ℕ) → 0 < j → j ≤ i → Fits (getD tops (j - 1) nan) → le (getD tops (j - 1) nan) (getD xs i nan) ≡ true
-        → {h r : Bounds} → Reached t w xs ys cs j i h r → Before t w xs ys cs i h r
-    before-tops tops O j p q f d {h} {r} A = record {
-      run = λ nt g N x s k.
-          let u = A .run nt g N (λ n y b. x n b) s in
+    pub reached-tops : (tops : List Float) → TopsOf xs ys tops → (j : ℕ) → 0 < j → j ≤ i → Fits (getD tops (j - 1) nan)
+        → {h r : Bounds} → PastAll (r .lower) (getD tops (j - 1) nan) → Reached t w xs ys cs j i h r → Reached t w xs ys cs 0 i h r
+    reached-tops tops O j p q f {h} {r} d A = record {
+      run = λ nt g N x s.
+          let u = A .run nt g N (λ n y b. x n zero-le b) s in
           record {
             among = u .among;
             known = λ n y b. elim (decLe j n) [
               | yes v ↦ u .known n v b
-              | no v ↦ segment-times n (Met t r)
-                  (λ c z o. let y = inverse-number n (omega arith) c z .0 in
-                  let xi = number-at xs a i l in
-                  let b = O .above (j - 1) n (omega arith) (omega arith) c z in
-                  let m = le-trans (inv n c) (getD tops (j - 1) nan) (getD xs i nan) (y .0) f (xi .0) b (subst T (sym d) tt) in
-                  meet-below w t F r (inv n c) (getD xs i nan) y xi (le→key (inv n c) (getD xs i nan) (y .0) (xi .0) (y .1) (xi .1) m)
-                  (last-reached xs a t ft i at (omega arith) l) o (λ v. u .kept (getD xs i nan) (k v)))
+              | no v ↦ segment-times n (Met t r) (λ c z o. past (r .lower) g N (u .among .0) d (inv n c) (inverse-number n (omega arith) c z .0) (O .above (j - 1) n (omega arith) (omega arith) c z))
             ];
             kept = u .kept;
           };
     }
+      where
+        past : (b : Bound) (g : List Float) → Every Number g → LowerIn g t b → PastAll b (getD tops (j - 1) nan) → (x : Float) → Number x → T (le x (getD tops (j - 1) nan)) → (key x ≤ key t → LowerMet b x) × (key t < key x → UpperMet (r .upper) x)
+        past Nothing g N m e x n k = absurd e
+        past (At l) g N m e x n k =
+            let nl = in-every Number l g N (m .0) in
+            let v = le→key x l (n .0) (nl .0) (n .1) (nl .1) (le-trans x (getD tops (j - 1) nan) l (n .0) f (nl .0) k e) in
+            (λ _. v, λ y. absurd (omega (arith, m .1)))
 
     -- ---- those behind begin at the next knot
 
@@ -199,12 +202,12 @@ module _ (t : Float) (w : Interval) (xs ys cs : List Float) where
     knot-known h k j b = every-at (λ (x : Float). T (inside w x) → Met t h x) xs j nan (every-kept (Met t h) (inside w) xs k) b
 
     -- t lies in a segment
-    pub around-own : {h m r : Bounds} → i + 1 < length xs → Searched t (timesOf w xs ys cs i) h m → Before t w xs ys cs i m r → Around t w xs ys cs h r
+    pub around-own : {h m r : Bounds} → i + 1 < length xs → Searched t (timesOf w xs ys cs i) h m → Reached t w xs ys cs 0 i m r → Around t w xs ys cs h r
     around-own {h} {m} {r} b A B = record {
       run = λ nt g N x s k.
           let y = to-places (λ (z : Float). In z g) x in
           let u = A .run nt g N (y i b) s in
-          let v = B .run nt g N (λ j d. y j (omega arith)) (u .among) (λ d. u .kept (getD xs i nan) (knot-known h k i l d)) in
+          let v = B .run nt g N (λ j z d. y j (omega arith)) (u .among) in
           record {
             among = v .among;
             known = from-places (Met t r)
@@ -220,10 +223,10 @@ module _ (t : Float) (w : Interval) (xs ys cs : List Float) where
     }
 
     -- or from the last knot on
-    pub around-last : {h r : Bounds} → length xs ≤ i + 1 → Before t w xs ys cs i h r → Around t w xs ys cs h r
+    pub around-last : {h r : Bounds} → length xs ≤ i + 1 → Reached t w xs ys cs 0 i h r → Around t w xs ys cs h r
     around-last {h} {r} b B = record {
       run = λ nt g N x s k.
-          let v = B .run nt g N (λ j d. to-places (λ (z : Float). In z g) x j (omega arith)) s (knot-known h k i l) in
+          let v = B .run nt g N (λ j z d. to-places (λ (o : Float). In o g) x j (omega arith)) s in
           record { among = v .among; known = from-places (Met t r) (λ j d. v .known j zero-le (omega arith)); kept = v .kept };
     }
 

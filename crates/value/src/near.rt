@@ -10,13 +10,14 @@ use super::window::Bounds;
 use super::windowed::Window;
 use gf::interval::Interval;
 ghost use mathlib.Core.Path.{_≡_};
+ghost use mathlib.Core.Bool.{true};
 ghost use Prim.Native.Nat.{_+_, _<_};
 ghost use lib.ListN.{length};
 ghost use Rattle.definitions.specs.Timing.{lastAtMost};
 ghost use Rattle.value.specs.Bounds.{nothing, NeighboursAre};
 ghost use Rattle.value.specs.Nearest.{Searched};
 ghost use Rattle.value.specs.Tops.{TopsOf};
-ghost use Rattle.value.specs.Reaches.{Searchable, timesOf, Before, Around};
+ghost use Rattle.value.specs.Reaches.{Searchable, PastAll, timesOf, Reached, Around};
 ghost use Rattle.value.specs.Windowed.{boundsOf, startsOf, windowTimes, Nearing};
 
 // The neighbours of a time, the place of the last knot that is at most it, and the place of a sample beside it: hints for the next search.
@@ -58,7 +59,18 @@ fn near_segment(
     }
 }
 
-// With those of the segments before the knot at `i`, the last one at most `t`: only by rounding can one reach past that knot, and then it is searched.
+// No time up to `top` is above the lower neighbour.
+fn is_past(lower: Bound, top: f64) -> bool
+    ensures { λ r. ⌜ ((r ≡ true) → PastAll lower top) ⌝ }
+{
+    if let Bound::At(l) = lower {
+        return top <= l;
+    }
+    false
+}
+
+// With those of the segments before the knot at `i`, until none can reach past the lower neighbour. That neighbour is not below the knot, so only by
+// rounding does one reach past it.
 fn near_before(
     held: Bounds,
     xs: &[f64],
@@ -71,14 +83,14 @@ fn near_before(
     sample: usize,
 ) -> Bounds
     requires { ⌜ Searchable (now xs) (now ys) (now cs) w t ⌝ ∗ ⌜ TopsOf (now xs) (now ys) (now tops) ⌝ ∗ ⌜ i < length (now xs) ⌝ ∗ ⌜ i ≡ lastAtMost (now xs) t ⌝ }
-    ensures { λ r. ⌜ Before t w (now (xs .entry)) (now (ys .entry)) (now (cs .entry)) i held r ⌝ }
+    ensures { λ r. ⌜ Reached t w (now (xs .entry)) (now (ys .entry)) (now (cs .entry)) 0 i held r ⌝ }
 {
-    let reach = xs[i];
     let mut r = held;
     let mut j = i;
     while j > 0 {
         let before = j - 1;
-        if tops[before] <= reach {
+        let low = r.lower;
+        if is_past(low, tops[before]) {
             return r;
         }
         let found = near_segment(r, xs, ys, cs, before, w, t, sample);

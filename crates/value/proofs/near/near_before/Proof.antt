@@ -1,30 +1,21 @@
 -- `value::near::near_before` meets its contract: the segments from j up to i are searched. Assumes nothing.
 use Prim.Native.Nat.{ℕ, _-_, _≤_}
-use mathlib.Core.Path.{_≡_, sym, subst}
+use mathlib.Core.Path.{_≡_, subst}
 use native.Mathlib.Omega.{arith}
-use lib.Dec.{T}
-use lib.ListN.{getD}
-use lib.Ieee.{nan}
 use denote.Ref.{now}
 use borrow.Author.Needs.{needs}
-use Rattle.value.specs.Reaches.{Reached, reached-none, reached-one, before-all, before-tops}
+use Rattle.value.specs.Reaches.{Reached, reached-none, reached-one, reached-tops}
 use Rattle.value.proofs.near.near_before.Statement.{statement}
 use Rattle.value.proofs.near.near_before.Tie as tie
 
 abbrev Inv-loop : tie.InvT-loop
-Inv-loop xs ys tops cs i w t sample reach r₀ j₀ r j = (j ≤ i) × Reached t w xs ys cs j i r₀ r
+Inv-loop xs ys tops cs i w t sample r₀ j₀ r j = (j ≤ i) × Reached t w xs ys cs j i r₀ r
 
 abbrev μ-loop : tie.MeasureT-loop
-μ-loop xs ys tops cs i w t sample reach r₀ j₀ r j = j
+μ-loop xs ys tops cs i w t sample r₀ j₀ r j = j
 
 abbrev entry : tie.At-loop Inv-loop μ-loop → tie.Start Inv-loop μ-loop
-entry k = k .before .before .before .before .before .before
-
-mul-reach : tie.Need-mul-reach Inv-loop μ-loop
-mul-reach c = search needs
-
-shared-slice-read-reach : tie.Need-shared-slice-read-reach Inv-loop μ-loop
-shared-slice-read-reach c = search needs
+entry k = k .before .before .before .before .before
 
 loop-holds : tie.Need-loop-holds Inv-loop μ-loop
 loop-holds c = (omega arith, reached-none _ _ _ _ _ _ _)
@@ -32,25 +23,27 @@ loop-holds c = (omega arith, reached-none _ _ _ _ _ _ _)
 sub-before : tie.Need-sub-before Inv-loop μ-loop
 sub-before c = omega arith
 
-mul-if1 : tie.Need-mul-if1 Inv-loop μ-loop
-mul-if1 c = search needs
+mul-is-past : tie.Need-mul-is-past Inv-loop μ-loop
+mul-is-past c = search needs
 
-shared-slice-read-if1 : tie.Need-shared-slice-read-if1 Inv-loop μ-loop
-shared-slice-read-if1 c = omega (arith, entry (c .before .before) .pre .1 .0 .long)
+shared-slice-read-is-past : tie.Need-shared-slice-read-is-past Inv-loop μ-loop
+shared-slice-read-is-past c = omega (arith, entry (c .before .before) .pre .1 .0 .long)
+
+is-past-requires : tie.Need-is-past-requires Inv-loop μ-loop
+is-past-requires c κs = search needs
 
 returns : tie.Need-returns Inv-loop μ-loop
 returns c =
-    let k = c .before .before .before in
+    let k = c .before .before .before .before in
     let s = entry k in
     let a = s .args in
     let R = s .pre .0 in
-    before-tops (a .t) (a .w) (now (a .xs)) (now (a .ys)) (now (a .cs)) (R .faces) (R .time) (R .knots) (R .paired) (R .segments) (a .i) (s .pre .1 .1 .1) (s .pre .1 .1 .0) (now (a .tops)) (s .pre .1 .0) (k .loop .j) (omega arith) (k .loop .inv .0)
-    (c .before .shared-slice-known6 .given (k .loop .j - 1)) (c .if1 .taken) (k .loop .inv .1)
+    reached-tops (a .t) (a .w) (now (a .xs)) (now (a .ys)) (now (a .cs)) (R .faces) (R .time) (R .knots) (R .paired) (R .segments) (a .i) (s .pre .1 .1 .1) (s .pre .1 .1 .0) (now (a .tops)) (s .pre .1 .0) (k .loop .j) (omega arith) (k .loop .inv .0)
+    (c .before .before .shared-slice-known5 .given (k .loop .j - 1)) (c .before .is-past .ensures (c .if1 .taken)) (k .loop .inv .1)
 
 near-segment-requires : tie.Need-near-segment-requires Inv-loop μ-loop
 near-segment-requires c κs =
-    let k = c .before .before .before in
-    let s = entry k in
+    let s = entry (c .before .before .before .before) in
     (s .pre .0, omega (arith, s .pre .1 .1 .0))
 
 loop-less : tie.Need-loop-less Inv-loop μ-loop
@@ -58,7 +51,7 @@ loop-less c = omega arith
 
 loop-again : tie.Need-loop-again Inv-loop μ-loop
 loop-again c =
-    let k = c .before .before .before .before in
+    let k = c .before .before .before .before .before in
     let a = entry k .args in
     (omega arith, reached-one (a .t) (a .w) (now (a .xs)) (now (a .ys)) (now (a .cs)) (k .loop .j) (k .loop .j - 1) (a .i) (omega arith) (k .loop .inv .1) (c .near-segment .ensures) (omega arith))
 
@@ -67,7 +60,7 @@ returns-2 c =
     let k = c .before in
     let a = entry k .args in
     let z : k .loop .j ≡ 0 = omega arith in
-    before-all (a .t) (a .w) (now (a .xs)) (now (a .ys)) (now (a .cs)) (a .i) (subst (λ (j : ℕ). Reached (a .t) (a .w) (now (a .xs)) (now (a .ys)) (now (a .cs)) j (a .i) (a .held) (k .loop .r)) z (k .loop .inv .1))
+    subst (λ (j : ℕ). Reached (a .t) (a .w) (now (a .xs)) (now (a .ys)) (now (a .cs)) j (a .i) (a .held) (k .loop .r)) z (k .loop .inv .1)
 
 pub near-before-spec : {M : Type 1} → statement M
 near-before-spec =
@@ -75,12 +68,11 @@ near-before-spec =
     (tie.spec
     Inv-loop
     μ-loop
-    mul-reach
-    shared-slice-read-reach
     loop-holds
     sub-before
-    mul-if1
-    shared-slice-read-if1
+    mul-is-past
+    shared-slice-read-is-past
+    is-past-requires
     returns
     near-segment-requires
     loop-less
