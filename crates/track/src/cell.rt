@@ -112,7 +112,7 @@ fn direct_cell(
 // The time whose direct value is held between two neighbours: the lower one, unless one of them is
 // missing or two knots share an x between them.
 fn held_from(xs: &[f64], ys: &[f64], near: Bounds) -> Bound
-    requires { ⌜ length (now xs) ≡ length (now ys) ⌝ }
+    requires { ⌜ Ascending (now xs) ⌝ ∗ ⌜ length (now xs) ≡ length (now ys) ⌝ }
     ensures { λ r. ⌜ r ≡ heldOf (knotsOf (now (xs .entry)) (now (ys .entry))) (near .lower) (near .upper) ⌝ }
 {
     let lower = near.lower;
@@ -123,7 +123,7 @@ fn held_from(xs: &[f64], ys: &[f64], near: Bounds) -> Bound
     let Bound::At(h) = upper else {
         return Bound::Nothing;
     };
-    if is_jump(xs, ys, l, h) {
+    if is_jump(xs, ys, l, h, 0) {
         return Bound::Nothing;
     }
     Bound::At(l)

@@ -37,7 +37,7 @@ neighbours-requires : tie.Need-neighbours-requires
 neighbours-requires c κs = (entry c .pre .0, place c)
 
 held-from-requires : tie.Need-held-from-requires
-held-from-requires c κs = search needs
+held-from-requires c κs = let R = entry (c .before) .pre .0 in (ready-readable R .knots, R .knots-paired)
 
 enum-known-l : tie.Need-enum-known-l
 enum-known-l c = search needs
