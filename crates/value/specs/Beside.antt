@@ -1,7 +1,7 @@
 -- The times of an ascending list on either side of a time stand for all of them. Assumes nothing.
-use mathlib.Core.Path.{_≡_, refl, sym, ap, ap₂, _∙_, subst}
-use mathlib.Core.Bool.{Bool, true, false, not, _&&_, cond}
-use mathlib.Core.List.{List, [], _∷_, _++_}
+use mathlib.Core.Path.{_≡_, refl, _∙_, subst}
+use mathlib.Core.Bool.{Bool, true, false, cond}
+use mathlib.Core.List.{List, [], _∷_}
 use Prim.Native.Nat.{ℕ, _+_, _-_, _≤_, _<_}
 use native.Mathlib.Omega.{arith}
 use native.Mathlib.Decide.{decLe}
@@ -25,7 +25,7 @@ use Rattle.value.specs.declared.window.Bound.the-variants.{At, Nothing}
 use Rattle.value.specs.declared.window.Bounds.{Bounds}
 use Rattle.value.specs.Bounds.{In, inside}
 use Rattle.value.specs.Inverses.{every-if}
-use Rattle.value.specs.Nearest.{LowerMet, UpperMet, Met, Sided, Nearer, Searched, withInside, searched-none, searched-then, searched-inside}
+use Rattle.value.specs.Nearest.{LowerMet, UpperMet, Met, Searched, withInside, searched-none, searched-inside}
 
 pub finite-number : (x : Float) → FiniteDouble x → Number x
 finite-number x f = (f .fitting, finite-no-nan x (f .finitely))

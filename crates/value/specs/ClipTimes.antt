@@ -1,22 +1,20 @@
 -- The clip time on a segment that holds the time: it is that of the segment. Assumes nothing.
-use mathlib.Core.Path.{_≡_, refl, sym, ap, ap₂, _∙_, subst}
-use mathlib.Core.Bool.{true, false, cond}
+use mathlib.Core.Path.{_≡_, _∙_}
+use mathlib.Core.Bool.{true, false}
 use mathlib.Core.List.{List, [], _∷_}
-use Prim.Native.Nat.{ℕ, suc, _+_, _-_, _≤_, _<_}
+use Prim.Native.Nat.{ℕ, suc, _+_, _-_, _<_}
 use native.Mathlib.Numerals.{add-one}
 use native.Mathlib.Omega.{arith}
-use lib.Dec.{T}
 use lib.ListN.{length, getD}
 use lib.Ieee.{Float, nan, eq, lt, le}
-use Rattle.gf.specs.Key.{le-trans, lt-le-trans, lt-not-le, le-lt-trans}
+use Rattle.gf.specs.Key.{le-trans, lt-not-le}
 use Rattle.gf.specs.Lerp.{lerp}
-use Rattle.definitions.specs.declared.Knot.{Knot}
 use Rattle.definitions.specs.Explicit.{knot}
 use Rattle.definitions.specs.Timing.{lastAtMost, lastKnot, onSegment, mapTime}
-use Rattle.set_laws.specs.Tests.{is-true, is-false, holds}
+use Rattle.set_laws.specs.Tests.{is-false, holds}
 use Rattle.set_laws.specs.Every.{zip-at}
 use Rattle.set_laws.specs.ClipTime.{last-knot-is}
-use Rattle.set_laws.specs.Places.{Ascending, atMost, beyond, up-to, last-is}
+use Rattle.set_laws.specs.Places.{Ascending, beyond, up-to, last-is}
 use Rattle.cell_laws.specs.Places.{Fits}
 use Rattle.cell_laws.specs.Unpacked.{knotsOf, knot-times, zip-length}
 use Rattle.value.specs.Beside.{number-at}

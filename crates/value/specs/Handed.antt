@@ -2,18 +2,15 @@
 use mathlib.Core.Path.{_≡_, refl, sym, ap, ap₂, _∙_, subst}
 use mathlib.Core.Bool.{Bool, true, false, not, _&&_, cond}
 use mathlib.Core.List.{List, [], _∷_, _++_}
-use mathlib.Core.Option.{Option, none, some}
 use Prim.Native.Nat.{ℕ, suc, _+_, _-_, _≤_, _<_}
 use native.Mathlib.Omega.{arith}
 use lib.Dec.{T, eqb, ltb}
 use lib.ListN.{length, getD, getElem?, take, drop}
 use lib.Ieee.{Float, nan, inf, eq, lt, le}
-use borrow.Author.Tests.{ltb-true, ltb-false, lt-ltb, le-ltb, eqb-true, eqb-false}
+use borrow.Author.Tests.{ltb-true, ltb-false, lt-ltb, le-ltb, eqb-false}
 use Rattle.gf.specs.Key.{key→le, key→lt, le-trans, finite-no-nan}
 use Rattle.gf.specs.declared.interval.Interval.{Interval}
 use Rattle.definitions.specs.declared.Manifest.{Manifest}
-use Rattle.definitions.specs.declared.Start.{Start}
-use Rattle.definitions.specs.declared.Source.{Source}
 use Rattle.definitions.specs.declared.Source.the-variants.{Sample as sample}
 use Rattle.definitions.specs.Lists.{any, keep}
 use Rattle.definitions.specs.Doubles.{FiniteDouble}
@@ -21,7 +18,7 @@ use Rattle.definitions.specs.ClipSet.{ClipSet, stage}
 use Rattle.definitions.specs.Timing.{lastAtMost, mapTime}
 use Rattle.definitions.specs.Samples.{Samples, clipBegin, clipEnd}
 use Rattle.definitions.specs.Value.{startOf, gathered, directSource}
-use Rattle.set_laws.specs.Tests.{is-true, and-false, holds}
+use Rattle.set_laws.specs.Tests.{is-true, holds}
 use Rattle.set_laws.specs.Every.{Every, every-at}
 use Rattle.set_laws.specs.Places.{Ascending, atMost, at-most-length, at-most-is, beyond, last-is}
 use Rattle.cell_laws.specs.Every.{every-by}
@@ -32,7 +29,7 @@ use Rattle.cell_laws.specs.Unpacked.{activeOf, knotsOf, setOf, samplesOf, Ready
 use Rattle.value.specs.declared.windowed.Window.{Window}
 use Rattle.value.specs.Bounds.{inside}
 use Rattle.value.specs.Inverses.{inversesOf}
-use Rattle.value.specs.Reads.{partOf, readPart, read-none, read-some, ready-starts, ready-clip, ready-readable}
+use Rattle.value.specs.Reads.{partOf, read-none, read-some, ready-starts, ready-clip, ready-readable}
 use Rattle.value.specs.Sources.{standIn, reads-own, reads-empty, reads-out}
 use Rattle.value.specs.Windows.{minOf, maxOf, windowOf, windowPart, ifOwn, next-is, next-none, gathered-is}
 use Rattle.value.specs.Beside.{finite-number, number-at, climb, next-above, last-reached}

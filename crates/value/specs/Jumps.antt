@@ -3,13 +3,12 @@ use mathlib.Core.Path.{_≡_, refl, sym, ap, _∙_, subst}
 use mathlib.Core.Bool.{Bool, true, false, _&&_, _||_}
 use mathlib.Core.List.{List, [], _∷_}
 use Prim.Native.Nat.{ℕ, zero, suc, _+_, _≤_, _<_}
-use native.Mathlib.Numerals.{add-one}
 use native.Mathlib.Omega.{arith}
 use native.Mathlib.Decide.{decLe}
 use lib.Dec.{T}
 use lib.ListN.{length, getD}
 use lib.Ieee.{Float, nan, eq, lt, le}
-use Rattle.gf.specs.Key.{key, eq→key, key→le, le-trans, lt-le-trans}
+use Rattle.gf.specs.Key.{eq→key, key→le, le-trans, lt-le-trans}
 use Rattle.definitions.specs.Lists.{any, pairs, pairsFrom}
 use Rattle.definitions.specs.Timing.{lastAtMost}
 use Rattle.set_laws.specs.Tests.{is-true, is-false, holds}

@@ -1,24 +1,19 @@
 -- The neighbours of a time by candidates: of equal times any one will do, so plain comparisons are enough. What a search promises that looks at a few of the
 -- times and knows that the others lie beyond them. The order is that of the keys. Assumes nothing.
-use mathlib.Core.Path.{_≡_, refl, sym, ap, _∙_, subst}
-use mathlib.Core.Logic.{_⊎_, inl, inr}
-use mathlib.Core.Bool.{Bool, true, false, not, _&&_, cond}
+use mathlib.Core.Path.{_≡_, refl, sym, _∙_}
+use mathlib.Core.Bool.{Bool, true, false, not, cond}
 use mathlib.Core.List.{List, [], _∷_, _++_}
-use Prim.Native.Nat.{ℕ, _+_, _≤_, _<_}
+use Prim.Native.Nat.{_+_, _≤_, _<_}
 use native.Mathlib.Omega.{arith}
-use lib.Dec.{T, ltb, leb}
-use lib.ListN.{length, getD}
-use lib.Ieee.{Float, nan, lt, le, eq, isNan}
-use borrow.Author.Tests.{ltb-true, ltb-false, lt-ltb, le-ltb, leb-true, leb-false}
-use Rattle.gf.specs.Key.{key, le-is, lt-is, le→key, lt→key, key→le, key→lt, le-refl, le-both, finite-no-nan}
+use lib.Dec.{T}
+use lib.Ieee.{Float, lt, le, eq}
+use borrow.Author.Tests.{leb-true, leb-false}
+use Rattle.gf.specs.Key.{key, le-is, le→key, lt→key, key→le, key→lt, le-refl, le-both}
 use Rattle.gf.specs.declared.interval.Interval.{Interval}
 use Rattle.definitions.specs.Lists.{keep}
-use Rattle.definitions.specs.Doubles.{FiniteDouble}
 use Rattle.set_laws.specs.Every.{Every}
 use Rattle.cell_laws.specs.Every.{every-map, every-zip, every-append, every-left, every-right}
 use Rattle.cell_laws.specs.Ends.{Number}
-use Rattle.cell_laws.specs.Places.{Fits}
-use Rattle.cell_laws.specs.Neighbours.{IsLower, IsUpper}
 use Rattle.value.specs.declared.window.Bound.{Bound}
 use Rattle.value.specs.declared.window.Bound.the-variants.{At, Nothing}
 use Rattle.value.specs.declared.window.Bounds.{Bounds}

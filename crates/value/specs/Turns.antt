@@ -1,32 +1,32 @@
 -- One segment: its inverse times rise or fall with the samples, so they pass t at one place, and the two samples there stand for all. Assumes nothing.
-use mathlib.Core.Path.{_≡_, refl, sym, ap, ap₂, _∙_, subst}
-use mathlib.Core.Logic.{_⊎_, inl, inr}
-use mathlib.Core.Bool.{Bool, true, false, not, _&&_, _||_, cond}
-use mathlib.Core.List.{List, [], _∷_, _++_}
-use Prim.Native.Nat.{ℕ, zero, suc, _+_, _-_, _≤_, _<_}
+use mathlib.Core.Path.{_≡_, refl, sym, _∙_, subst}
+use mathlib.Core.Logic.{inl, inr}
+use mathlib.Core.Bool.{Bool, true, false, not, _&&_, cond}
+use mathlib.Core.List.{List, [], _∷_}
+use Prim.Native.Nat.{ℕ, suc, _+_, _-_, _≤_, _<_}
 use native.Mathlib.Omega.{arith}
 use native.Mathlib.Decide.{decLe}
 use lib.Dec.{T, ltb, leb}
 use lib.ListN.{length, getD}
 use lib.Ieee.{Float, nan, lt, le}
 use borrow.Author.Tests.{ltb-true, ltb-false, lt-ltb, le-ltb, leb-true, leb-false}
-use Rattle.gf.specs.Key.{key, lt-is, le-is, le→key, lt→key, key→le, key→lt, finite-no-nan}
+use Rattle.gf.specs.Key.{key, lt-is, le-is, le→key, lt→key, key→le, finite-no-nan}
 use Rattle.gf.specs.Exactly.{within-finite}
 use Rattle.gf.specs.declared.interval.Interval.{Interval}
 use Rattle.definitions.specs.declared.Knot.{Knot}
 use Rattle.definitions.specs.Lists.{keep, gather}
 use Rattle.definitions.specs.Value.{spans, inverse, onPair}
-use Rattle.set_laws.specs.Tests.{is-true, is-false}
+use Rattle.set_laws.specs.Tests.{is-true}
 use Rattle.set_laws.specs.Every.{Every, every-at}
 use Rattle.set_laws.specs.Places.{Ascending}
-use Rattle.cell_laws.specs.Every.{every-by, every-kept, every-map, both, both-l, both-r, or-l, or-r, or-split}
+use Rattle.cell_laws.specs.Every.{every-by, every-kept, both, both-l, both-r, or-l, or-r, or-split}
 use Rattle.cell_laws.specs.Ends.{Number}
 use Rattle.cell_laws.specs.Inverse.{inverse-fin-up, inverse-fin-down, inverse-up, inverse-down}
 use Rattle.value.specs.declared.window.Bounds.{Bounds}
 use Rattle.value.specs.Bounds.{In, inside}
 use Rattle.value.specs.Inverses.{onSegment, every-of, every-each, every-if}
 use Rattle.value.specs.Near.{Segment, inverse-fits}
-use Rattle.value.specs.Nearest.{Met, Sided, Nearer, Searched, withInside, searched-none, searched-inside}
+use Rattle.value.specs.Nearest.{Met, Searched, withInside, searched-none, searched-inside}
 use Rattle.value.specs.Beside.{Facing, meet-below, meet-above, number-at, climb}
 
 -- ---- where the inverse times pass t

@@ -15,7 +15,6 @@ use Rattle.definitions.specs.declared.Manifest.{Manifest}
 use Rattle.definitions.specs.declared.Knot.{Knot}
 use Rattle.definitions.specs.declared.Source.{Source}
 use Rattle.definitions.specs.Lists.{keep, pairs}
-use Rattle.definitions.specs.Doubles.{FiniteDouble}
 use Rattle.definitions.specs.ClipSet.{ClipSet, maxKnots, stage}
 use Rattle.definitions.specs.Timing.{lastAtMost, activePosition}
 use Rattle.definitions.specs.Samples.{Samples}

@@ -1,13 +1,12 @@
 -- A window as it is handed on: its times, and what is read in it. Assumes nothing.
-use mathlib.Core.Path.{_≡_, refl, sym, ap, ap₂, _∙_, subst}
-use mathlib.Core.Bool.{Bool, true, false, not, _&&_, cond}
+use mathlib.Core.Path.{_≡_, refl, sym, subst}
+use mathlib.Core.Bool.{Bool, true, false, cond}
 use mathlib.Core.List.{List, [], _∷_, _++_}
 use Prim.Native.Nat.{ℕ, _+_, _-_, _≤_, _<_}
 use native.Mathlib.Omega.{arith}
 use lib.Dec.{T, ltb}
-use lib.ListN.{length, getD, take, drop}
-use lib.Ieee.{Float, nan, inf, lt, le}
-use Rattle.gf.specs.Key.{le-no-nan, lt→le}
+use lib.ListN.{length, take, drop}
+use lib.Ieee.{Float, inf, lt, le}
 use Rattle.gf.specs.declared.interval.Interval.{Interval}
 use Rattle.definitions.specs.declared.Source.{Source}
 use Rattle.definitions.specs.declared.Source.the-variants.{Sample as sample}
@@ -23,7 +22,7 @@ use Rattle.cell_laws.specs.Unpacked.{knotsOf}
 use Rattle.value.specs.declared.window.Bounds.{Bounds}
 use Rattle.value.specs.declared.windowed.Window.{Window}
 use Rattle.value.specs.declared.near.Near.{Near}
-use Rattle.value.specs.Bounds.{In, inside, nothing, NeighboursAre}
+use Rattle.value.specs.Bounds.{inside, nothing, NeighboursAre}
 use Rattle.value.specs.Inverses.{inversesOf, inverses-none}
 use Rattle.value.specs.Near.{Segment}
 use Rattle.value.specs.Nearest.{withNear, Searched, searched-one, searched-then, searched-same, nearest-of}

@@ -4,7 +4,6 @@ use super::candidate::near_inside;
 use super::window::Bounds;
 use gf::interval::Interval;
 ghost use mathlib.Core.Path.{_≡_};
-ghost use lib.ListN.{length};
 ghost use Rattle.definitions.specs.Lists.{keep};
 ghost use Rattle.definitions.specs.Doubles.{FiniteDouble};
 ghost use Rattle.definitions.specs.Explicit.{knot};

@@ -1,5 +1,5 @@
 -- `value::beside::near_inverse` meets its contract. Assumes nothing.
-use mathlib.Core.Path.{_≡_, sym, ap, _∙_, subst}
+use mathlib.Core.Path.{sym, ap, _∙_, subst}
 use Rattle.definitions.specs.declared.Knot.{Knot}
 use Rattle.definitions.specs.Lists.{keep}
 use Rattle.definitions.specs.Explicit.{knot}

@@ -1,5 +1,5 @@
 -- `value::candidate::near_inside` meets its contract. Assumes nothing.
-use mathlib.Core.Path.{_≡_, sym, _∙_}
+use mathlib.Core.Path.{sym, _∙_}
 use Rattle.value.specs.Nearest.{withInside}
 use borrow.Author.Needs.{needs}
 use Rattle.value.proofs.candidate.near_inside.Statement.{statement}

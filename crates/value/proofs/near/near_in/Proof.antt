@@ -1,5 +1,4 @@
 -- `value::near::near_in` meets its contract: the starts, the knots beside t, and the segments or the samples. Assumes nothing.
-use mathlib.Core.Path.{_∙_}
 use native.Mathlib.Omega.{arith}
 use denote.Ref.{now}
 use lib.Dec.{T}

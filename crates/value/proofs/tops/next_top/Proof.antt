@@ -1,5 +1,5 @@
 -- `value::tops::next_top` meets its contract. Assumes nothing.
-use mathlib.Core.Path.{_≡_, sym, ap, _∙_, subst}
+use mathlib.Core.Path.{sym, ap, _∙_, subst}
 use lib.Ieee.{Float, lt}
 use Rattle.definitions.specs.Explicit.{knot}
 use Rattle.value.specs.Tops.{NewTop, top-flat, top-higher, top-lower}

@@ -1,6 +1,5 @@
 -- `value::tops::tops_of` meets its contract: the tops of the segments before i stand. Assumes nothing.
 use Prim.Native.Nat.{_-_, _≤_}
-use mathlib.Core.Path.{_≡_}
 use native.Mathlib.Omega.{arith}
 use lib.ListN.{length}
 use lib.Ieee.{ofBits, neg, div, fits, isNan}

@@ -1,5 +1,5 @@
 -- `value::turn::is_beyond` meets its contract. Assumes nothing.
-use mathlib.Core.Path.{_≡_, ap}
+use mathlib.Core.Path.{ap}
 use lib.Ieee.{Float, lt, le}
 use Rattle.value.specs.Turns.{isBeyond}
 use borrow.Author.Needs.{needs}

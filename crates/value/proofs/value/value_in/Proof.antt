@@ -1,5 +1,5 @@
 -- `value::value::value_in` meets its contract, case by case as document 01 has them. Assumes nothing.
-use mathlib.Core.Path.{_≡_, sym, _∙_}
+use mathlib.Core.Path.{sym, _∙_}
 use denote.Ref.{now}
 use Rattle.value.specs.Windowed.{boundsOf}
 use Rattle.value.specs.Values.{read-below, read-last, read-jump, read-held}

@@ -1,5 +1,5 @@
 -- `value::windowed::window_of` meets its contract. Assumes nothing.
-use mathlib.Core.Path.{_≡_, refl, sym, ap₂, _∙_}
+use mathlib.Core.Path.{refl, sym, ap₂, _∙_}
 use mathlib.Core.Bool.{not, _&&_}
 use Prim.Native.Nat.{ℕ}
 use lib.Dec.{ltb, ltb→lt}
