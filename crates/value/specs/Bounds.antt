@@ -241,7 +241,7 @@ pub every-in : (l : List Float) → Every (λ (x : Float). In x l) l
 every-in [] = tt
 every-in (y ∷ l) = (inl refl, every-map (λ (x : Float). In x l) (λ (x : Float). In x (y ∷ l)) (λ x i. inr i) l (every-in l))
 
-in-any : (x : Float) (l : List Float) → T (eq x x) → In x l → T (any (λ (y : Float). eq y x) l)
+pub in-any : (x : Float) (l : List Float) → T (eq x x) → In x l → T (any (λ (y : Float). eq y x) l)
 in-any x [] h i = absurd i
 in-any x (y ∷ l) h (inl e) = or-l (eq y x) (any (λ (z : Float). eq z x) l) (subst (λ (z : Float). T (eq z x)) e h)
 in-any x (y ∷ l) h (inr i) = or-r (eq y x) (any (λ (z : Float). eq z x) l) (in-any x l h i)

@@ -32,7 +32,7 @@ module _ {A B : Type 0} where
   every-of P f [] h = tt
   every-of P f (x ∷ l) h = every-append P (f x) (gather f l) (h .0) (every-of P f l (h .1))
 
-  every-each : (P : B → Type 0) (f : A → List B) (l : List A) → Every P (gather f l) → Every (λ (x : A). Every P (f x)) l
+  pub every-each : (P : B → Type 0) (f : A → List B) (l : List A) → Every P (gather f l) → Every (λ (x : A). Every P (f x)) l
   every-each P f [] h = tt
   every-each P f (x ∷ l) h = (every-left P (f x) (gather f l) h, every-each P f l (every-right P (f x) (gather f l) h))
 
@@ -64,19 +64,26 @@ unfolding stageTimesForClipTime
 inverses-none [] = refl
 inverses-none (c ∷ cs) = ap (λ (l : List Float). c ∷ l) (inverses-none cs)
 
+-- what holds of those that pass, segment by segment or sample by sample
+module _ (P : Float → Type 0) (p : Float → Bool) (cs : List Float) (k : Knot) (rest : List Knot) where
+  abbrev qs : List (Knot × Knot)
+  qs = pairs (k ∷ rest)
+
+  pub by-samples : Every P (keep p (gather (onSegment cs) qs)) → Every P (keep p (inversesOf (k ∷ rest) cs))
+  unfolding stageTimesForClipTime onSegment
+  by-samples e =
+      every-if P p (gather (λ (c : Float). gather (onPair c) qs) cs)
+      (every-turn (λ (q : Knot × Knot) (c : Float). onPair c q) (λ (x : Float). T (p x) → P x) qs cs (every-kept P p (gather (λ (q : Knot × Knot). gather (λ (c : Float). onPair c q) cs) qs) e))
+
+  pub by-segments : Every P (keep p (inversesOf (k ∷ rest) cs)) → Every P (keep p (gather (onSegment cs) qs))
+  unfolding stageTimesForClipTime onSegment
+  by-segments e =
+      every-if P p (gather (λ (q : Knot × Knot). gather (λ (c : Float). onPair c q) cs) qs)
+      (every-turn (λ (c : Float) (q : Knot × Knot). onPair c q) (λ (x : Float). T (p x) → P x) cs qs (every-kept P p (gather (λ (c : Float). gather (onPair c) qs) cs) e))
+
 module _ (t : Float) (p : Float → Bool) (cs : List Float) {h r : Bounds} where
   pub scanned-inverses : (k : Knot) (rest : List Knot) → Scanned t (keep p (gather (onSegment cs) (pairs (k ∷ rest)))) h r → Scanned t (keep p (inversesOf (k ∷ rest) cs)) h r
-  unfolding stageTimesForClipTime onSegment
-  scanned-inverses k rest S =
-      scanned-same t
-      (λ P e. every-if P p (gather (λ (c : Float). gather (onPair c) qs) cs)
-      (every-turn (λ (q : Knot × Knot) (c : Float). onPair c q) (λ (x : Float). T (p x) → P x) qs cs (every-kept P p (gather (λ (q : Knot × Knot). gather (λ (c : Float). onPair c q) cs) qs) e)))
-      (λ P e. every-if P p (gather (λ (q : Knot × Knot). gather (λ (c : Float). onPair c q) cs) qs)
-      (every-turn (λ (c : Float) (q : Knot × Knot). onPair c q) (λ (x : Float). T (p x) → P x) cs qs (every-kept P p (gather (λ (c : Float). gather (onPair c) qs) cs) e)))
-      S
-    where
-      qs : List (Knot × Knot)
-      qs = pairs (k ∷ rest)
+  scanned-inverses k rest S = scanned-same t (λ P e. by-samples P p cs k rest e) (λ P e. by-segments P p cs k rest e) S
 
 -- ---- one sample between two knots
 

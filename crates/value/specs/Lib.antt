@@ -19,3 +19,21 @@ pub mod Values
 pub mod Says
 -- The answer without a time
 pub mod Untimed
+-- The neighbours of a time by candidates
+pub mod Nearest
+-- The times of an ascending list on either side of a time
+pub mod Beside
+-- The samples of a segment on either side of a time
+pub mod Turns
+-- How far the inverse times of the segments reach
+pub mod Tops
+-- The inverse times of all segments by those near a time
+pub mod Reaches
+-- A window as it is handed on
+pub mod Windowed
+-- The jump test from a place down
+pub mod Jumps
+-- The clip time on a segment that holds the time
+pub mod ClipTimes
+-- What is handed on of a window
+pub mod Handed

@@ -58,10 +58,10 @@ segment-at (x ∷ l) h i d k =
 abbrev pub topOf : Knot × Knot → Float
 topOf q = inverse (q .0) (q .1) (q .1 .y)
 
-inverse-fits : (q : Knot × Knot) (c : Float) → Fits (inverse (q .0) (q .1) c)
+pub inverse-fits : (q : Knot × Knot) (c : Float) → Fits (inverse (q .0) (q .1) c)
 inverse-fits q c = add-fits binary64 (q .0 .x) ((c ⊖ q .0 .y) ⊘ (q .1 .y ⊖ q .0 .y) ⊗ (q .1 .x ⊖ q .0 .x))
 
-range : (q : Knot × Knot) → Segment q → (c : Float) → T (spans (q .0 .y) (q .1 .y) c) → T (le (q .0 .x) (inverse (q .0) (q .1) c)) × T (le (inverse (q .0) (q .1) c) (topOf q))
+pub range : (q : Knot × Knot) → Segment q → (c : Float) → T (spans (q .0 .y) (q .1 .y) c) → T (le (q .0 .x) (inverse (q .0) (q .1) c)) × T (le (inverse (q .0) (q .1) c) (topOf q))
 range q s c h = elim (or-split (up && from && to) (down && under && over) h) [
   | inl u ↦
       let p = both-l (up && from) to u in

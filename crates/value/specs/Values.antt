@@ -12,13 +12,16 @@ use lib.Ieee.Scale.{finite}
 use borrow.Author.Tests.{lt-ltb, le-ltb}
 use Rattle.gf.specs.Key.{le-refl, finite-no-nan}
 use Rattle.definitions.specs.declared.Manifest.{Manifest}
-use Rattle.definitions.specs.declared.Source.the-variants.{Sample as sample}
-use Rattle.definitions.specs.Lists.{keep}
-use Rattle.definitions.specs.ClipSet.{ClipSet, stage}
+use Rattle.definitions.specs.declared.Knot.{Knot}
+use Rattle.definitions.specs.declared.Source.{Source}
+use Rattle.definitions.specs.Lists.{keep, pairs}
+use Rattle.definitions.specs.ClipSet.{ClipSet, maxKnots, stage}
 use Rattle.definitions.specs.Timing.{lastAtMost, activePosition}
 use Rattle.definitions.specs.Samples.{Samples}
-use Rattle.definitions.specs.Value.{says, directSource, gathered, greatest, maximum, lowerNeighbour, upperNeighbour, jump, valueSource}
+use Rattle.definitions.specs.Explicit.{knot}
+use Rattle.definitions.specs.Value.{directSource, gathered, greatest, maximum, lowerNeighbour, upperNeighbour, jump, valueSource}
 use Rattle.set_laws.specs.Every.{Every}
+use Rattle.set_laws.specs.Places.{Ascending}
 use Rattle.cell_laws.specs.Every.{every-map, every-keep}
 use Rattle.cell_laws.specs.Places.{Fits, Clear}
 use Rattle.cell_laws.specs.Knots.{Alike}
@@ -27,10 +30,61 @@ use Rattle.cell_laws.specs.Ends.{minimum-one}
 use Rattle.cell_laws.specs.Window.{gathered-fit}
 use Rattle.cell_laws.specs.Stretches.{boundaries, heldBetween, heldFrom, readAs, boundaries-fit, value-by, held-many, held-few}
 use Rattle.cell_laws.specs.Neighbours.{IsLower, IsUpper, lower-found, lower-none, upper-found, upper-none, jump-alike}
-use Rattle.cell_laws.specs.Unpacked.{activeOf, knotsOf, setOf, samplesOf, sound-set, sound-samples, Ready}
-use Rattle.value.specs.declared.window.Bound.the-variants.{Nothing}
-use Rattle.value.specs.Bounds.{LowerIs, UpperIs}
-use Rattle.value.specs.Reads.{ready-active, ready-position}
+use Rattle.cell_laws.specs.Unpacked.{activeOf, knotsOf, setOf, samplesOf, zip-length, sound-set, sound-samples, Ready}
+use Rattle.value.specs.declared.window.Bound.{Bound}
+use Rattle.value.specs.declared.window.Bound.the-variants.{At, Nothing}
+use Rattle.value.specs.declared.window.Bounds.{Bounds}
+use Rattle.value.specs.declared.windowed.Window.{Window}
+use Rattle.value.specs.Bounds.{LowerIs, UpperIs, NeighboursAre}
+use Rattle.value.specs.Near.{Segment}
+use Rattle.value.specs.Reads.{ready-active, ready-position, ready-readable}
+use Rattle.value.specs.Tops.{TopsOf}
+use Rattle.value.specs.Windowed.{samplesIn, windowTimes, windowSource, Lent, Nearing}
+use Rattle.value.specs.Handed.{WindowIs, window-gathered, window-lent, window-nears, window-held}
+
+-- ---- the value in a window
+
+-- the time whose direct value is the value at t, by its neighbours
+abbrev pub heldAt : List Knot → Float → Bound → Bound → Float
+heldAt knots t Nothing upper = t
+heldAt knots t (At l) Nothing = t
+heldAt knots t (At l) (At h) = cond (jump knots l h) t l
+
+-- what a search in the window asks
+pub record Valued (xs ys times : List Float) (w : Window) (t : Float) : Type 0 where
+  pub knots : Ascending xs
+  pub paired : length xs ≡ length ys
+  pub few : length xs ≤ maxKnots
+  pub segments : Every Segment (pairs (knotsOf xs ys))
+  pub lent : Lent times w
+  pub nears : (tops : List Float) → TopsOf xs ys tops → Nearing xs ys tops (samplesIn times w) w t
+
+-- r is read at the time that the neighbours tell
+pub record ValueIn (xs ys times : List Float) (w : Window) (t : Float) (r : Source) : Type 0 where
+  pub bounds : Bounds
+  pub near : NeighboursAre (windowTimes xs ys (samplesIn times w) w) t bounds
+  pub reads : r ≡ windowSource xs ys times w (heldAt (knotsOf xs ys) t (bounds .lower) (bounds .upper))
+
+-- the cases of the program
+module _ (xs ys times : List Float) (w : Window) (t : Float) (n : Bounds) (N : NeighboursAre (windowTimes xs ys (samplesIn times w) w) t n) (r : Source) where
+  abbrev knots : List Knot
+  knots = knotsOf xs ys
+
+  read-at : (x : Float) → heldAt knots t (n .lower) (n .upper) ≡ x → r ≡ windowSource xs ys times w x → ValueIn xs ys times w t r
+  read-at x e q = record { bounds = n; near = N; reads = q ∙ ap (windowSource xs ys times w) (sym e) }
+
+  pub read-below : n .lower ≡ Nothing → r ≡ windowSource xs ys times w t → ValueIn xs ys times w t r
+  read-below e q = read-at t (ap (λ (b : Bound). heldAt knots t b (n .upper)) e) q
+
+  module _ (l : Float) (e : n .lower ≡ At l) where
+    pub read-last : n .upper ≡ Nothing → r ≡ windowSource xs ys times w t → ValueIn xs ys times w t r
+    read-last f q = read-at t (ap₂ (heldAt knots t) e f) q
+
+    pub read-jump : (h : Float) → n .upper ≡ At h → jump knots l h ≡ true → r ≡ windowSource xs ys times w t → ValueIn xs ys times w t r
+    read-jump h f j q = read-at t (ap₂ (heldAt knots t) e f ∙ ap (λ (b : Bool). cond b t l) j) q
+
+    pub read-held : (h : Float) → n .upper ≡ At h → jump knots l h ≡ false → r ≡ windowSource xs ys times w l → ValueIn xs ys times w t r
+    read-held h f j q = read-at l (ap₂ (heldAt knots t) e f ∙ ap (λ (b : Bool). cond b t l) j) q
 
 -- ---- a neighbour is a double
 
@@ -137,3 +191,35 @@ module _ {starts : List Float} {clips : List ℕ} {xs ys blocks : List Float} {m
       value-held e =
           let b = between false e in
           direct-alike set s S A l (b .0) (L .fits) (b .2) (b .3) ∙ sym (by ∙ ap (λ (o : Option Float). directSource set s (stage (readAs o t))) (b .1))
+
+    -- ---- in the window that is handed on
+
+    module _ (w : Window) (W : WindowIs starts clips xs ys blocks m times values marks ends p w) where
+      pub value-asks : Valued xs ys times w t
+      unfolding setOf
+      value-asks = record {
+        knots = ready-readable R .knots;
+        paired = R .knots-paired;
+        few = subst (λ (n : ℕ). n ≤ maxKnots) (zip-length knot xs ys (R .knots-paired)) (R .sound .few-knots);
+        segments = ready-readable R .segments;
+        lent = window-lent R p w W;
+        nears = window-nears R p w W t at record { fitting = ft; finitely = nt };
+      }
+
+      pub value-in : (r : Source) → ValueIn xs ys times w t r → r ≡ valueSource set s (stage t)
+      value-in r N = N .reads ∙ go (N .bounds .lower) (N .bounds .upper) (near .lower) (near .upper)
+        where
+          near : NeighboursAre (gathered set s p) t (N .bounds)
+          near = subst (λ (l : List Float). NeighboursAre l t (N .bounds)) (sym (window-gathered R p w W)) (N .near)
+
+          here : windowSource xs ys times w t ≡ directSource set s (stage t)
+          here = sym (W .direct t (sym at))
+
+          go : (b d : Bound) → LowerIs (gathered set s p) t b → UpperIs (gathered set s p) t d → windowSource xs ys times w (heldAt (knotsOf xs ys) t b d) ≡ valueSource set s (stage t)
+          go Nothing d L U = here ∙ value-below L
+          go (At l) Nothing L U = here ∙ value-last U
+          go (At l) (At h) L U = by-jump (jump (knotsOf xs ys) l h) refl
+            where
+              by-jump : (j : Bool) → jump (knotsOf xs ys) l h ≡ j → windowSource xs ys times w (cond j t l) ≡ valueSource set s (stage t)
+              by-jump true e = here ∙ value-jump l h L U e
+              by-jump false e = sym (window-held R p w W t at ft l L) ∙ value-held l h L U e

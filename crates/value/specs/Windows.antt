@@ -42,10 +42,10 @@ past-end (x ∷ l) zero h = absurd (omega arith)
 past-end (x ∷ l) (suc i) h = past-end l i (omega arith)
 
 module _ (starts : List Float) (clips : List ℕ) (e : length starts ≡ length clips) where
-  next-is : (p : ℕ) → p + 1 < length starts → getElem? (activeOf starts clips) (suc p) ≡ some (start (getD starts (p + 1) nan) (getD clips (p + 1) 0))
+  pub next-is : (p : ℕ) → p + 1 < length starts → getElem? (activeOf starts clips) (suc p) ≡ some (start (getD starts (p + 1) nan) (getD clips (p + 1) 0))
   next-is p h = ap (λ (i : ℕ). getElem? (activeOf starts clips) i) (sym (add-one p)) ∙ zip-here start starts clips (p + 1) nan 0 e h
 
-  next-none : (p : ℕ) → length starts ≤ p + 1 → getElem? (activeOf starts clips) (suc p) ≡ none
+  pub next-none : (p : ℕ) → length starts ≤ p + 1 → getElem? (activeOf starts clips) (suc p) ≡ none
   next-none p h = past-end (activeOf starts clips) (suc p) (omega (arith, zip-length start starts clips e))
 
   module _ (p : ℕ) (h : p < length starts) where
@@ -112,7 +112,7 @@ module _ {starts : List Float} {clips : List ℕ} {xs ys blocks : List Float} {m
   own-times p h = ap (contributedTimes set s) (here starts clips (R .starts-paired) p h)
 
   module _ (p : ℕ) (h : p < length starts) (own : Bool) (e : own ≡ not (m .interpolate && any (λ (b : Float). eq b (getD starts p nan)) blocks)) where
-    gathered-is : gathered set s p ≡ windowPart starts xs ys p (ifOwn own (partOf times ends (getD clips p 0))) ++ startOf (getElem? (activeOf starts clips) (suc p))
+    pub gathered-is : gathered set s p ≡ windowPart starts xs ys p (ifOwn own (partOf times ends (getD clips p 0))) ++ startOf (getElem? (activeOf starts clips) (suc p))
     unfolding setOf gathered
     gathered-is =
         ap (λ (l : List Float). l ++ startOf (getElem? (activeOf starts clips) (suc p)))

@@ -3,8 +3,12 @@
 use super::direct::clip_begin;
 use super::direct::direct_source;
 use super::jump::is_jump;
+use super::near::near_in;
+use super::tops::tops_of;
 use super::window::Bound;
-use super::window::neighbours;
+use super::windowed::Window;
+use super::windowed::source_in;
+use super::windowed::window_of;
 use definitions::Answer;
 use definitions::Manifest;
 use definitions::Source;
@@ -16,6 +20,32 @@ ghost use Rattle.definitions.specs.ClipSet.{stage};
 ghost use Rattle.definitions.specs.Value.{valueSource, valueInSet};
 ghost use Rattle.cell_laws.specs.Unpacked.{setOf, samplesOf, Ready};
 ghost use Rattle.value.specs.Says.{saysIn, Sayable};
+ghost use Rattle.value.specs.Values.{Valued, ValueIn};
+
+// What is read at the time `t` of a window: directly, or held from the lower neighbour.
+fn value_in(xs: &[f64], ys: &[f64], times: &[f64], w: Window, t: f64) -> Source
+    requires { ⌜ Valued (now xs) (now ys) (now times) w t ⌝ }
+    ensures { λ r. ⌜ ValueIn (now (xs .entry)) (now (ys .entry)) (now (times .entry)) w t r ⌝ }
+{
+    let reach = tops_of(xs, ys);
+    let begin = w.begin;
+    let end = w.end;
+    let found = near_in(xs, ys, &reach.items, &times[begin..end], w, t, 0, 0);
+    let lower = found.lower;
+    let upper = found.upper;
+    let knot = found.knot;
+    let sample = found.sample;
+    let Bound::At(l) = lower else {
+        return source_in(xs, ys, times, w, t, knot, sample);
+    };
+    let Bound::At(h) = upper else {
+        return source_in(xs, ys, times, w, t, knot, sample);
+    };
+    if is_jump(xs, ys, l, h, knot) {
+        return source_in(xs, ys, times, w, t, knot, sample);
+    }
+    source_in(xs, ys, times, w, l, knot, sample)
+}
 
 // What is read at the stage time `t`.
 pub fn value_source(
@@ -50,7 +80,7 @@ pub fn value_source(
         );
     }
     let p = lists::last_at_most(starts, t);
-    let found = neighbours(
+    let w = window_of(
         starts,
         clips,
         xs,
@@ -62,68 +92,8 @@ pub fn value_source(
         marks,
         ends,
         p,
-        t,
     );
-    let lower = found.lower;
-    let upper = found.upper;
-    let Bound::At(l) = lower else {
-        return direct_source(
-            starts,
-            clips,
-            xs,
-            ys,
-            blocks,
-            m,
-            times,
-            values,
-            marks,
-            ends,
-            t,
-        );
-    };
-    let Bound::At(h) = upper else {
-        return direct_source(
-            starts,
-            clips,
-            xs,
-            ys,
-            blocks,
-            m,
-            times,
-            values,
-            marks,
-            ends,
-            t,
-        );
-    };
-    if is_jump(xs, ys, l, h) {
-        return direct_source(
-            starts,
-            clips,
-            xs,
-            ys,
-            blocks,
-            m,
-            times,
-            values,
-            marks,
-            ends,
-            t,
-        );
-    }
-    direct_source(
-        starts,
-        clips,
-        xs,
-        ys,
-        blocks,
-        m,
-        times,
-        values,
-        marks,
-        ends,
-        l,
-    )
+    value_in(xs, ys, times, w, t)
 }
 
 // What a source says, with the bits as lent.

@@ -12,7 +12,7 @@ ghost use lib.ListN.{length, getD};
 ghost use Rattle.definitions.specs.Value.{gathered};
 ghost use Rattle.cell_laws.specs.Unpacked.{setOf, samplesOf, Ready};
 ghost use Rattle.value.specs.Reads.{Readable, partOf};
-ghost use Rattle.value.specs.Bounds.{Scanned, LowerIs, UpperIs, NeighboursAre};
+ghost use Rattle.value.specs.Bounds.{Scanned, NeighboursAre};
 ghost use Rattle.value.specs.Windows.{minOf, maxOf, windowPart, ifOwn};
 
 // A neighbour of a time.
@@ -28,7 +28,7 @@ pub struct Bounds {
 }
 
 // The first window reaches down without end.
-fn window_min(starts: &[f64], p: usize) -> f64
+pub fn window_min(starts: &[f64], p: usize) -> f64
     requires { ⌜ p < length (now starts) ⌝ }
     ensures { λ r. ⌜ r ≡ minOf (now (starts .entry)) p ⌝ }
 {
@@ -39,7 +39,7 @@ fn window_min(starts: &[f64], p: usize) -> f64
 }
 
 // The last one reaches up without end.
-fn window_max(starts: &[f64], p: usize) -> f64
+pub fn window_max(starts: &[f64], p: usize) -> f64
     requires { ⌜ p < length (now starts) ⌝ }
     ensures { λ r. ⌜ r ≡ maxOf (now (starts .entry)) p ⌝ }
 {
@@ -106,74 +106,4 @@ pub fn neighbours(
         return with_time(found, starts[next], t);
     }
     found
-}
-
-// The greatest of them that is at most `t`.
-pub fn lower(
-    starts: &[f64],
-    clips: &[u64],
-    xs: &[f64],
-    ys: &[f64],
-    blocks: &[f64],
-    m: Manifest,
-    times: &[f64],
-    values: &[f64],
-    marks: &[u8],
-    ends: &[u64],
-    p: usize,
-    t: f64,
-) -> Bound
-    requires { ⌜ Ready (now starts) (now clips) (now xs) (now ys) (now blocks) m (now times) (now values) (now marks) (now ends) ⌝ ∗ ⌜ p < length (now starts) ⌝ }
-    ensures { λ r. ⌜ LowerIs (gathered (setOf (length (now (ends .entry))) (now (starts .entry)) (now (clips .entry)) (now (xs .entry)) (now (ys .entry)) (now (blocks .entry)) m) (samplesOf (now (times .entry)) (now (values .entry)) (now (marks .entry)) (now (ends .entry))) p) t r ⌝ }
-{
-    let found = neighbours(
-        starts,
-        clips,
-        xs,
-        ys,
-        blocks,
-        m,
-        times,
-        values,
-        marks,
-        ends,
-        p,
-        t,
-    );
-    found.lower
-}
-
-// The least of them that is above `t`.
-pub fn upper(
-    starts: &[f64],
-    clips: &[u64],
-    xs: &[f64],
-    ys: &[f64],
-    blocks: &[f64],
-    m: Manifest,
-    times: &[f64],
-    values: &[f64],
-    marks: &[u8],
-    ends: &[u64],
-    p: usize,
-    t: f64,
-) -> Bound
-    requires { ⌜ Ready (now starts) (now clips) (now xs) (now ys) (now blocks) m (now times) (now values) (now marks) (now ends) ⌝ ∗ ⌜ p < length (now starts) ⌝ }
-    ensures { λ r. ⌜ UpperIs (gathered (setOf (length (now (ends .entry))) (now (starts .entry)) (now (clips .entry)) (now (xs .entry)) (now (ys .entry)) (now (blocks .entry)) m) (samplesOf (now (times .entry)) (now (values .entry)) (now (marks .entry)) (now (ends .entry))) p) t r ⌝ }
-{
-    let found = neighbours(
-        starts,
-        clips,
-        xs,
-        ys,
-        blocks,
-        m,
-        times,
-        values,
-        marks,
-        ends,
-        p,
-        t,
-    );
-    found.upper
 }

@@ -1,69 +1,94 @@
--- `value::jump::is_jump` meets its contract: the pairs from i on answer for all. Assumes nothing.
-use Prim.Native.Nat.{_-_, _≤_}
-use mathlib.Core.Path.{_≡_, refl, sym, _∙_}
+-- `value::jump::is_jump` meets its contract: no two knots from i on share such an x. Assumes nothing.
+use Prim.Native.Nat.{ℕ, _+_, _-_, _≤_, _<_}
+use mathlib.Core.Path.{_≡_, sym, _∙_}
+use mathlib.Core.Bool.{false}
 use native.Mathlib.Omega.{arith}
-use lib.ListN.{length, drop}
-use lib.Ieee.{nan}
+use lib.Dec.{T}
+use lib.ListN.{length, getD}
+use lib.Ieee.{nan, binary64, fits}
 use denote.Ref.{now}
-use Rattle.definitions.specs.Lists.{any, pairs}
-use Rattle.value.specs.Pairs.{jumpsAt, jump-by-x, pair-here, pair-later, pair-end}
+use Rattle.definitions.specs.Timing.{lastAtMost}
+use Rattle.value.specs.Pairs.{jumpsAt, jump-by-x}
+use Rattle.value.specs.Jumps.{any-none, none-above, none-step, none-all, one-here, last-place}
 use borrow.Author.Needs.{needs}
 use Rattle.value.proofs.jump.is_jump.Statement.{statement}
 use Rattle.value.proofs.jump.is_jump.Tie as tie
 
 abbrev Inv-loop : tie.InvT-loop
-Inv-loop xs ys lower upper i₀ i = (i ≤ length xs) × (any (jumpsAt lower upper) (pairs xs) ≡ any (jumpsAt lower upper) (pairs (drop i xs)))
+Inv-loop xs ys lower upper knot i₀ i = (i ≤ lastAtMost xs upper) × ((j : ℕ) → i ≤ j → j + 1 < length xs → jumpsAt lower upper (getD xs j nan, getD xs (j + 1) nan) ≡ false)
 
 abbrev μ-loop : tie.MeasureT-loop
-μ-loop xs ys lower upper i₀ i = length xs - i
+μ-loop xs ys lower upper knot i₀ i = i
+
+abbrev entry : tie.At-loop Inv-loop μ-loop → tie.Start Inv-loop μ-loop
+entry k = k .before .before .before .before
+
+-- what owning them tells: the format holds them
+fits-lower : (s : tie.Start Inv-loop μ-loop) → T (fits binary64 (s .args .lower))
+fits-lower s = search needs
+
+fits-upper : (s : tie.Start Inv-loop μ-loop) → T (fits binary64 (s .args .upper))
+fits-upper s = search needs
+
+-- a place down from the last knot at most the upper one is a knot's
+inside : (k : tie.At-loop Inv-loop μ-loop) → 0 < k .loop .i → k .loop .i < length (now (entry k .args .xs))
+inside k h = let s = entry k in let a = s .args in last-place (now (a .xs)) (s .pre .0) (a .lower) (a .upper) (fits-lower s) (fits-upper s) (k .loop .i) (k .loop .inv .0) h
+
+last-at-most-near-requires : tie.Need-last-at-most-near-requires Inv-loop μ-loop
+last-at-most-near-requires c κs = search needs
 
 loop-holds : tie.Need-loop-holds Inv-loop μ-loop
-loop-holds c = (omega arith, refl)
+loop-holds c =
+    let s = c .before .before .before in
+    let a = s .args in
+    (omega (arith, c .last-at-most-near .ensures), λ j l h. none-above (now (a .xs)) (s .pre .0) (a .lower) (a .upper) (fits-lower s) (fits-upper s) j (omega (arith, c .last-at-most-near .ensures)) h)
 
-add-loop : tie.Need-add-loop Inv-loop μ-loop
-add-loop c = omega arith
+mul-x : tie.Need-mul-x Inv-loop μ-loop
+mul-x c = let h = inside (c .before) (omega arith) in search needs
 
-add-next : tie.Need-add-next Inv-loop μ-loop
-add-next c = omega arith
+shared-slice-read-x : tie.Need-shared-slice-read-x Inv-loop μ-loop
+shared-slice-read-x c = inside (c .before .before) (omega arith)
 
-mul-jumps : tie.Need-mul-jumps Inv-loop μ-loop
-mul-jumps c = search needs
+sub-i : tie.Need-sub-i Inv-loop μ-loop
+sub-i c = omega arith
 
-shared-slice-read-jumps : tie.Need-shared-slice-read-jumps Inv-loop μ-loop
-shared-slice-read-jumps c = omega arith
+mul-if2 : tie.Need-mul-if2 Inv-loop μ-loop
+mul-if2 c = let h = inside (c .before .before .before) (omega arith) in search needs
 
-mul-jumps-2 : tie.Need-mul-jumps-2 Inv-loop μ-loop
-mul-jumps-2 c = search needs
-
-shared-slice-read-jumps-2 : tie.Need-shared-slice-read-jumps-2 Inv-loop μ-loop
-shared-slice-read-jumps-2 c = omega arith
-
-jumps-requires : tie.Need-jumps-requires Inv-loop μ-loop
-jumps-requires c κs = search needs
+shared-slice-read-if2 : tie.Need-shared-slice-read-if2 Inv-loop μ-loop
+shared-slice-read-if2 c = let h = inside (c .before .before .before .before) (omega arith) in omega arith
 
 returns : tie.Need-returns Inv-loop μ-loop
 returns c =
-    let l = c .before .before .before .before .before in
-    let a = l .before .before .before .args in
-    sym
-    (jump-by-x (a .lower) (a .upper) (now (a .xs)) (now (a .ys)) (l .before .before .before .pre) ∙ l .loop .inv .1
-    ∙ pair-here (jumpsAt (a .lower) (a .upper)) (now (a .xs)) (l .loop .i) nan (omega arith) (sym (c .before .jumps .ensures) ∙ c .if1 .taken))
+    let k = c .before .before .before .before .before in
+    let s = entry k in
+    let a = s .args in
+    sym (jump-by-x (a .lower) (a .upper) (now (a .xs)) (now (a .ys)) (s .pre .1)
+    ∙ one-here (now (a .xs)) (s .pre .0) (a .lower) (a .upper) (fits-lower s) (fits-upper s) (k .loop .i - 1) (k .loop .i) (omega arith) (k .loop .inv .0) (inside k (omega arith)) (c .before .before .if1 .taken) (c .if2 .taken))
 
 loop-less : tie.Need-loop-less Inv-loop μ-loop
 loop-less c = omega arith
 
 loop-again : tie.Need-loop-again Inv-loop μ-loop
 loop-again c =
-    let l = c .before .before .before .before .before in
-    let a = l .before .before .before .args in
-    (omega arith, l .loop .inv .1 ∙ pair-later (jumpsAt (a .lower) (a .upper)) (now (a .xs)) (l .loop .i) nan (omega arith) (sym (c .before .jumps .ensures) ∙ c .if1 .left))
+    let k = c .before .before .before .before .before in
+    let s = entry k in
+    let a = s .args in
+    (omega arith, none-step (now (a .xs)) (s .pre .0) (a .lower) (a .upper) (fits-lower s) (fits-upper s) (k .loop .i - 1) (k .loop .i) (omega arith) (c .if2 .left) (k .loop .inv .1))
 
 returns-2 : tie.Need-returns-2 Inv-loop μ-loop
 returns-2 c =
-    let l = c .before in
-    let s = l .before .before .before in
+    let k = c .before .before .before in
+    let s = entry k in
     let a = s .args in
-    sym (jump-by-x (a .lower) (a .upper) (now (a .xs)) (now (a .ys)) (s .pre) ∙ l .loop .inv .1 ∙ pair-end (jumpsAt (a .lower) (a .upper)) (now (a .xs)) (l .loop .i) nan (omega arith))
+    sym (jump-by-x (a .lower) (a .upper) (now (a .xs)) (now (a .ys)) (s .pre .1) ∙ none-all (now (a .xs)) (s .pre .0) (a .lower) (a .upper) (fits-lower s) (fits-upper s) (k .loop .i) (c .if1 .left) (inside k (omega arith)) (k .loop .inv .1))
+
+returns-3 : tie.Need-returns-3 Inv-loop μ-loop
+returns-3 c =
+    let k = c .before in
+    let s = entry k in
+    let a = s .args in
+    sym (jump-by-x (a .lower) (a .upper) (now (a .xs)) (now (a .ys)) (s .pre .1) ∙ any-none (jumpsAt (a .lower) (a .upper)) (now (a .xs)) (λ j h. k .loop .inv .1 j (omega arith) h))
 
 pub is-jump-spec : {M : Type 1} → statement M
 is-jump-spec =
@@ -71,15 +96,15 @@ is-jump-spec =
     (tie.spec
     Inv-loop
     μ-loop
+    last-at-most-near-requires
     loop-holds
-    add-loop
-    add-next
-    mul-jumps
-    shared-slice-read-jumps
-    mul-jumps-2
-    shared-slice-read-jumps-2
-    jumps-requires
+    mul-x
+    shared-slice-read-x
+    sub-i
+    mul-if2
+    shared-slice-read-if2
     returns
     loop-less
     loop-again
-    returns-2)
+    returns-2
+    returns-3)

@@ -1,0 +1,52 @@
+-- `value::windowed::source_in` meets its contract. Assumes nothing.
+use mathlib.Core.Path.{ap, _∙_}
+use denote.Ref.{now}
+use borrow.Author.Tests.{lt-ltb, le-ltb}
+use Rattle.definitions.specs.declared.Source.the-variants.{Sample as sample}
+use Rattle.definitions.specs.Timing.{lastAtMost}
+use Rattle.value.specs.Windowed.{samplesIn, windowSource}
+use borrow.Author.Needs.{needs}
+use Rattle.value.proofs.windowed.source_in.Statement.{statement}
+use Rattle.value.proofs.windowed.source_in.Tie as tie
+
+clip-time-requires : tie.Need-clip-time-requires
+clip-time-requires c κs = search needs
+
+mul-last-at-most-near : tie.Need-mul-last-at-most-near
+mul-last-at-most-near c = search needs
+
+sub-last-at-most-near : tie.Need-sub-last-at-most-near
+sub-last-at-most-near c = search needs
+
+part-last-at-most-near-start : tie.Need-part-last-at-most-near-start
+part-last-at-most-near-start c = search needs
+
+part-last-at-most-near-end : tie.Need-part-last-at-most-near-end
+part-last-at-most-near-end c = search needs
+
+last-at-most-near-requires : tie.Need-last-at-most-near-requires
+last-at-most-near-requires c κs = search needs
+
+returns : tie.Need-returns
+unfolding windowSource
+returns c =
+    let s = c .before .before .before .before .before .before .before in
+    let a = s .args in
+    rw (lt-ltb _ _ (c .before .before .before .if1 .taken)) (ap (sample (a .w .clip)) (c .last-at-most-near .ensures ∙ ap (lastAtMost (samplesIn (now (a .times)) (a .w))) (c .before .before .clip-time .ensures)))
+
+returns-2 : tie.Need-returns-2
+unfolding windowSource
+returns-2 c = rw (le-ltb _ _ (c .if1 .left))
+
+pub source-in-spec : {M : Type 1} → statement M
+source-in-spec =
+    tie.close
+    (tie.spec
+    clip-time-requires
+    mul-last-at-most-near
+    sub-last-at-most-near
+    part-last-at-most-near-start
+    part-last-at-most-near-end
+    last-at-most-near-requires
+    returns
+    returns-2)

@@ -1,0 +1,155 @@
+// A window handed on: what the times between two starts are read from.
+
+use super::direct::clip_begin;
+use super::direct::clip_end;
+use super::direct::contributes;
+use super::direct::gap_source;
+use super::window::window_max;
+use super::window::window_min;
+use definitions::Manifest;
+use definitions::Source;
+ghost use mathlib.Core.Path.{_≡_};
+ghost use mathlib.Core.Bool.{true, not, _&&_};
+ghost use Prim.Native.Nat.{_+_, _<_};
+ghost use lib.Dec.{ltb};
+ghost use lib.ListN.{length};
+ghost use lib.Ieee.{Float, eq};
+ghost use Rattle.definitions.specs.Lists.{any};
+ghost use Rattle.definitions.specs.Timing.{mapTime};
+ghost use Rattle.set_laws.specs.Places.{Ascending};
+ghost use Rattle.cell_laws.specs.Unpacked.{knotsOf, Ready};
+ghost use Rattle.value.specs.Windowed.{Lent, windowSource};
+ghost use Rattle.value.specs.Handed.{WindowIs};
+ghost use Rattle.value.specs.ClipTimes.{OnSegment};
+
+// The window of a start: its time, its ends, its clip, the clip's samples `begin..end` if they contribute, and what stands in where there are none.
+pub struct Window {
+    pub start: f64,
+    pub min: f64,
+    pub max: f64,
+    pub clip: u64,
+    pub begin: usize,
+    pub end: usize,
+    pub gap: Source,
+}
+
+// There are samples from `begin` to `end`, and their clip contributes them from this start.
+fn has_samples(blocks: &[f64], m: Manifest, start: f64, begin: usize, end: usize) -> bool
+    ensures { λ r. ⌜ r ≡ (ltb begin end && not (m .interpolate && any (λ (b : Float). eq b start) (now (blocks .entry)))) ⌝ }
+{
+    if begin < end {
+        return contributes(blocks, m, start);
+    }
+    false
+}
+
+// The window of the start at the place `p`.
+pub fn window_of(
+    starts: &[f64],
+    clips: &[u64],
+    xs: &[f64],
+    ys: &[f64],
+    blocks: &[f64],
+    m: Manifest,
+    times: &[f64],
+    values: &[f64],
+    marks: &[u8],
+    ends: &[u64],
+    p: usize,
+) -> Window
+    requires { ⌜ Ready (now starts) (now clips) (now xs) (now ys) (now blocks) m (now times) (now values) (now marks) (now ends) ⌝ ∗ ⌜ p < length (now starts) ⌝ }
+    ensures { λ r. ⌜ WindowIs (now (starts .entry)) (now (clips .entry)) (now (xs .entry)) (now (ys .entry)) (now (blocks .entry)) m (now (times .entry)) (now (values .entry)) (now (marks .entry)) (now (ends .entry)) p r ⌝ }
+{
+    let start = starts[p];
+    let clip = clips[p];
+    let min = window_min(starts, p);
+    let max = window_max(starts, p);
+    let begin = clip_begin(ends, clip);
+    let end = clip_end(ends, clip);
+    if has_samples(blocks, m, start, begin, end) {
+        return Window {
+            start,
+            min,
+            max,
+            clip,
+            begin,
+            end,
+            gap: Source::Blocked,
+        };
+    }
+    let gap = gap_source(
+        starts,
+        clips,
+        xs,
+        ys,
+        blocks,
+        m,
+        times,
+        values,
+        marks,
+        ends,
+        p,
+    );
+    Window {
+        start,
+        min,
+        max,
+        clip,
+        begin,
+        end: begin,
+        gap,
+    }
+}
+
+// Whether `t` lies in the segment from the knot at the place `knot` to the next.
+fn is_between(xs: &[f64], t: f64, knot: usize) -> bool
+    ensures { λ r. ⌜ ((r ≡ true) → OnSegment (now (xs .entry)) t knot) ⌝ }
+{
+    if knot < xs.len() {
+        let next = knot + 1;
+        if next < xs.len() {
+            if xs[knot] <= t {
+                return t < xs[next];
+            }
+        }
+    }
+    false
+}
+
+// The clip time at `t`, looked for at a hint.
+fn clip_time(xs: &[f64], ys: &[f64], t: f64, knot: usize) -> f64
+    requires { ⌜ Ascending (now xs) ⌝ ∗ ⌜ length (now xs) ≡ length (now ys) ⌝ }
+    ensures { λ r. ⌜ r ≡ mapTime (knotsOf (now (xs .entry)) (now (ys .entry))) t ⌝ }
+{
+    if is_between(xs, t, knot) {
+        let next = knot + 1;
+        if t == xs[knot] {
+            return ys[knot];
+        }
+        return gf::lerp(xs[knot], xs[next], ys[knot], ys[next], t);
+    }
+    lists::map_time(xs, ys, t)
+}
+
+// What is read directly at the time `t` of a window. The hints are a knot and a sample of the clip.
+pub fn source_in(
+    xs: &[f64],
+    ys: &[f64],
+    times: &[f64],
+    w: Window,
+    t: f64,
+    knot: usize,
+    sample: usize,
+) -> Source
+    requires { ⌜ Ascending (now xs) ⌝ ∗ ⌜ length (now xs) ≡ length (now ys) ⌝ ∗ ⌜ Lent (now times) w ⌝ }
+    ensures { λ r. ⌜ r ≡ windowSource (now (xs .entry)) (now (ys .entry)) (now (times .entry)) w t ⌝ }
+{
+    let begin = w.begin;
+    let end = w.end;
+    if begin < end {
+        let c = clip_time(xs, ys, t, knot);
+        let place = lists::near::last_at_most_near(&times[begin..end], c, sample);
+        return Source::Sample(w.clip, place as u64);
+    }
+    w.gap
+}
