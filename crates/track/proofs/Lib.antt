@@ -3,6 +3,7 @@ pub mod Gallops
 pub mod Segments
 pub mod Firsts
 pub mod Lent
+pub mod Gaps
 pub mod Ways
 pub mod Likeness
 pub mod Halts

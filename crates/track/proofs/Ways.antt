@@ -121,33 +121,35 @@ module _ {starts : List Float} {clips : List ℕ} {xs ys blocks : List Float} {m
         go true f = reading-part f (clipTimes lent (getD clips p 0)) refl (let n = its-length in let e = ap length (its-part true f) in omega arith)
         go false f = let n = its-length in let e = ap length (its-part false f) in absurd (omega arith)
 
-    pub direct-gap : w .end ≤ w .begin → DirectIs (setOf (length ends) starts clips xs ys blocks m) (samplesOf times values marks ends) t (Constant (w .gap))
-    unfolding windowSource Cells.readCell
-    direct-gap h = record { is = ap Cells.constant (sym said) ∙ sym cell; clip = tt }
-      where
-        rest : Source
-        rest = manifestDefault ready orElse gapSource ready lent p
+    -- without samples its gap is what stands in for them
+    module _ (h : w .end ≤ w .begin) where
+      abbrev rest : Source
+      rest = manifestDefault ready orElse gapSource ready lent p
 
-        none-there : (k : List Float) → length k ≡ 0 → k ≡ []
-        none-there [] e = refl
-        none-there (x ∷ k) e = absurd (omega arith)
+      gap-cell : Cells.directCell ready lent (stage t) ≡ Cells.constant (manifestDefault ready orElse gapSource ready lent p)
+      gap-cell = go test refl
+        where
+          none-there : (k : List Float) → length k ≡ 0 → k ≡ []
+          none-there [] e = refl
+          none-there (x ∷ k) e = absurd (omega arith)
 
-        go : (b : Bool) → test ≡ b → Cells.directCell ready lent (stage t) ≡ Cells.constant rest
-        go true f = empty ready lent t p place active (start-at R p (W .place)) (contributing ∙ f)
-            (none-there (clipTimes lent (getD clips p 0)) (let n = its-length in let e = ap length (its-part true f) in omega arith))
-        go false f = blocked ready lent t p place active (start-at R p (W .place)) (contributing ∙ f)
+          go : (b : Bool) → test ≡ b → Cells.directCell ready lent (stage t) ≡ Cells.constant rest
+          go true f = empty ready lent t p place active (start-at R p (W .place)) (contributing ∙ f)
+              (none-there (clipTimes lent (getD clips p 0)) (let n = its-length in let e = ap length (its-part true f) in omega arith))
+          go false f = blocked ready lent t p place active (start-at R p (W .place)) (contributing ∙ f)
 
-        cell : Cells.directCell ready lent (stage t) ≡ Cells.constant rest
-        cell = go test refl
+      pub gap-stands : w .gap ≡ (manifestDefault (setOf (length ends) starts clips xs ys blocks m) orElse gapSource (setOf (length ends) starts clips xs ys blocks m) (samplesOf times values marks ends) p)
+      unfolding windowSource Cells.readCell
+      gap-stands = sym (sym read ∙ sym (Cells.direct-reads ready lent t) ∙ W .direct t (sym at) ∙ gap-read)
+        where
+          gap-read : windowSource xs ys times w t ≡ w .gap
+          gap-read = rw (le-ltb (w .begin) (w .end) h)
 
-        gap-read : windowSource xs ys times w t ≡ w .gap
-        gap-read = rw (le-ltb (w .begin) (w .end) h)
+          read : Cells.readCell lent (Cells.directCell ready lent (stage t)) t ≡ rest
+          read = ap (λ (c : Cells.Cell). Cells.readCell lent c t) gap-cell
 
-        read : Cells.readCell lent (Cells.directCell ready lent (stage t)) t ≡ rest
-        read = ap (λ (c : Cells.Cell). Cells.readCell lent c t) cell
-
-        said : rest ≡ w .gap
-        said = sym read ∙ sym (Cells.direct-reads ready lent t) ∙ W .direct t (sym at) ∙ gap-read
+      pub direct-gap : DirectIs (setOf (length ends) starts clips xs ys blocks m) (samplesOf times values marks ends) t (Constant (w .gap))
+      direct-gap = record { is = ap Cells.constant gap-stands ∙ sym gap-cell; clip = tt }
 
   -- ---- the ways out of `piece_at`
 

@@ -2,13 +2,25 @@
 use definitions::Manifest;
 use definitions::Source;
 use lists::near::last_at_most_near;
+use value::direct::clip_begin;
+use value::direct::clip_end;
+use value::direct::contributes;
+use value::window::window_max;
+use value::window::window_min;
 use value::windowed::Window;
 use value::windowed::window_of;
 ghost use mathlib.Core.Path.{_≡_};
+ghost use mathlib.Core.Bool.{true, not, _&&_};
+ghost use Prim.Native.Nat.{_<_};
+ghost use lib.Dec.{ltb};
 ghost use lib.ListN.{length};
+ghost use lib.Ieee.{Float, eq};
+ghost use Rattle.definitions.specs.Lists.{any};
 ghost use Rattle.definitions.specs.Doubles.{FiniteDouble};
+ghost use Rattle.definitions.specs.Samples.{clipBegin, clipEnd};
 ghost use Rattle.cell_laws.specs.Unpacked.{Ready};
-ghost use Rattle.track.specs.Spots.{SpotIs, SpotAt};
+ghost use Rattle.value.specs.Handed.{WindowIs};
+ghost use Rattle.track.specs.Spots.{SpotIs, SpotAt, Follows};
 
 // The place of a start and its window, and a knot and a sample near which a search begins.
 pub struct Spot {
@@ -39,6 +51,95 @@ pub fn no_spot(starts: &[f64]) -> Spot
     }
 }
 
+// The clip contributes from this start, and it has samples.
+fn has_reading(blocks: &[f64], m: Manifest, ends: &[u64], start: f64, clip: u64) -> bool
+    requires { ⌜ clip < length (now ends) ⌝ }
+    ensures { λ r. ⌜ r ≡ (not (m .interpolate && any (λ (b : Float). eq b start) (now (blocks .entry))) && ltb (clipBegin (now (ends .entry)) clip) (clipEnd (now (ends .entry)) clip)) ⌝ }
+{
+    if contributes(blocks, m, start) {
+        return clip_begin(ends, clip) < clip_end(ends, clip);
+    }
+    false
+}
+
+// Whether the start at p comes right after the spot's, and neither of the two has samples to read.
+fn follows(
+    blocks: &[f64],
+    m: Manifest,
+    ends: &[u64],
+    start: f64,
+    clip: u64,
+    spot: Spot,
+    p: usize,
+) -> bool
+    requires { ⌜ clip < length (now ends) ⌝ }
+    ensures { λ r. ⌜ ((r ≡ true) → Follows (now (blocks .entry)) m (now (ends .entry)) start clip (spot .p) (spot .w) p) ⌝ }
+{
+    if p == 0 {
+        return false;
+    }
+    if spot.p != p - 1 {
+        return false;
+    }
+    let w = spot.w;
+    if w.begin < w.end {
+        return false;
+    }
+    !has_reading(blocks, m, ends, start, clip)
+}
+
+// The window of the start at p. Of windows without samples, one after the other, the same stands in
+// for them, so that a walk over many of them searches once.
+fn window_after(
+    starts: &[f64],
+    clips: &[u64],
+    xs: &[f64],
+    ys: &[f64],
+    blocks: &[f64],
+    m: Manifest,
+    times: &[f64],
+    values: &[f64],
+    marks: &[u8],
+    ends: &[u64],
+    spot: Spot,
+    p: usize,
+) -> Window
+    requires { ⌜ Ready (now starts) (now clips) (now xs) (now ys) (now blocks) m (now times) (now values) (now marks) (now ends) ⌝ }
+    requires { ⌜ SpotIs (now starts) (now clips) (now xs) (now ys) (now blocks) m (now times) (now values) (now marks) (now ends) (spot .p) (spot .w) ⌝ }
+    requires { ⌜ p < length (now starts) ⌝ }
+    ensures { λ r. ⌜ WindowIs (now (starts .entry)) (now (clips .entry)) (now (xs .entry)) (now (ys .entry)) (now (blocks .entry)) m (now (times .entry)) (now (values .entry)) (now (marks .entry)) (now (ends .entry)) p r ⌝ }
+{
+    let start = starts[p];
+    let clip = clips[p];
+    if follows(blocks, m, ends, start, clip, spot, p) {
+        let w = spot.w;
+        let gap = w.gap;
+        let begin = clip_begin(ends, clip);
+        return Window {
+            start,
+            min: window_min(starts, p),
+            max: window_max(starts, p),
+            clip,
+            begin,
+            end: begin,
+            gap,
+        };
+    }
+    window_of(
+        starts,
+        clips,
+        xs,
+        ys,
+        blocks,
+        m,
+        times,
+        values,
+        marks,
+        ends,
+        p,
+    )
+}
+
 // The spot moved to the window of t.
 pub fn spot_at(
     starts: &[f64],
@@ -66,7 +167,7 @@ pub fn spot_at(
     if p == spot.p {
         return spot;
     }
-    let w = window_of(
+    let w = window_after(
         starts,
         clips,
         xs,
@@ -77,6 +178,7 @@ pub fn spot_at(
         values,
         marks,
         ends,
+        spot,
         p,
     );
     Spot {

@@ -2,6 +2,7 @@
 use native.Mathlib.Omega.{arith}
 use Rattle.set_laws.specs.Places.{last-inside}
 use Rattle.value.specs.Reads.{ready-starts}
+use Rattle.track.proofs.Ways.{gap-stands}
 use borrow.Author.Needs.{needs}
 use Rattle.track.proofs.spot.spot_at.Statement.{statement}
 use Rattle.track.proofs.spot.spot_at.Tie as tie
@@ -15,18 +16,29 @@ last-at-most-near-requires c κs = ready-starts (c .before .before .before .befo
 returns-2 : tie.Need-returns-2
 returns-2 c = search needs
 
-window-of-requires : tie.Need-window-of-requires
-window-of-requires c κs =
+window-after-requires : tie.Need-window-after-requires
+window-after-requires c κs =
     let l = c .before .before in
     let a = l .before .before .before .before .before .before .before .before .before .before .before in
     let e = l .last-at-most-near .ensures in
     let n = l .before .if1 .left in
     let h = last-inside (a .args .t) (a .pre .1 .1 .fitting) (a .args .starts .now) (ready-starts (a .pre .0)) (omega arith) in
-    (a .pre .0, omega arith)
+    (a .pre .0, (a .pre .1 .0, omega arith))
 
 returns-3 : tie.Need-returns-3
-returns-3 c = search needs
+returns-3 c =
+    let l = c .before .before .before in
+    let a = l .before .before .before .before .before .before .before .before .before .before .before in
+    let w = c .window-after .result in
+    record {
+      spot = record {
+        window = λ _. c .window-after .ensures;
+        gap = λ _ n. gap-stands (a .pre .0) (a .args .t) (l .last-at-most-near .result) w (c .window-after .ensures) (l .last-at-most-near .ensures) n;
+      };
+      place = λ _. l .last-at-most-near .ensures;
+    }
 
 pub spot-at-spec : {M : Type 1} → statement M
 spot-at-spec =
-    tie.close (tie.spec returns last-at-most-near-requires returns-2 window-of-requires returns-3)
+    tie.close
+    (tie.spec returns last-at-most-near-requires returns-2 window-after-requires returns-3)

@@ -116,7 +116,7 @@ returns c =
         says = subst (λ (h : ℕ). Agree (a .args .k) h (entryAtKey (set a) (lent a)) (saysOn (a .args .times .now) (a .args .values .now) (a .args .marks .now) (a .args .ends .now) (q .piece-at .result .cell) (entryIs (x .entry-of .result)))) (hi-is l)
             (span-says (a .pre .0) (a .args .k) (a .args .top) (a .pre .1 .1 .1) (q .piece-at .result .cell) (q .piece-at .result .end) (piece q) (entryIs (x .entry-of .result)) (here x));
       };
-      spot = q .before .spot-at .ensures .window;
+      spot = q .before .spot-at .ensures .spot;
     }
 
 pub stretch-at-spec : {M : Type 1} → statement M
