@@ -1,7 +1,6 @@
 // The value at a stage time. With several starts it is held from the lower neighbour among the window's gathered times, unless there is a jump between.
 
 use super::direct::clip_begin;
-use super::direct::direct_source;
 use super::jump::is_jump;
 use super::near::near_in;
 use super::tops::tops_of;
@@ -64,20 +63,8 @@ pub fn value_source(
     requires { ⌜ Ready (now starts) (now clips) (now xs) (now ys) (now blocks) m (now times) (now values) (now marks) (now ends) ⌝ ∗ ⌜ T (finite t) ⌝ }
     ensures { λ r. ⌜ r ≡ valueSource (setOf (length (now (ends .entry))) (now (starts .entry)) (now (clips .entry)) (now (xs .entry)) (now (ys .entry)) (now (blocks .entry)) m) (samplesOf (now (times .entry)) (now (values .entry)) (now (marks .entry)) (now (ends .entry))) (stage t) ⌝ }
 {
-    if starts.len() < 2 {
-        return direct_source(
-            starts,
-            clips,
-            xs,
-            ys,
-            blocks,
-            m,
-            times,
-            values,
-            marks,
-            ends,
-            t,
-        );
+    if starts.len() == 0 {
+        return Source::Absent;
     }
     let p = lists::last_at_most(starts, t);
     let w = window_of(
@@ -93,6 +80,9 @@ pub fn value_source(
         ends,
         p,
     );
+    if starts.len() < 2 {
+        return source_in(xs, ys, times, w, t, 0, 0);
+    }
     value_in(xs, ys, times, w, t)
 }
 
