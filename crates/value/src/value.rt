@@ -3,7 +3,6 @@
 use super::direct::clip_begin;
 use super::jump::is_jump;
 use super::near::near_in;
-use super::tops::tops_of;
 use super::window::Bound;
 use super::windowed::Window;
 use super::windowed::source_in;
@@ -26,10 +25,10 @@ fn value_in(xs: &[f64], ys: &[f64], times: &[f64], w: Window, t: f64) -> Source
     requires { ⌜ Valued (now xs) (now ys) (now times) w t ⌝ }
     ensures { λ r. ⌜ ValueIn (now (xs .entry)) (now (ys .entry)) (now (times .entry)) w t r ⌝ }
 {
-    let reach = tops_of(xs, ys);
     let begin = w.begin;
     let end = w.end;
-    let found = near_in(xs, ys, &reach.items, &times[begin..end], w, t, 0, 0);
+    // One question is not worth the tops of all segments.
+    let found = near_in(xs, ys, &xs[0..0], &times[begin..end], w, t, 0, 0);
     let lower = found.lower;
     let upper = found.upper;
     let knot = found.knot;
