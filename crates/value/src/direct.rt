@@ -3,7 +3,7 @@
 use definitions::Manifest;
 use definitions::Source;
 ghost use mathlib.Core.Path.{_≡_};
-ghost use mathlib.Core.Bool.{not, _&&_};
+ghost use mathlib.Core.Bool.{not, _&&_, cond};
 ghost use mathlib.Core.List.{reverse};
 ghost use Prim.Native.Nat.{_<_, _≤_};
 ghost use lib.ListN.{length, getD, take, drop};
@@ -20,18 +20,27 @@ pub enum Reading {
     Nothing,
 }
 
-// A manifest block equals this start.
+// 1 where a block equals the start, else 0.
+fn equal_found(block: f64, start: f64) -> u64
+    ensures { λ r. ⌜ r ≡ cond (eq block start) 1 0 ⌝ }
+{
+    if block == start {
+        return 1;
+    }
+    0
+}
+
+// A manifest block equals this start. They are counted, and no count ends the loop, so that several are tested at once.
 pub fn blocked_at(blocks: &[f64], start: f64) -> bool
     ensures { λ r. ⌜ r ≡ any (λ (b : Float). eq b start) (now (blocks .entry)) ⌝ }
 {
+    let mut found: u64 = 0;
     let mut i: usize = 0;
     while i < blocks.len() {
-        if blocks[i] == start {
-            return true;
-        }
+        found += equal_found(blocks[i], start);
         i += 1;
     }
-    false
+    0 < found
 }
 
 // The clip of this start contributes its samples: blocks count only where the missing flag is on.
