@@ -10,7 +10,7 @@ use track_laws::Next;
 ghost use Prim.Native.Nat.{_≤_};
 ghost use Rattle.gf.specs.Key as Key;
 ghost use Rattle.cell_laws.specs.Unpacked.{Ready};
-ghost use Rattle.resolver.specs.Asked.{Asked};
+ghost use Rattle.asked.specs.Asked.{Asked};
 ghost use Rattle.resolver.specs.State.{Made};
 
 // The keys of the lowest and of the greatest finite double.

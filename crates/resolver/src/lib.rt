@@ -1,6 +1,4 @@
 // A resolver holds one clip set by value, or none, and answers questions about it: 01's desk.
-mod asked;
-
 use clip::ActiveClip;
 use clip::ClipSet;
 use clip::Parsed;

@@ -10,7 +10,7 @@ use Rattle.set_laws.specs.SoundCalls.{SoundModel}
 use Rattle.sdf.specs.Judged.{Judged, judged-accepted}
 use Rattle.clip.specs.Holding.{clipSetOf}
 use Rattle.resolver.specs.declared.Resolver.{Resolver}
-use Rattle.resolver.specs.Asked.{Asked}
+use Rattle.asked.specs.Asked.{Asked}
 use Rattle.resolver.specs.State.{Made}
 use borrow.Author.Needs.{needs}
 use Rattle.cases.proofs.hash.track_hash.Statement.{statement}

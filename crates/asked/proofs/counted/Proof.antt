@@ -1,9 +1,9 @@
--- `resolver::asked::counted` meets its contract: each arm is given which case it is. Assumes nothing.
+-- `asked::counted` meets its contract: each arm is given which case it is. Assumes nothing.
 use mathlib.Core.Path.{sym, ap}
 use borrow.Author.Needs.{needs}
-use Rattle.resolver.specs.Lists.{countOf}
-use Rattle.resolver.proofs.asked.counted.Statement.{statement}
-use Rattle.resolver.proofs.asked.counted.Tie as tie
+use Rattle.asked.specs.Lists.{countOf}
+use Rattle.asked.proofs.counted.Statement.{statement}
+use Rattle.asked.proofs.counted.Tie as tie
 
 enum-known-written : tie.Need-enum-known-written
 enum-known-written c = search needs

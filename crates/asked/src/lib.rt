@@ -16,8 +16,8 @@ ghost use Rattle.cell_laws.specs.Unpacked.{samplesOf};
 ghost use Rattle.value.specs.Untimed.{stateIs};
 ghost use Rattle.track.specs.Bakes.{outputs, BakeIs};
 ghost use Rattle.clip.specs.Holding.{clipSetOf};
-ghost use Rattle.resolver.specs.Asked.{Asked};
-ghost use Rattle.resolver.specs.Lists.{countOf, ListsTimes, ListsSamples};
+ghost use Rattle.asked.specs.Asked.{Asked};
+ghost use Rattle.asked.specs.Lists.{countOf, ListsTimes, ListsSamples};
 
 pub fn value_of(
     set: ClipSet,

@@ -1,4 +1,4 @@
--- `resolver::asked::untimed_of` meets its contract: the lists that it lends are the set's. Assumes nothing.
+-- `asked::untimed_of` meets its contract: the lists that it lends are the set's. Assumes nothing.
 use mathlib.Core.Path.{sym, ap, _∙_}
 use borrow.Author.Needs.{needs}
 use denote.Ref.{now}
@@ -7,8 +7,8 @@ use Rattle.definitions.specs.ClipSet.{maxActive, maxKnots, maxBlocks}
 use Rattle.definitions.specs.StageSamples.{untimedAnswer}
 use Rattle.cell_laws.specs.Unpacked.{samplesOf}
 use Rattle.unpack.specs.Unpacking.{front-long, unpacked-is, unpacked-ready}
-use Rattle.resolver.proofs.asked.untimed_of.Statement.{statement}
-use Rattle.resolver.proofs.asked.untimed_of.Tie as tie
+use Rattle.asked.proofs.untimed_of.Statement.{statement}
+use Rattle.asked.proofs.untimed_of.Tie as tie
 
 unpack-starts-requires : tie.Need-unpack-starts-requires
 unpack-starts-requires c κs = search needs

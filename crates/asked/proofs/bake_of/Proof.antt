@@ -1,12 +1,12 @@
--- `resolver::asked::bake_of` meets its contract: the lists that it lends are the set's. Assumes nothing.
+-- `asked::bake_of` meets its contract: the lists that it lends are the set's. Assumes nothing.
 use mathlib.Core.Path.{sym}
 use borrow.Author.Needs.{needs}
 use denote.Ref.{now}
 use Rattle.definitions.specs.ClipSet.{maxActive, maxKnots, maxBlocks}
 use Rattle.unpack.specs.Unpacking.{front-long, unpacked-is, unpacked-ready}
-use Rattle.resolver.proofs.Laws.{bake-as}
-use Rattle.resolver.proofs.asked.bake_of.Statement.{statement}
-use Rattle.resolver.proofs.asked.bake_of.Tie as tie
+use Rattle.asked.proofs.Laws.{bake-as}
+use Rattle.asked.proofs.bake_of.Statement.{statement}
+use Rattle.asked.proofs.bake_of.Tie as tie
 
 unpack-starts-requires : tie.Need-unpack-starts-requires
 unpack-starts-requires c κs = search needs
