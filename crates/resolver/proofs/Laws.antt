@@ -33,8 +33,8 @@ use Rattle.set_laws.specs.SoundCalls.{SoundModel}
 use Rattle.clip.specs.declared.ActiveClip.the-variants.{Clip, NoClip}
 use Rattle.clip.specs.Asked.{answered}
 use Rattle.clip.specs.declared.Parsed.{Parsed}
-use Rattle.clip.specs.Expanding as expanding
-use Rattle.clip.specs.Parsing as parsing
+use Rattle.template.specs.Expanding as expanding
+use Rattle.explicit.specs.Parsing as parsing
 use Rattle.clip.specs.Retiming as sets
 use Rattle.clip.specs.Holding.{clipSetOf}
 use Rattle.resolver.specs.declared.Resolver.{Resolver}
