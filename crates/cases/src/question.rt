@@ -114,7 +114,7 @@ fn normalized(
         count,
         least(outtimes.len(), least(outvalues.len(), outmarks.len())),
     );
-    let counted = sdf::normalize(
+    let counted = normal_form::normalize(
         times,
         values,
         marks,
