@@ -1,6 +1,5 @@
 // The questions that ask no resolver, and what is shown of a set that stands.
 pub mod dump;
-pub mod hash;
 
 use definitions::ClipTime;
 use lines::reply;

@@ -5,7 +5,6 @@ use lines::reply;
 use lines::slots::least;
 use lines::slots::slots;
 use lines::written;
-use plain_questions::hash;
 use resolver::Resolver;
 use resolver::UntimedReply;
 use resolver::ValueReply;
@@ -233,5 +232,9 @@ pub fn track_hash(
     if number != 0 {
         return reply::refused(number, out, full);
     }
-    hash::put_hashed(hash::hash_of(set, times, values, marks, ends), out, full)
+    track_hash::put_hashed(
+        track_hash::hash_of(set, times, values, marks, ends),
+        out,
+        full,
+    )
 }

@@ -1,4 +1,4 @@
--- `plain_questions::hash::walk` is safe and ends: each change lies above the one before, so the keys that are left are fewer, and there are no more changes than keys. Assumes nothing.
+-- `track_hash::walk` is safe and ends: each change lies above the one before, so the keys that are left are fewer, and there are no more changes than keys. Assumes nothing.
 use mathlib.Core.Path.{subst}
 use Prim.Native.Nat.{ℕ, _-_, _≤_}
 use native.Mathlib.Omega.{arith}
@@ -11,8 +11,8 @@ use Rattle.track_laws.specs.declared.Next.{Next}
 use Rattle.cell_laws.specs.Keys.{entryAtKey}
 use Rattle.cell_laws.specs.Walk.{NextOf}
 use Rattle.cell_laws.specs.Unpacked.{setOf, samplesOf}
-use Rattle.plain_questions.proofs.hash.walk.Statement.{statement}
-use Rattle.plain_questions.proofs.hash.walk.Tie as tie
+use Rattle.track_hash.proofs.walk.Statement.{statement}
+use Rattle.track_hash.proofs.walk.Tie as tie
 
 abbrev Inv-loop : tie.InvT-loop
 Inv-loop starts clips xs ys blocks m times values marks ends k₀ count₀ hash₀ k count hash = (Key.least ≤ k) × (k ≤ Key.most) × (count ≤ k)

@@ -1,7 +1,7 @@
--- `plain_questions::hash::eat_word` is safe and ends: the bytes that are left are fewer after each turn. Assumes nothing.
+-- `track_hash::eat_word` is safe and ends: the bytes that are left are fewer after each turn. Assumes nothing.
 use borrow.Author.Needs.{needs}
-use Rattle.plain_questions.proofs.hash.eat_word.Statement.{statement}
-use Rattle.plain_questions.proofs.hash.eat_word.Tie as tie
+use Rattle.track_hash.proofs.eat_word.Statement.{statement}
+use Rattle.track_hash.proofs.eat_word.Tie as tie
 
 abbrev Inv-loop : tie.InvT-loop
 Inv-loop hash word h₀ rest₀ left₀ h rest left = Unit {0}

@@ -1,11 +1,11 @@
--- `plain_questions::hash::hash_of` is safe: the lists that it lends are the set's. Assumes nothing.
+-- `track_hash::hash_of` is safe: the lists that it lends are the set's. Assumes nothing.
 use mathlib.Core.Path.{sym}
 use denote.Ref.{now}
 use Rattle.definitions.specs.ClipSet.{maxActive, maxKnots, maxBlocks}
 use Rattle.unpack.specs.Unpacking.{front-long, unpacked-ready}
 use borrow.Author.Needs.{needs}
-use Rattle.plain_questions.proofs.hash.hash_of.Statement.{statement}
-use Rattle.plain_questions.proofs.hash.hash_of.Tie as tie
+use Rattle.track_hash.proofs.hash_of.Statement.{statement}
+use Rattle.track_hash.proofs.hash_of.Tie as tie
 
 unpack-starts-requires : tie.Need-unpack-starts-requires
 unpack-starts-requires c κs = search needs
