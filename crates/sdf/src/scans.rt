@@ -3,7 +3,7 @@ ghost use mathlib.Core.Path.{_≡_};
 ghost use mathlib.Core.Bool.{Bool};
 ghost use lib.Dec.{T};
 ghost use lib.ListN.{length};
-ghost use Rattle.definitions.specs.Lists.{any, zipWith, below};
+ghost use Rattle.definitions.specs.Lists.{any, all, zipWith, below};
 ghost use Rattle.definitions.specs.Doubles as Doubles;
 ghost use Rattle.definitions.specs.Samples as Samples;
 ghost use Rattle.sdf.specs.Parts.{partsAscend};
