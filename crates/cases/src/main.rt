@@ -1,31 +1,49 @@
 // Answers the case text of standard input on standard output.
-mod calls;
-mod change;
-mod dump;
-mod hash;
-mod input;
-mod lent;
-mod question;
-mod reply;
-mod sampled;
-mod slots;
-mod written;
-
-use calls::Call;
-use calls::Question;
-use lent::Lent;
+use lines::calls;
+use lines::calls::Call;
+use lines::calls::Change;
+use lines::input;
+use lines::input::Buffer;
+use lines::lent;
+use lines::lent::Lent;
+use lines::reply;
 use resolver::Resolver;
-use text::first_bytes;
-use text::first_doubles;
-use text::first_numbers;
 ghost use mathlib.Core.Path.{_≡_};
 ghost use lib.ListN.{length};
 ghost use Rattle.resolver.specs.State.{Made};
 
-pub struct Ran {
+// What a line leaves for the next one: how much of the output buffer is in use, the samples that are lent, and what stands.
+pub struct Session {
     pub full: usize,
     pub lent: Lent,
     pub resolver: Resolver,
+}
+
+// Nothing is lent and no set stands.
+fn begin(full: usize) -> Session
+    ensures { λ r. ⌜ Made (r .resolver) ⌝ }
+{
+    let none = lent::none();
+    let fresh = Resolver::fresh();
+    Session {
+        full,
+        lent: none,
+        resolver: fresh,
+    }
+}
+
+// The same after more output.
+fn written(session: Session, full: usize) -> Session
+    requires { ⌜ Made (session .resolver) ⌝ }
+    ensures { λ r. ⌜ Made (r .resolver) ⌝ }
+{
+    let lent = session.lent;
+    let resolver = session.resolver;
+    Session {
+        full,
+        lent,
+        resolver,
+    }
 }
 
 // Answers line by line until the input ends. Nothing says that it does, so the turns are counted down from a number that no
@@ -41,20 +59,16 @@ fn serve(
     outvalues: &mut [f64],
     outmarks: &mut [u8],
 ) {
-    let mut resolver = Resolver::fresh();
-    let mut lent = lent::none();
+    let mut session = begin(0);
     let mut buffer = input::empty();
-    let mut full: usize = 0;
     let mut turns = u64::MAX;
     while turns > 0 {
         turns -= 1;
         let to = input::line_end(input, buffer);
         if to < buffer.end {
-            let line = input::line(input, buffer, to);
-            let ran = run(
-                line,
-                resolver,
-                lent,
+            session = run(
+                input::line(input, buffer, to),
+                session,
                 ends,
                 times,
                 values,
@@ -63,29 +77,40 @@ fn serve(
                 outvalues,
                 outmarks,
                 out,
-                full,
             );
-            resolver = ran.resolver;
-            lent = ran.lent;
-            full = ran.full;
             buffer = input::past(buffer, to);
         } else {
-            full = text::flush(out, full);
+            session = flushed(session, out);
             if buffer.ended {
                 return;
             }
             let more = input::refill(input, buffer);
-            full = reply::skipped(buffer, more, out, full);
+            session = refilled(session, buffer, more, out);
             buffer = more;
         }
     }
 }
 
+fn flushed(session: Session, out: &mut [u8]) -> Session
+    requires { ⌜ Made (session .resolver) ⌝ }
+    ensures { λ r. ⌜ Made (r .resolver) ⌝ }
+{
+    let n = text::flush(out, session.full);
+    written(session, n)
+}
+
+fn refilled(session: Session, before: Buffer, after: Buffer, out: &mut [u8]) -> Session
+    requires { ⌜ Made (session .resolver) ⌝ }
+    ensures { λ r. ⌜ Made (r .resolver) ⌝ }
+{
+    let n = reply::skipped(before, after, out, session.full);
+    written(session, n)
+}
+
 // Answers one line.
 fn run(
     line: &[u8],
-    resolver: Resolver,
-    lent: Lent,
+    session: Session,
     ends: &mut [u64],
     times: &mut [f64],
     values: &mut [f64],
@@ -94,151 +119,88 @@ fn run(
     outvalues: &mut [f64],
     outmarks: &mut [u8],
     out: &mut [u8],
-    full: usize,
-) -> Ran
-    requires { ⌜ Made resolver ⌝ }
+) -> Session
+    requires { ⌜ Made (session .resolver) ⌝ }
     ensures { λ r. ⌜ Made (r .resolver) ⌝ }
 {
     match calls::call_of(line) {
-        Call::Nothing => Ran {
-            full,
-            lent,
-            resolver,
-        },
-        Call::Unreadable => {
-            let n = reply::unreadable(out, full);
-            Ran {
-                full: n,
-                lent,
-                resolver,
-            }
-        }
-        Call::Case(at) => {
-            let n = reply::case_named(text::word(line, at), out, full);
-            let none = lent::none();
-            let fresh = Resolver::fresh();
-            Ran {
-                full: n,
-                lent: none,
-                resolver: fresh,
-            }
-        }
-        Call::Samples(at) => {
-            let read = lent::read(line, at, ends, times, values, marks);
-            let n = reply::lent(read, out, full);
-            Ran {
-                full: n,
-                lent: read,
-                resolver,
-            }
-        }
-        Call::Changing(kind, at) => {
-            let changed = change::change(kind, line, at, resolver, out, full);
-            let left = changed.resolver;
-            Ran {
-                full: changed.full,
-                lent,
-                resolver: left,
-            }
-        }
+        Call::Nothing => session,
+        Call::Unreadable => unreadable(session, out),
+        Call::Case(at) => case(line, at, session, out),
+        Call::Samples(at) => lend(line, at, session, ends, times, values, marks, out),
+        Call::Changing(kind, at) => change(kind, line, at, session, out),
         Call::Asking(kind, at) => {
-            let n = ask(
+            let n = questions::ask(
                 kind,
                 line,
                 at,
-                resolver,
-                first_numbers(ends, lent.ends),
-                first_doubles(times, lent.times),
-                first_doubles(values, lent.values),
-                first_bytes(marks, lent.marks),
+                session.resolver,
+                session.lent,
+                ends,
+                times,
+                values,
+                marks,
                 outtimes,
                 outvalues,
                 outmarks,
                 out,
-                full,
+                session.full,
             );
-            Ran {
-                full: n,
-                lent,
-                resolver,
-            }
+            written(session, n)
         }
     }
 }
 
-fn ask(
-    kind: Question,
+fn unreadable(session: Session, out: &mut [u8]) -> Session
+    requires { ⌜ Made (session .resolver) ⌝ }
+    ensures { λ r. ⌜ Made (r .resolver) ⌝ }
+{
+    let n = reply::unreadable(out, session.full);
+    written(session, n)
+}
+
+// A case begins anew.
+fn case(line: &[u8], at: usize, session: Session, out: &mut [u8]) -> Session
+    ensures { λ r. ⌜ Made (r .resolver) ⌝ }
+{
+    let n = reply::case_named(text::word(line, at), out, session.full);
+    begin(n)
+}
+
+fn lend(
     line: &[u8],
     at: usize,
-    resolver: Resolver,
-    ends: &[u64],
-    times: &[f64],
-    values: &[f64],
-    marks: &[u8],
-    outtimes: &mut [f64],
-    outvalues: &mut [f64],
-    outmarks: &mut [u8],
+    session: Session,
+    ends: &mut [u64],
+    times: &mut [f64],
+    values: &mut [f64],
+    marks: &mut [u8],
     out: &mut [u8],
-    full: usize,
-) -> usize
-    requires { ⌜ Made resolver ⌝ }
+) -> Session
+    requires { ⌜ Made (session .resolver) ⌝ }
+    ensures { λ r. ⌜ Made (r .resolver) ⌝ }
 {
-    match kind {
-        Question::Dump => question::dump(line, at, resolver, out, full),
-        Question::Active => question::active(line, at, resolver, out, full),
-        Question::ClipTime => question::clip_time(line, at, resolver, out, full),
-        Question::Name => question::name(line, at, out, full),
-        Question::Normalize => {
-            question::normalize(line, at, outtimes, outvalues, outmarks, out, full)
-        }
-        Question::Value => {
-            sampled::value(line, at, resolver, ends, times, values, marks, out, full)
-        }
-        Question::Untimed => {
-            sampled::untimed(line, at, resolver, ends, times, values, marks, out, full)
-        }
-        Question::Times => sampled::stage_sample_times(
-            line,
-            at,
-            resolver,
-            ends,
-            times,
-            values,
-            marks,
-            outtimes,
-            out,
-            full,
-        ),
-        Question::StageSamples => sampled::stage_samples(
-            line,
-            at,
-            resolver,
-            ends,
-            times,
-            values,
-            marks,
-            outtimes,
-            outmarks,
-            out,
-            full,
-        ),
-        Question::Track => sampled::track(
-            line,
-            at,
-            resolver,
-            ends,
-            times,
-            values,
-            marks,
-            outtimes,
-            outvalues,
-            outmarks,
-            out,
-            full,
-        ),
-        Question::TrackHash => {
-            hash::track_hash(line, at, resolver, ends, times, values, marks, out, full)
-        }
+    let read = lent::read(line, at, ends, times, values, marks);
+    let n = reply::lent(read, out, session.full);
+    let resolver = session.resolver;
+    Session {
+        full: n,
+        lent: read,
+        resolver,
+    }
+}
+
+fn change(kind: Change, line: &[u8], at: usize, session: Session, out: &mut [u8]) -> Session
+    requires { ⌜ Made (session .resolver) ⌝ }
+    ensures { λ r. ⌜ Made (r .resolver) ⌝ }
+{
+    let changed = changes::change(kind, line, at, session.resolver, out, session.full);
+    let lent = session.lent;
+    let left = changed.resolver;
+    Session {
+        full: changed.full,
+        lent,
+        resolver: left,
     }
 }
 

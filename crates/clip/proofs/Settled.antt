@@ -1,11 +1,9 @@
 -- The end of every way to a set: the lists' number is the set's, and the packed lists are the set. Assumes nothing.
 use Prim.Native.Nat.{ℕ}
-use mathlib.Core.Path.{_≡_, refl, sym, _∙_}
-use mathlib.Core.Bool.{Bool, true, false}
+use mathlib.Core.Path.{_≡_, sym, _∙_}
 use mathlib.Core.List.{List}
 use lib.Ieee.{Float}
 use Rattle.definitions.specs.declared.Manifest.{Manifest}
-use Rattle.definitions.specs.Lists.{_if_else_}
 use Rattle.definitions.specs.ClipSet as Definitions
 use Rattle.definitions.specs.ClipSet.{maxActive, maxKnots, maxBlocks, sortActive, sortKnots, beyondLimits, equalStarts, equalKnots}
 use Rattle.definitions.specs.Retime.{sorted}
@@ -16,11 +14,6 @@ use Rattle.clip.specs.declared.storage.Blocks.{Blocks}
 use Rattle.clip.specs.declared.Parsed.{Parsed}
 use Rattle.clip.specs.Holding.{Holds}
 use Rattle.clip.specs.Settling.{Fitting, settleNumber, listsNumber, Refuses, Settles}
-
--- a chain of tests that gives a number gives it whatever stands at its end
-pub same-number : (n : ℕ) (a : Bool) (x y : ℕ) → ((n if a else x) ≡ 0 → ⊥) → ((x ≡ 0 → ⊥) → x ≡ y) → (n if a else x) ≡ (n if a else y)
-same-number n true x y h f = refl
-same-number n false x y h f = f h
 
 pub settle-refuses : (set : Definitions.ClipSet) (n : ℕ) (r : Parsed) → n ≡ settleNumber set → (n ≡ 0 → ⊥) → Refuses n r → Settles set r
 settle-refuses set n r e h f = record { number = f .number ∙ e; made = λ z. absurd (h (sym (f .number) ∙ z)); held = f .held }

@@ -13,15 +13,12 @@ use Rattle.definitions.specs.Lists.{any, pairsFrom}
 use Rattle.definitions.specs.Doubles.{twoEqual}
 use Rattle.definitions.specs.ClipSet as Definitions
 use Rattle.definitions.specs.ClipSet.{markNone, activeTimes, knotTimes, anyUnstorable, beyondLimits, equalStarts, badDefaultMark}
-use Rattle.set_laws.specs.Tests.{is-true, is-false}
+use Rattle.set_laws.specs.Tests.{is-false}
 use Rattle.set_laws.specs.Every.{Every, Chain, ChainFrom, every-map}
 use Rattle.set_laws.specs.Stored.{Stored, Lt, stored-number}
 use Rattle.set_laws.specs.Sound.{Sound}
 use Rattle.clip.specs.Settling.{settleNumber}
-
-pub every-storable : (xs : List Float) → Every (λ (x : Float). T (storable x)) xs → anyUnstorable xs ≡ false
-every-storable [] e = refl
-every-storable (x ∷ xs) e = rw (is-true (storable x) (e .0)) (every-storable xs (e .1))
+use Rattle.clip.specs.Laws.{every-storable}
 
 pub stored-passes : (xs : List Float) → Every Stored xs → anyUnstorable xs ≡ false
 stored-passes xs e = every-storable xs (every-map Stored (λ (x : Float). T (storable x)) (λ x s. s .inside) xs e)

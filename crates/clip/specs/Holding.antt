@@ -1,13 +1,14 @@
 -- A clip set in arrays with counts, as the set of the definitions. Assumes nothing.
 use Prim.Native.Nat.{ℕ, _≤_}
 use mathlib.Core.Path.{_≡_}
-use mathlib.Core.Bool.{false}
+use mathlib.Core.Bool.{Bool, false}
 use mathlib.Core.List.{List, [], map}
 use lib.ListN.{length, take}
 use lib.Ieee.{Float}
 use Rattle.gf.specs.Doubles.{0·0}
 use Rattle.definitions.specs.declared.Knot.{Knot}
 use Rattle.definitions.specs.declared.Start.{Start}
+use Rattle.definitions.specs.declared.Default.{Default}
 use Rattle.definitions.specs.declared.Manifest.{Manifest}
 use Rattle.definitions.specs.ClipSet as Definitions
 use Rattle.definitions.specs.ClipSet.{maxActive, maxKnots, maxBlocks}
@@ -48,6 +49,9 @@ clipSetOf s = record {
   default = s .default;
   interpolateMissing = s .interpolate;
 }
+
+abbrev pub manifest : Default → Bool → Manifest
+manifest default interpolate = record { default = default; interpolate = interpolate }
 
 abbrev pub manifestOf : ClipSet → Manifest
 manifestOf s = record { default = s .default; interpolate = s .interpolate }

@@ -1,7 +1,6 @@
--- What the contracts on sets by value cite.
+-- What the contracts on sets by value cite, and what a crate that accepts one cites.
 pub mod Holding
 pub mod Settling
 pub mod Retiming
 pub mod Asked
-pub mod Parsing
-pub mod Expanding
+pub mod Laws

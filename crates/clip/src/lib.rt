@@ -1,18 +1,13 @@
-// Clip sets by value, and the operations on them.
-mod expanding;
-mod explicit;
+// Clip sets by value: how they are stored, what every way to one ends with, and the operations on a standing one.
 mod retiming;
-mod settling;
+pub mod settling;
 pub mod storage;
-mod template;
 mod timing;
 
 use definitions::ClipTime;
 use definitions::Default;
 use definitions::LayerOffset;
-use definitions::Manifest;
 use definitions::StageTime;
-use definitions::TemplateTimes;
 use storage::Active;
 use storage::Blocks;
 use storage::Knots;
@@ -22,8 +17,6 @@ ghost use Rattle.set_laws.specs.Sound.{Sound};
 ghost use Rattle.clip.specs.Asked.{answered};
 ghost use Rattle.clip.specs.Holding.{Held, clipSetOf, knotsIn, EmptySet};
 ghost use Rattle.clip.specs.Retiming.{Retimes};
-ghost use Rattle.clip.specs.Parsing.{manifest, explicitFields, Parses};
-ghost use Rattle.clip.specs.Expanding.{templateFields, Expands};
 
 #[repr(C)]
 pub struct ClipSet {
@@ -66,93 +59,6 @@ pub fn empty() -> ClipSet
         default,
         interpolate: false,
     }
-}
-
-// The set of the fields, unless 1, 2, 3, 4, 5 or 9 refuses it.
-pub fn parse_set(
-    clips: u64,
-    starts: &[f64],
-    numbers: &[f64],
-    xs: &[f64],
-    ys: &[f64],
-    blocks: &[f64],
-    default: Default,
-    interpolate: bool,
-) -> Parsed
-    ensures { λ r. ⌜ Parses (explicitFields clips (now (starts .entry)) (now (numbers .entry)) (now (xs .entry)) (now (ys .entry)) (now (blocks .entry)) (manifest default interpolate)) r ⌝ }
-{
-    let manifest = Manifest {
-        default,
-        interpolate,
-    };
-    let number = explicit::fields_number(clips, starts, numbers, xs, ys, blocks, manifest);
-    if number != 0 {
-        return settling::refused(number);
-    }
-    let n = starts.len();
-    let m = xs.len();
-    let plain = storage::blank();
-    let mut times = plain.times;
-    let mut indices = plain.numbers;
-    let mut us = plain.xs;
-    let mut vs = plain.ys;
-    explicit::parse_lists(
-        clips,
-        starts,
-        numbers,
-        xs,
-        ys,
-        blocks,
-        manifest,
-        &mut times[..n],
-        &mut indices[..n],
-        &mut us[..m],
-        &mut vs[..m],
-    )
-}
-
-// The set that a template expands to, unless 1, 2, 7, 6, 8, 2, 4, 5 or 9 refuses it. Where `offset` is false the offset is absent, whatever its slot holds.
-pub fn expand_template(
-    template: &[u8],
-    times: TemplateTimes,
-    offset: bool,
-    blocks: &[f64],
-    default: Default,
-    interpolate: bool,
-) -> Parsed
-    ensures { λ r. ⌜ Expands (templateFields (now (template .entry)) times offset (now (blocks .entry)) (manifest default interpolate)) r ⌝ }
-{
-    let manifest = Manifest {
-        default,
-        interpolate,
-    };
-    let number = template::fields_number(template, times, offset, blocks, manifest);
-    if number != 0 {
-        return settling::refused(number);
-    }
-    let promoted = expanding::promote(times);
-    let n = promoted.count;
-    if 256 < n {
-        return settling::refused(8);
-    }
-    let m = expanding::knot_count(n, offset);
-    let ts = promoted.items;
-    let plain = storage::blank();
-    let mut starts = plain.times;
-    let mut numbers = plain.numbers;
-    let mut xs = plain.xs;
-    let mut ys = plain.ys;
-    expanding::expand_lists(
-        &ts[..n],
-        times,
-        offset,
-        blocks,
-        manifest,
-        &mut starts[..n],
-        &mut numbers[..n],
-        &mut xs[..m],
-        &mut ys[..m],
-    )
 }
 
 impl ClipSet {

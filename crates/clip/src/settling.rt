@@ -5,6 +5,7 @@ use crate::storage;
 use definitions::Default;
 use definitions::Manifest;
 ghost use mathlib.Core.Path.{_≡_};
+ghost use Rattle.definitions.specs.ClipSet.{nanDefault};
 ghost use Rattle.definitions.specs.Retime.{sorted};
 ghost use Rattle.cell_laws.specs.Unpacked.{setOf};
 ghost use Rattle.clip.specs.Settling.{Fitting, Settles, Refuses, listsNumber};
@@ -15,6 +16,16 @@ pub fn refused(number: u8) -> Parsed
 {
     let set = crate::empty();
     Parsed { number, set }
+}
+
+// A NaN under the mark of a value.
+pub fn is_nan_default(default: Default) -> bool
+    ensures { λ r. ⌜ r ≡ nanDefault default ⌝ }
+{
+    if default.mark == 0 {
+        return default.value != default.value;
+    }
+    false
 }
 
 fn lists_number(times: &[f64], xs: &[f64], blocks: &[f64], default: Default) -> u8

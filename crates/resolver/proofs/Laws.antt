@@ -1,11 +1,10 @@
 -- What stands after a call, by its number; one law for each return of an operation. Assumes nothing.
-use Prim.Native.Nat.{ℕ, zero, suc, min, _≤_, _<_}
+use Prim.Native.Nat.{ℕ, zero, suc, min}
 use mathlib.Core.Path.{_≡_, refl, sym, ap, _∙_, subst}
 use mathlib.Core.Bool.{Bool, true, false, not, cond}
 use native.Mathlib.Omega.{arith}
-use mathlib.Core.List.{List, [], _∷_, map}
+use mathlib.Core.List.{List, []}
 use lib.ListN.{length}
-use borrow.Author.Tests.{le-ltb, lt-ltb}
 use lib.Dec.{ltb}
 use mathlib.Core.Option.{Option, none, some}
 use lib.Ieee.{Float}
@@ -14,13 +13,10 @@ use Rattle.definitions.specs.declared.LayerOffset.{LayerOffset}
 use Rattle.definitions.specs.ClipSet.{ClipSet, Model, noSet, standing}
 use Rattle.definitions.specs.Explicit.{ExplicitFields, explicitNumber, explicitSet}
 use Rattle.definitions.specs.Template.{TemplateFields, templateNumber, templateSet}
-use Rattle.definitions.specs.Retime.{retimeNumber, retimeStageTimes}
-use Rattle.definitions.specs.Lists.{_if_else_, _then_, writtenOver}
+use Rattle.definitions.specs.Retime.{retimeNumber}
+use Rattle.definitions.specs.Lists.{_if_else_, _then_}
 use Rattle.definitions.specs.StageSamples.{StageSample}
 use Rattle.sdf.specs.declared.Counted.{Counted}
-use Rattle.stage.specs.declared.Written.{Written}
-use Rattle.stage.specs.declared.Written.the-variants.{Count, NoRoom}
-use Rattle.stage.specs.Promises.{TimesWritten, SamplesWritten}
 use Rattle.definitions.specs.Samples.{Samples, samplesNumber}
 use Rattle.sdf.specs.Judged.{Judged, judged-accepted}
 use Rattle.definitions.specs.declared.StageTime.{StageTime}
@@ -31,20 +27,20 @@ use Rattle.cell_laws.specs.Unpacked.{samplesOf, sound-set, sound-samples}
 use Rattle.track.specs.declared.bake.Baked.{Baked}
 use Rattle.track.specs.Bakes.{BakeIs, bakedIs, bakedReply, bakes}
 use Rattle.definitions.specs.Calls as calls
-use Rattle.definitions.specs.Calls.{explicit, template, retime, step, accepted, retimed, bakedOf, outputsAfter, Bakes}
+use Rattle.definitions.specs.Calls.{step, accepted, retimed, bakedOf, outputsAfter, Bakes}
 use Rattle.set_laws.specs.Sound.{Sound}
 use Rattle.set_laws.specs.SoundCalls.{SoundModel}
 use Rattle.clip.specs.declared.ActiveClip.the-variants.{Clip, NoClip}
 use Rattle.clip.specs.Asked.{answered}
 use Rattle.clip.specs.declared.Parsed.{Parsed}
-use Rattle.clip.specs.Expanding as expanding
-use Rattle.clip.specs.Parsing as parsing
+use Rattle.template.specs.Expanding as expanding
+use Rattle.explicit.specs.Parsing as parsing
 use Rattle.clip.specs.Retiming as sets
-use Rattle.clip.specs.Holding.{clipSetOf, Held}
+use Rattle.clip.specs.Holding.{clipSetOf}
 use Rattle.resolver.specs.declared.Resolver.{Resolver}
 use Rattle.resolver.specs.declared.Accepted.{Accepted}
-use Rattle.resolver.specs.Asked.{Asked}
-use Rattle.resolver.specs.Lists.{counted, listed, itself, timeOf, markIn, countOf, ListsTimes, ListsSamples}
+use Rattle.asked.specs.Asked.{Asked}
+use Rattle.asked.specs.Lists.{counted, listed, itself, timeOf, markIn, ListsTimes, ListsSamples}
 use Rattle.resolver.specs.State.{model, Made}
 use Rattle.resolver.specs.Promises.{Accepts, Expands, Retimes, TellsTimes, TellsSamples, Installable, Installs}
 
@@ -235,10 +231,6 @@ pub reply-refused : (r : Baked) (n : ℕ) → r .number ≡ n → (n ≡ 0 → �
 reply-refused r zero e h = absurd (h refl)
 reply-refused r (suc n) e h = ap (λ (m : ℕ). reply m (bakedIs r)) (sym e)
 
--- a bake of a set is one of an equal set
-pub bake-as : {x y : ClipSet} {s : Samples} {before after : Outputs} {r : Baked} → x ≡ y → BakeIs x s before after r → BakeIs y s before after r
-bake-as {s = s} {before = before} {after = after} {r = r} e p = subst (λ (z : ClipSet). BakeIs z s before after r) e p
-
 pub bakes-set : (d : Resolver) (times values : List Float) (marks ends : List ℕ) (before after : Outputs) (r : Baked) → d .stands ≡ true → Asked (d .set) times values marks ends
     → samplesNumber (clipSetOf (d .set)) (samplesOf times values marks ends) ≡ 0 → BakeIs (clipSetOf (d .set)) (samplesOf times values marks ends) before after r
     → Bakes (model d) (samplesOf times values marks ends) before (bakedReply r) after
@@ -253,59 +245,9 @@ bakes-reply {m = m} {s = s} {o = o} {p = p} e k = subst (λ (r : Reply calls.Bak
 
 -- ---- replies that are lists
 
-mapped-itself : (l : List Float) → map itself l ≡ l
-mapped-itself [] = refl
-mapped-itself (x ∷ l) = ap (λ (m : List Float). x ∷ m) (mapped-itself l)
-
-mapped-length : {A B : Type 0} (f : A → B) (l : List A) → length (map f l) ≡ length l
-mapped-length f [] = refl
-mapped-length f (x ∷ l) = ap suc (mapped-length f l)
-
-room-enough : (room count : ℕ) → count ≤ room → 0 ≡ roomNumber room count
-room-enough room count h = sym (ap (λ (b : Bool). 22 if b else 0) (le-ltb room count h))
-
-room-short : (room count : ℕ) → room < count → 22 ≡ roomNumber room count
-room-short room count h = sym (ap (λ (b : Bool). 22 if b else 0) (lt-ltb room count h))
-
-pub times-listed : (l before after : List Float) (w : Written) → TimesWritten l before after w → ListsTimes l before after (countOf w)
-times-listed l before after (Count n) (e, h, q) =
-    let z = room-enough (length before) (length l) h in
-    record {
-      count = ap (λ (k : ℕ). record { number = 0; count = k }) e ∙ ap (λ (k : ℕ). counted (reply k l)) z;
-      times = q ∙ ap (λ (k : List Float). writtenOver k before) (sym (mapped-itself l)) ∙ ap (λ (k : ℕ). listed itself (reply k l) before) z;
-    }
-times-listed l before after NoRoom (h, q) =
-    let z = room-short (length before) (length l) h in
-    record {
-      count = ap (λ (k : ℕ). counted (reply k l)) z;
-      times = q ∙ ap (λ (k : ℕ). listed itself (reply k l) before) z;
-    }
-
-pub samples-listed : (l : List StageSample) (ts ts′ : List Float) (ms ms′ : List ℕ) (w : Written) → SamplesWritten (map timeOf l) (map markIn l) ts ts′ ms ms′ w → ListsSamples l ts ts′ ms ms′ (countOf w)
-samples-listed l ts ts′ ms ms′ (Count n) (e, h, p, q) =
-    let z = room-enough (min (length ts) (length ms)) (length l) (subst (λ (k : ℕ). k ≤ min (length ts) (length ms)) (mapped-length timeOf l) h) in
-    record {
-      count = ap (λ (k : ℕ). record { number = 0; count = k }) (e ∙ mapped-length timeOf l) ∙ ap (λ (k : ℕ). counted (reply k l)) z;
-      written-times = p ∙ ap (λ (k : ℕ). listed timeOf (reply k l) ts) z;
-      written-marks = q ∙ ap (λ (k : ℕ). listed markIn (reply k l) ms) z;
-    }
-samples-listed l ts ts′ ms ms′ NoRoom (h, p, q) =
-    let z = room-short (min (length ts) (length ms)) (length l) (subst (λ (k : ℕ). min (length ts) (length ms) < k) (mapped-length timeOf l) h) in
-    record {
-      count = ap (λ (k : ℕ). counted (reply k l)) z;
-      written-times = p ∙ ap (λ (k : ℕ). listed timeOf (reply k l) ts) z;
-      written-marks = q ∙ ap (λ (k : ℕ). listed markIn (reply k l) ms) z;
-    }
-
 -- a refusal's count is 0
 pub counted-refused : (r : Counted) (n : ℕ) → r .number ≡ n → r .count ≡ 0 → r ≡ record { number = n; count = 0 }
 counted-refused r n e f = λ i. record { number = e i; count = f i }
-
-pub times-told : (l l′ before after : List Float) (w : Written) (r : Counted) → l ≡ l′ → r ≡ countOf w → TimesWritten l before after w → ListsTimes l′ before after r
-times-told l l′ before after w r e q p = subst (λ (x : Counted). ListsTimes l′ before after x) (sym q) (times-listed l′ before after w (subst (λ (x : List Float). TimesWritten x before after w) e p))
-
-pub samples-told : (l l′ : List StageSample) (ts ts′ : List Float) (ms ms′ : List ℕ) (w : Written) (r : Counted) → l ≡ l′ → r ≡ countOf w → SamplesWritten (map timeOf l) (map markIn l) ts ts′ ms ms′ w → ListsSamples l′ ts ts′ ms ms′ r
-samples-told l l′ ts ts′ ms ms′ w r e q p = subst (λ (x : Counted). ListsSamples l′ ts ts′ ms ms′ x) (sym q) (samples-listed l′ ts ts′ ms ms′ w (subst (λ (x : List StageSample). SamplesWritten (map timeOf x) (map markIn x) ts ts′ ms ms′ w) e p))
 
 -- ---- the questions whose reply is a list, by their replies
 

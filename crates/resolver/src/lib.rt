@@ -1,6 +1,4 @@
 // A resolver holds one clip set by value, or none, and answers questions about it: 01's desk.
-mod asked;
-
 use clip::ActiveClip;
 use clip::ClipSet;
 use clip::Parsed;
@@ -15,10 +13,9 @@ use track::bake::Baked;
 use value::untimed::ValueState;
 ghost use mathlib.Core.Path.{_≡_};
 ghost use Rattle.cell_laws.specs.Unpacked.{samplesOf};
-ghost use Rattle.clip.specs.Expanding.{templateFields};
-ghost use Rattle.clip.specs.Parsing.{explicitFields};
-ghost use Rattle.clip.specs.Expanding.{templateFields};
-ghost use Rattle.clip.specs.Parsing.{manifest};
+ghost use Rattle.clip.specs.Holding.{manifest};
+ghost use Rattle.explicit.specs.Parsing.{explicitFields};
+ghost use Rattle.template.specs.Expanding.{templateFields};
 ghost use Rattle.track.specs.Bakes.{outputs, bakedReply};
 ghost use Rattle.resolver.specs.State.{Made};
 ghost use Rattle.resolver.specs.Promises.{Begins, Accepts, Expands, Retimes, BakesTrack, TellsTimes, TellsSamples, TellsClip, TellsTime, TellsValue, TellsUntimed, Installable, Installs};
@@ -86,7 +83,16 @@ impl Resolver {
         requires { ⌜ Made self ⌝ }
         ensures { λ r. ⌜ Accepts self (explicitFields clips (now (starts .entry)) (now (numbers .entry)) (now (xs .entry)) (now (ys .entry)) (now (blocks .entry)) (manifest default interpolate)) r ⌝ }
     {
-        let parsed = clip::parse_set(clips, starts, numbers, xs, ys, blocks, default, interpolate);
+        let parsed = explicit::parse_set(
+            clips,
+            starts,
+            numbers,
+            xs,
+            ys,
+            blocks,
+            default,
+            interpolate,
+        );
         install(self, parsed, false)
     }
 
@@ -104,7 +110,14 @@ impl Resolver {
         requires { ⌜ Made self ⌝ }
         ensures { λ r. ⌜ Expands self (templateFields (now (template .entry)) times offset (now (blocks .entry)) (manifest default interpolate)) r ⌝ }
     {
-        let parsed = clip::expand_template(template, times, offset, blocks, default, interpolate);
+        let parsed = template::expand_template(
+            template,
+            times,
+            offset,
+            blocks,
+            default,
+            interpolate,
+        );
         install(self, parsed, false)
     }
 

@@ -1,33 +1,16 @@
 -- The samples' number, settled by each test in turn. Assumes nothing.
 use mathlib.Core.Path.{_≡_}
-use mathlib.Core.Bool.{Bool, true, false, not}
-use mathlib.Core.List.{List, [], _∷_}
-use Prim.Native.Nat.{ℕ, zero, suc, _≤_}
-use lib.Dec.{eqb, ltb}
-use lib.ListN.{length, getD}
-use lib.Ieee.{Float, nan}
-use borrow.Author.Tests.{eq-eqb, ne-eqb, eqb-true, ltb-false, not-false}
+use mathlib.Core.Bool.{Bool, true, false}
+use mathlib.Core.List.{List}
+use Prim.Native.Nat.{ℕ}
+use lib.ListN.{length}
+use lib.Ieee.{Float}
+use borrow.Author.Tests.{eq-eqb, ne-eqb}
 use Rattle.definitions.specs.Lists.{any, zipWith}
-use Rattle.definitions.specs.ClipSet.{ClipSet, maxSamples, anyUnstorable}
+use Rattle.definitions.specs.ClipSet.{ClipSet, anyUnstorable}
 use Rattle.definitions.specs.Samples.{unlikeLengths, samples1, nanValue, samples2, badMarks, closes, samples9, samplesNumber, clipTimes}
-use Rattle.set_laws.specs.Tests.{or-false}
-use Rattle.set_laws.specs.Every.{Every}
-use Rattle.cell_laws.specs.Places.{Fits}
 use Rattle.cell_laws.specs.Unpacked.{samplesOf}
 use Rattle.sdf.specs.Parts.{partsAscend}
-
--- what owning a list of doubles tells, as a property of every entry
-pub every-fits : (xs : List Float) → ((i : ℕ) → Fits (getD xs i nan)) → Every Fits xs
-every-fits [] h = tt
-every-fits (x ∷ xs) h = (h zero, every-fits xs (λ i. h (suc i)))
-
--- the lists are paired, and not too long
-pub paired : (times values : List Float) (marks : List ℕ) → unlikeLengths times values marks ≡ false → (length times ≤ maxSamples) × (length values ≡ length times) × (length marks ≡ length times)
-unfolding unlikeLengths
-paired times values marks e =
-    let m = or-false _ (not (eqb (length marks) (length times))) e in
-    let v = or-false (ltb maxSamples (length times)) (not (eqb (length values) (length times))) (m .0) in
-    (ltb-false maxSamples (length times) (v .0), eqb-true _ _ (not-false _ (v .1)), eqb-true _ _ (not-false _ (m .1)))
 
 module _ (times values : List Float) (marks ends : List ℕ) (set : ClipSet) where
   abbrev nans : Bool

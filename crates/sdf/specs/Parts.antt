@@ -6,7 +6,7 @@ use lib.ListN.{length, take, drop}
 use lib.Ieee.{Float}
 use Rattle.definitions.specs.Lists.{all, below}
 use Rattle.definitions.specs.Doubles.{ascending}
-use Rattle.definitions.specs.Samples.{clipBegin, clipEnd, clipTimes}
+use Rattle.definitions.specs.Samples.{clipBegin, clipEnd}
 
 -- `clipTimes` of the times and the ends alone
 abbrev pub part : List Float → List ℕ → ℕ → List Float

@@ -21,9 +21,10 @@ ghost use mathlib.Core.Path.{_≡_};
 ghost use Rattle.definitions.specs.ClipSet.{stage, clip};
 ghost use Rattle.definitions.specs.Track.{readTrack};
 ghost use Rattle.cell_laws.specs.Unpacked.{samplesOf};
-ghost use Rattle.clip.specs.Expanding.{templateFields};
-ghost use Rattle.clip.specs.Parsing.{explicitFields, manifest};
-ghost use Rattle.sdf.specs.Normalizes.{Normalizes};
+ghost use Rattle.clip.specs.Holding.{manifest};
+ghost use Rattle.explicit.specs.Parsing.{explicitFields};
+ghost use Rattle.template.specs.Expanding.{templateFields};
+ghost use Rattle.normal_form.specs.Normalizes.{Normalizes};
 ghost use Rattle.track.specs.Bakes.{outputs, bakedReply};
 ghost use Rattle.track.specs.Entries.{entryIs};
 ghost use Rattle.track.specs.Held.{trackOfLists};
@@ -353,5 +354,5 @@ pub extern "C" fn tavitrozy_normalize(
 ) -> Counted
     ensures { λ r. ⌜ Normalizes (now (times .entry)) (now (values .entry)) (now (marks .entry)) (outputs (now (outtimes .entry)) (now (outvalues .entry)) (now (outmarks .entry))) (outputs (now (outtimes .exit)) (now (outvalues .exit)) (now (outmarks .exit))) r ⌝ }
 {
-    sdf::normalize(times, values, marks, outtimes, outvalues, outmarks)
+    normal_form::normalize(times, values, marks, outtimes, outvalues, outmarks)
 }

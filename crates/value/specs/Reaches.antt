@@ -23,7 +23,6 @@ use Rattle.set_laws.specs.Places.{Ascending}
 use Rattle.set_laws.specs.Stored.{length-pairs, pairs-at}
 use Rattle.cell_laws.specs.Every.{every-by, every-kept, every-map, every-append, every-left, every-right}
 use Rattle.cell_laws.specs.Ends.{Number}
-use Rattle.cell_laws.specs.Places.{Fits}
 use Rattle.cell_laws.specs.Unpacked.{knotsOf}
 use Rattle.value.specs.declared.window.Bound.{Bound}
 use Rattle.value.specs.declared.window.Bound.the-variants.{At, Nothing}
@@ -33,7 +32,7 @@ use Rattle.value.specs.Inverses.{onSegment, inversesOf, every-of, every-
 use Rattle.value.specs.Near.{Segment, inverse-fits, range}
 use Rattle.value.specs.Nearest.{LowerMet, UpperMet, Met, LowerIn, Sided, Nearer, Searched}
 use Rattle.value.specs.Beside.{Facing, meet-above, number-at, climb, next-above}
-use Rattle.value.specs.Tops.{segmentOf, TopsOf, segment-here}
+use Rattle.value.specs.Tops.{segmentOf, ReachOf, segment-here}
 
 -- ---- what a search among knots and samples asks
 
@@ -127,26 +126,25 @@ module _ (t : Float) (w : Interval) (xs ys cs : List Float) where
 
     -- ---- the segments before those that were searched reach no further than the lower neighbour
 
-    pub reached-tops : (tops : List Float) → TopsOf xs ys tops → (j : ℕ) → 0 < j → j ≤ i → Fits (getD tops (j - 1) nan)
-        → {h r : Bounds} → PastAll (r .lower) (getD tops (j - 1) nan) → Reached t w xs ys cs j i h r → Reached t w xs ys cs 0 i h r
-    reached-tops tops O j p q f {h} {r} d A = record {
+    pub reached-past : (j : ℕ) → j ≤ i → (top : Float) → ReachOf xs ys j top → {h r : Bounds} → PastAll (r .lower) top → Reached t w xs ys cs j i h r → Reached t w xs ys cs 0 i h r
+    reached-past j q top O {h} {r} d A = record {
       run = λ nt g N x s.
           let u = A .run nt g N (λ n y b. x n zero-le b) s in
           record {
             among = u .among;
             known = λ n y b. elim (decLe j n) [
               | yes v ↦ u .known n v b
-              | no v ↦ segment-times n (Met t r) (λ c z o. past (r .lower) g N (u .among .0) d (inv n c) (inverse-number n (omega arith) c z .0) (O .above (j - 1) n (omega arith) (omega arith) c z))
+              | no v ↦ segment-times n (Met t r) (λ c z o. past (r .lower) g N (u .among .0) d (inv n c) (inverse-number n (omega arith) c z .0) (O .last n (omega arith) c z))
             ];
             kept = u .kept;
           };
     }
       where
-        past : (b : Bound) (g : List Float) → Every Number g → LowerIn g t b → PastAll b (getD tops (j - 1) nan) → (x : Float) → Number x → T (le x (getD tops (j - 1) nan)) → (key x ≤ key t → LowerMet b x) × (key t < key x → UpperMet (r .upper) x)
+        past : (b : Bound) (g : List Float) → Every Number g → LowerIn g t b → PastAll b top → (x : Float) → Number x → T (le x top) → (key x ≤ key t → LowerMet b x) × (key t < key x → UpperMet (r .upper) x)
         past Nothing g N m e x n k = absurd e
         past (At l) g N m e x n k =
             let nl = in-every Number l g N (m .0) in
-            let v = le→key x l (n .0) (nl .0) (n .1) (nl .1) (le-trans x (getD tops (j - 1) nan) l (n .0) f (nl .0) k e) in
+            let v = le→key x l (n .0) (nl .0) (n .1) (nl .1) (le-trans x top l (n .0) (O .number .0) (nl .0) k e) in
             (λ _. v, λ y. absurd (omega (arith, m .1)))
 
     -- ---- those behind begin at the next knot

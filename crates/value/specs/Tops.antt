@@ -33,10 +33,17 @@ knotAt xs ys i = knot (getD xs i nan) (getD ys i nan)
 abbrev pub segmentOf : List Float → List Float → ℕ → Knot × Knot
 segmentOf xs ys j = (knotAt xs ys j, knotAt xs ys (j + 1))
 
--- the top at k is not below any inverse time of the segments up to k
+-- r is not below any inverse time of the segments before i
+pub record ReachOf (xs ys : List Float) (i : ℕ) (r : Float) : Type 0 where
+  pub number : Number r
+  pub last : (j : ℕ) → j < i → (c : Float) → T (spans (getD ys j nan) (getD ys (j + 1) nan) c) → T (le (inverse (knotAt xs ys j) (knotAt xs ys (j + 1)) c) r)
+
+-- each top, at k, is such a one for the segments up to k. There may be none.
 pub record TopsOf (xs ys tops : List Float) : Type 0 where
-  pub long : length xs ≤ length tops + 1
-  pub above : (k j : ℕ) → j ≤ k → k + 1 < length xs → (c : Float) → T (spans (getD ys j nan) (getD ys (j + 1) nan) c) → T (le (inverse (knotAt xs ys j) (knotAt xs ys (j + 1)) c) (getD tops k nan))
+  pub above : (k : ℕ) → k < length tops → k + 1 < length xs → ReachOf xs ys (k + 1) (getD tops k nan)
+
+pub no-tops : (xs ys tops : List Float) → length tops ≡ 0 → TopsOf xs ys tops
+no-tops xs ys tops e = record { above = λ k h. absurd (omega arith) }
 
 -- of sound knots each is a segment
 pub segment-here : (xs ys : List Float) → length xs ≡ length ys → Every Segment (pairs (knotsOf xs ys)) → (j : ℕ) → j + 1 < length xs → Segment (segmentOf xs ys j)
@@ -109,36 +116,41 @@ module _ (q : Knot × Knot) (s : Segment q) (top : Float) (nt : Number top) wher
 
 -- ---- segment by segment
 
--- the tops of the segments before i, and the last of them
-pub record TopsTo (xs ys items : List Float) (top : Float) (i : ℕ) : Type 0 where
-  pub long : length items ≡ maxKnots
-  pub number : Number top
-  pub last : (j : ℕ) → j < i → (c : Float) → T (spans (getD ys j nan) (getD ys (j + 1) nan) c) → T (le (inverse (knotAt xs ys j) (knotAt xs ys (j + 1)) c) top)
-  pub above : (k j : ℕ) → j ≤ k → k < i → (c : Float) → T (spans (getD ys j nan) (getD ys (j + 1) nan) c) → T (le (inverse (knotAt xs ys j) (knotAt xs ys (j + 1)) c) (getD items k nan))
-
 module _ (xs ys : List Float) where
-  pub tops-none : (items : List Float) (top : Float) → length items ≡ maxKnots → Number top → TopsTo xs ys items top 0
-  tops-none items top e n = record { long = e; number = n; last = λ j h. absurd (omega arith); above = λ k j l h. absurd (omega arith) }
+  pub reach-none : (top : Float) → Number top → ReachOf xs ys 0 top
+  reach-none top n = record { number = n; last = λ j h. absurd (omega arith) }
 
-  pub tops-next : (items : List Float) (top r : Float) (i : ℕ) → i < length items → TopsTo xs ys items top i → NewTop (segmentOf xs ys i) top r → TopsTo xs ys (set items i r) r (i + 1)
-  tops-next items top r i h A N = record {
-    long = length-set items i r ∙ A .long;
+  pub reach-next : (top r : Float) (i : ℕ) → ReachOf xs ys i top → NewTop (segmentOf xs ys i) top r → ReachOf xs ys (i + 1) r
+  reach-next top r i A N = record {
     number = N .number;
-    last = last;
-    above = λ k j l b c s. elim (decLe i k) [
-      | yes p ↦
-          let z : i ≡ k = omega arith in
-          subst (λ (n : ℕ). T (le (inverse (knotAt xs ys j) (knotAt xs ys (j + 1)) c) (getD (set items i r) n nan))) z
-          (subst (λ (v : Float). T (le (inverse (knotAt xs ys j) (knotAt xs ys (j + 1)) c) v)) (sym (getD-set-same items i r nan h)) (last j (omega arith) c s))
-      | no p ↦ subst (λ (v : Float). T (le (inverse (knotAt xs ys j) (knotAt xs ys (j + 1)) c) v)) (sym (getD-set-other items i k r nan (λ e. absurd (omega arith)))) (A .above k j l (omega arith) c s)
+    last = λ j b c s. elim (decLe i j) [
+      | yes p ↦ let z : i ≡ j = omega arith in subst (λ (n : ℕ). T (spans (getD ys n nan) (getD ys (n + 1) nan) c) → T (le (inverse (knotAt xs ys n) (knotAt xs ys (n + 1)) c) r)) z (N .reach c) s
+      | no p ↦ le-trans (inverse (knotAt xs ys j) (knotAt xs ys (j + 1)) c) top r (inverse-fits (segmentOf xs ys j) c) (A .number .0) (N .number .0) (A .last j (omega arith) c s) (N .over)
     ];
   }
-    where
-      last : (j : ℕ) → j < i + 1 → (c : Float) → T (spans (getD ys j nan) (getD ys (j + 1) nan) c) → T (le (inverse (knotAt xs ys j) (knotAt xs ys (j + 1)) c) r)
-      last j b c s = elim (decLe i j) [
-        | yes p ↦ let z : i ≡ j = omega arith in subst (λ (n : ℕ). T (spans (getD ys n nan) (getD ys (n + 1) nan) c) → T (le (inverse (knotAt xs ys n) (knotAt xs ys (n + 1)) c) r)) z (N .reach c) s
-        | no p ↦ le-trans (inverse (knotAt xs ys j) (knotAt xs ys (j + 1)) c) top r (inverse-fits (segmentOf xs ys j) c) (A .number .0) (N .number .0) (A .last j (omega arith) c s) (N .over)
-      ]
 
-  pub tops-all : (items : List Float) (top : Float) (i : ℕ) → length xs ≤ maxKnots → length xs ≤ i + 1 → TopsTo xs ys items top i → TopsOf xs ys items
-  tops-all items top i l h A = record { long = omega (arith, A .long); above = λ k j b d. A .above k j b (omega arith) }
+  -- ---- all tops
+
+  -- the tops of the segments before i, and the last of them
+  pub record TopsTo (items : List Float) (top : Float) (i : ℕ) : Type 0 where
+    pub long : length items ≡ maxKnots
+    pub here : ReachOf xs ys i top
+    pub above : (k : ℕ) → k < i → ReachOf xs ys (k + 1) (getD items k nan)
+
+  pub tops-none : (items : List Float) (top : Float) → length items ≡ maxKnots → Number top → TopsTo items top 0
+  tops-none items top e n = record { long = e; here = reach-none top n; above = λ k h. absurd (omega arith) }
+
+  pub tops-next : (items : List Float) (top r : Float) (i : ℕ) → i < length items → TopsTo items top i → NewTop (segmentOf xs ys i) top r → TopsTo (set items i r) r (i + 1)
+  tops-next items top r i h A N = record {
+    long = length-set items i r ∙ A .long;
+    here = reach-next top r i (A .here) N;
+    above = λ k b. elim (decLe i k) [
+      | yes p ↦
+          let z : i ≡ k = omega arith in
+          subst (λ (n : ℕ). ReachOf xs ys (n + 1) (getD (set items i r) n nan)) z (subst (ReachOf xs ys (i + 1)) (sym (getD-set-same items i r nan h)) (reach-next top r i (A .here) N))
+      | no p ↦ subst (ReachOf xs ys (k + 1)) (sym (getD-set-other items i k r nan (λ e. absurd (omega arith)))) (A .above k (omega arith))
+    ];
+  }
+
+  pub tops-all : (items : List Float) (top : Float) (i : ℕ) → length xs ≤ i + 1 → TopsTo items top i → TopsOf xs ys items
+  tops-all items top i h A = record { above = λ k b d. A .above k (omega arith) }

@@ -14,11 +14,10 @@ use Rattle.gf.specs.Key.{le-refl, finite-no-nan}
 use Rattle.definitions.specs.declared.Manifest.{Manifest}
 use Rattle.definitions.specs.declared.Knot.{Knot}
 use Rattle.definitions.specs.declared.Source.{Source}
-use Rattle.definitions.specs.Lists.{keep, pairs}
-use Rattle.definitions.specs.ClipSet.{ClipSet, maxKnots, stage}
+use Rattle.definitions.specs.Lists.{keep}
+use Rattle.definitions.specs.ClipSet.{ClipSet, stage}
 use Rattle.definitions.specs.Timing.{lastAtMost, activePosition}
 use Rattle.definitions.specs.Samples.{Samples}
-use Rattle.definitions.specs.Explicit.{knot}
 use Rattle.definitions.specs.Value.{directSource, gathered, greatest, maximum, lowerNeighbour, upperNeighbour, jump, valueSource}
 use Rattle.set_laws.specs.Every.{Every}
 use Rattle.set_laws.specs.Places.{Ascending}
@@ -30,13 +29,12 @@ use Rattle.cell_laws.specs.Ends.{minimum-one}
 use Rattle.cell_laws.specs.Window.{gathered-fit}
 use Rattle.cell_laws.specs.Stretches.{boundaries, heldBetween, heldFrom, readAs, boundaries-fit, value-by, held-many, held-few}
 use Rattle.cell_laws.specs.Neighbours.{IsLower, IsUpper, lower-found, lower-none, upper-found, upper-none, jump-alike}
-use Rattle.cell_laws.specs.Unpacked.{activeOf, knotsOf, setOf, samplesOf, zip-length, sound-set, sound-samples, Ready}
+use Rattle.cell_laws.specs.Unpacked.{activeOf, knotsOf, setOf, samplesOf, sound-set, sound-samples, Ready}
 use Rattle.value.specs.declared.window.Bound.{Bound}
 use Rattle.value.specs.declared.window.Bound.the-variants.{At, Nothing}
 use Rattle.value.specs.declared.window.Bounds.{Bounds}
 use Rattle.value.specs.declared.windowed.Window.{Window}
 use Rattle.value.specs.Bounds.{LowerIs, UpperIs, NeighboursAre}
-use Rattle.value.specs.Near.{Segment}
 use Rattle.value.specs.Reads.{ready-active, ready-position, ready-readable}
 use Rattle.value.specs.Tops.{TopsOf}
 use Rattle.value.specs.Windowed.{samplesIn, windowTimes, windowSource, Lent, Nearing}
@@ -54,8 +52,6 @@ heldAt knots t (At l) (At h) = cond (jump knots l h) t l
 pub record Valued (xs ys times : List Float) (w : Window) (t : Float) : Type 0 where
   pub knots : Ascending xs
   pub paired : length xs ≡ length ys
-  pub few : length xs ≤ maxKnots
-  pub segments : Every Segment (pairs (knotsOf xs ys))
   pub lent : Lent times w
   pub nears : (tops : List Float) → TopsOf xs ys tops → Nearing xs ys tops (samplesIn times w) w t
 
@@ -196,12 +192,9 @@ module _ {starts : List Float} {clips : List ℕ} {xs ys blocks : List Float} {m
 
     module _ (w : Window) (W : WindowIs starts clips xs ys blocks m times values marks ends p w) where
       pub value-asks : Valued xs ys times w t
-      unfolding setOf
       value-asks = record {
         knots = ready-readable R .knots;
         paired = R .knots-paired;
-        few = subst (λ (n : ℕ). n ≤ maxKnots) (zip-length knot xs ys (R .knots-paired)) (R .sound .few-knots);
-        segments = ready-readable R .segments;
         lent = window-lent R p w W;
         nears = window-nears R p w W t at record { fitting = ft; finitely = nt };
       }

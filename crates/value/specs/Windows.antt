@@ -17,12 +17,10 @@ use Rattle.definitions.specs.Lists.{any, keep}
 use Rattle.definitions.specs.ClipSet.{ClipSet, knotTimes}
 use Rattle.definitions.specs.Samples.{Samples, clipTimes}
 use Rattle.definitions.specs.Value.{contains, timeOr, window, startOf, contributes, blockedAt, windowSampleTimes, contributedTimes, gathered}
-use Rattle.cell_laws.specs.Places.{Fits}
-use Rattle.cell_laws.specs.Window.{gathered-fit}
-use Rattle.cell_laws.specs.Unpacked.{start, activeOf, knotsOf, setOf, samplesOf, zip-here, zip-length, knot-times, sound-set, sound-samples, Ready}
+use Rattle.cell_laws.specs.Unpacked.{start, activeOf, knotsOf, setOf, samplesOf, zip-here, zip-length, knot-times, Ready}
 use Rattle.value.specs.declared.window.Bounds.{Bounds}
 use Rattle.value.specs.Reads.{partOf}
-use Rattle.value.specs.Bounds.{inside, withTime, nothing, Scanned, scanned-none, scanned-one, scanned-then, NeighboursAre, neighbours-of}
+use Rattle.value.specs.Bounds.{inside, withTime, nothing, Scanned, scanned-none, scanned-one, scanned-then}
 use Rattle.value.specs.Inverses.{inversesOf}
 
 -- ---- the window
@@ -118,18 +116,3 @@ module _ {starts : List Float} {clips : List ℕ} {xs ys blocks : List Float} {m
         ap (λ (l : List Float). l ++ startOf (getElem? (activeOf starts clips) (suc p)))
         (window-times p h (contributedTimes set s (getElem? (activeOf starts clips) p))
         ∙ ap (windowPart starts xs ys p) (own-times p h ∙ ap (λ (b : Bool). ifOwn b (partOf times ends (getD clips p 0))) (sym e)))
-
-    module _ (t : Float) (ft : Fits t) (n : Bounds) (W : Scanned t (windowPart starts xs ys p (ifOwn own (partOf times ends (getD clips p 0)))) nothing n) where
-      found : (r : Bounds) → Scanned t (startOf (getElem? (activeOf starts clips) (suc p))) n r → NeighboursAre (gathered set s p) t r
-      found r N =
-          neighbours-of t ft (gathered set s p) (gathered-fit set s (sound-set set (R .sound)) (sound-samples set s (R .accepted)) p) r
-          (subst (λ (l : List Float). Scanned t l nothing r) (sym gathered-is) (scanned-then t W N))
-
-      -- "then the next start"
-      pub found-next : p + 1 < length starts → NeighboursAre (gathered set s p) t (withTime t n (getD starts (p + 1) nan))
-      found-next l =
-          found (withTime t n (getD starts (p + 1) nan))
-          (subst (λ (o : Option Start). Scanned t (startOf o) n (withTime t n (getD starts (p + 1) nan))) (sym (next-is starts clips (R .starts-paired) p l)) (scanned-one t n (getD starts (p + 1) nan)))
-
-      pub found-last : length starts ≤ p + 1 → NeighboursAre (gathered set s p) t n
-      found-last l = found n (subst (λ (o : Option Start). Scanned t (startOf o) n n) (sym (next-none starts clips (R .starts-paired) p l)) (scanned-none t n))

@@ -3,15 +3,14 @@
 use definitions::Manifest;
 use definitions::Source;
 ghost use mathlib.Core.Path.{_≡_};
-ghost use mathlib.Core.Bool.{not, _&&_};
+ghost use mathlib.Core.Bool.{not, _&&_, cond};
 ghost use mathlib.Core.List.{reverse};
 ghost use Prim.Native.Nat.{_<_, _≤_};
 ghost use lib.ListN.{length, getD, take, drop};
 ghost use lib.Ieee.{Float, nan, eq};
 ghost use Rattle.definitions.specs.Lists.{any};
-ghost use Rattle.definitions.specs.ClipSet.{stage};
 ghost use Rattle.definitions.specs.Samples.{clipBegin, clipEnd};
-ghost use Rattle.definitions.specs.Value.{_orElse_, firstReading, manifestDefault, gapSource, directSource};
+ghost use Rattle.definitions.specs.Value.{_orElse_, firstReading, manifestDefault, gapSource};
 ghost use Rattle.cell_laws.specs.Unpacked.{start, activeOf, setOf, samplesOf, Ready};
 ghost use Rattle.value.specs.Reads.{readingIs, Readable, readPart, readStart};
 
@@ -21,18 +20,27 @@ pub enum Reading {
     Nothing,
 }
 
-// A manifest block equals this start.
+// 1 where a block equals the start, else 0.
+fn equal_found(block: f64, start: f64) -> u64
+    ensures { λ r. ⌜ r ≡ cond (eq block start) 1 0 ⌝ }
+{
+    if block == start {
+        return 1;
+    }
+    0
+}
+
+// A manifest block equals this start. They are counted, and no count ends the loop, so that several are tested at once.
 pub fn blocked_at(blocks: &[f64], start: f64) -> bool
     ensures { λ r. ⌜ r ≡ any (λ (b : Float). eq b start) (now (blocks .entry)) ⌝ }
 {
+    let mut found: u64 = 0;
     let mut i: usize = 0;
     while i < blocks.len() {
-        if blocks[i] == start {
-            return true;
-        }
+        found += equal_found(blocks[i], start);
         i += 1;
     }
-    false
+    0 < found
 }
 
 // The clip of this start contributes its samples: blocks count only where the missing flag is on.
@@ -242,59 +250,4 @@ pub fn gap_source(
         return Source::Sample(clip, place);
     }
     Source::Blocked
-}
-
-// What is read directly at the stage time `t`.
-pub fn direct_source(
-    starts: &[f64],
-    clips: &[u64],
-    xs: &[f64],
-    ys: &[f64],
-    blocks: &[f64],
-    m: Manifest,
-    times: &[f64],
-    values: &[f64],
-    marks: &[u8],
-    ends: &[u64],
-    t: f64,
-) -> Source
-    requires { ⌜ Ready (now starts) (now clips) (now xs) (now ys) (now blocks) m (now times) (now values) (now marks) (now ends) ⌝ }
-    ensures { λ r. ⌜ r ≡ directSource (setOf (length (now (ends .entry))) (now (starts .entry)) (now (clips .entry)) (now (xs .entry)) (now (ys .entry)) (now (blocks .entry)) m) (samplesOf (now (times .entry)) (now (values .entry)) (now (marks .entry)) (now (ends .entry))) (stage t) ⌝ }
-{
-    if starts.len() == 0 {
-        return Source::Absent;
-    }
-    let p = lists::last_at_most(starts, t);
-    if !contributes(blocks, m, starts[p]) {
-        return gap_source(
-            starts,
-            clips,
-            xs,
-            ys,
-            blocks,
-            m,
-            times,
-            values,
-            marks,
-            ends,
-            p,
-        );
-    }
-    let own = read_clip(xs, ys, times, ends, clips[p], t);
-    if let Reading::Of(clip, place) = own {
-        return Source::Sample(clip, place);
-    }
-    gap_source(
-        starts,
-        clips,
-        xs,
-        ys,
-        blocks,
-        m,
-        times,
-        values,
-        marks,
-        ends,
-        p,
-    )
 }

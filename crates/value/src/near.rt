@@ -4,6 +4,7 @@
 use super::beside::near_times;
 use super::beside::near_turn;
 use super::candidate::with_near;
+use super::tops::top_before;
 use super::turn::turn;
 use super::window::Bound;
 use super::window::Bounds;
@@ -88,11 +89,11 @@ fn near_before(
     let mut r = held;
     let mut j = i;
     while j > 0 {
-        let before = j - 1;
         let low = r.lower;
-        if is_past(low, tops[before]) {
+        if is_past(low, top_before(xs, ys, tops, j)) {
             return r;
         }
+        let before = j - 1;
         let found = near_segment(r, xs, ys, cs, before, w, t, sample);
         let lower = found.lower;
         let upper = found.upper;
@@ -167,7 +168,8 @@ fn near_starts(w: Window, t: f64) -> Bounds
     first
 }
 
-// The neighbours of `t` among the times of its window, whose samples are `cs`. A hint is any number.
+// The neighbours of `t` among the times of its window, whose samples are `cs`. A hint is any number. Tops spare many searches a pass over the knots; there
+// may be none.
 pub fn near_in(
     xs: &[f64],
     ys: &[f64],

@@ -1,10 +1,8 @@
 // The value at a stage time. With several starts it is held from the lower neighbour among the window's gathered times, unless there is a jump between.
 
 use super::direct::clip_begin;
-use super::direct::direct_source;
 use super::jump::is_jump;
 use super::near::near_in;
-use super::tops::tops_of;
 use super::window::Bound;
 use super::windowed::Window;
 use super::windowed::source_in;
@@ -27,10 +25,10 @@ fn value_in(xs: &[f64], ys: &[f64], times: &[f64], w: Window, t: f64) -> Source
     requires { ⌜ Valued (now xs) (now ys) (now times) w t ⌝ }
     ensures { λ r. ⌜ ValueIn (now (xs .entry)) (now (ys .entry)) (now (times .entry)) w t r ⌝ }
 {
-    let reach = tops_of(xs, ys);
     let begin = w.begin;
     let end = w.end;
-    let found = near_in(xs, ys, &reach.items, &times[begin..end], w, t, 0, 0);
+    // One question is not worth the tops of all segments.
+    let found = near_in(xs, ys, &xs[0..0], &times[begin..end], w, t, 0, 0);
     let lower = found.lower;
     let upper = found.upper;
     let knot = found.knot;
@@ -64,20 +62,8 @@ pub fn value_source(
     requires { ⌜ Ready (now starts) (now clips) (now xs) (now ys) (now blocks) m (now times) (now values) (now marks) (now ends) ⌝ ∗ ⌜ T (finite t) ⌝ }
     ensures { λ r. ⌜ r ≡ valueSource (setOf (length (now (ends .entry))) (now (starts .entry)) (now (clips .entry)) (now (xs .entry)) (now (ys .entry)) (now (blocks .entry)) m) (samplesOf (now (times .entry)) (now (values .entry)) (now (marks .entry)) (now (ends .entry))) (stage t) ⌝ }
 {
-    if starts.len() < 2 {
-        return direct_source(
-            starts,
-            clips,
-            xs,
-            ys,
-            blocks,
-            m,
-            times,
-            values,
-            marks,
-            ends,
-            t,
-        );
+    if starts.len() == 0 {
+        return Source::Absent;
     }
     let p = lists::last_at_most(starts, t);
     let w = window_of(
@@ -93,6 +79,9 @@ pub fn value_source(
         ends,
         p,
     );
+    if starts.len() < 2 {
+        return source_in(xs, ys, times, w, t, 0, 0);
+    }
     value_in(xs, ys, times, w, t)
 }
 

@@ -1,18 +1,14 @@
-// A window's gathered times: the neighbours of a time among them, found in one pass that stores none of them.
+// A window's times: the neighbours of a time with them, found in one pass that stores none of them.
 
-use super::direct::contributes;
 use super::pass::scan_times;
 use super::pass::with_time;
 use super::segments::scan_clip;
-use definitions::Manifest;
 use gf::interval::Interval;
 ghost use mathlib.Core.Path.{_≡_};
 ghost use Prim.Native.Nat.{_<_};
 ghost use lib.ListN.{length, getD};
-ghost use Rattle.definitions.specs.Value.{gathered};
-ghost use Rattle.cell_laws.specs.Unpacked.{setOf, samplesOf, Ready};
 ghost use Rattle.value.specs.Reads.{Readable, partOf};
-ghost use Rattle.value.specs.Bounds.{Scanned, NeighboursAre};
+ghost use Rattle.value.specs.Bounds.{Scanned};
 ghost use Rattle.value.specs.Windows.{minOf, maxOf, windowPart, ifOwn};
 
 // A neighbour of a time.
@@ -75,35 +71,4 @@ pub fn scan_window(
         return scan_clip(xs, ys, times, ends, clips[p], w, t, knots);
     }
     knots
-}
-
-// The neighbours of `t` among the gathered times of the window of the start at the place `p`.
-pub fn neighbours(
-    starts: &[f64],
-    clips: &[u64],
-    xs: &[f64],
-    ys: &[f64],
-    blocks: &[f64],
-    m: Manifest,
-    times: &[f64],
-    values: &[f64],
-    marks: &[u8],
-    ends: &[u64],
-    p: usize,
-    t: f64,
-) -> Bounds
-    requires { ⌜ Ready (now starts) (now clips) (now xs) (now ys) (now blocks) m (now times) (now values) (now marks) (now ends) ⌝ ∗ ⌜ p < length (now starts) ⌝ }
-    ensures { λ r. ⌜ NeighboursAre (gathered (setOf (length (now (ends .entry))) (now (starts .entry)) (now (clips .entry)) (now (xs .entry)) (now (ys .entry)) (now (blocks .entry)) m) (samplesOf (now (times .entry)) (now (values .entry)) (now (marks .entry)) (now (ends .entry))) p) t r ⌝ }
-{
-    let own = contributes(blocks, m, starts[p]);
-    let none = Bounds {
-        lower: Bound::Nothing,
-        upper: Bound::Nothing,
-    };
-    let found = scan_window(starts, clips, xs, ys, times, ends, p, own, t, none);
-    let next = p + 1;
-    if next < starts.len() {
-        return with_time(found, starts[next], t);
-    }
-    found
 }

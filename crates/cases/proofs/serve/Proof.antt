@@ -8,18 +8,15 @@ use Rattle.cases.proofs.serve.Statement.{statement}
 use Rattle.cases.proofs.serve.Tie as tie
 
 abbrev Inv-loop : tie.InvT-loop
-Inv-loop input₀ out₀ ends₀ times₀ values₀ marks₀ outtimes₀ outvalues₀ outmarks₀ resolver₀ lent₀ buffer₀ full₀ turns₀ input out ends times values marks outtimes outvalues outmarks resolver lent buffer full turns =
-    (length input ≡ length input₀) × (length out ≡ length out₀) × (length ends ≡ length ends₀) × (length times ≡ length times₀) × (length values ≡ length values₀) × (length marks ≡ length marks₀) × (length outtimes ≡ length outtimes₀) × (length outvalues ≡ length outvalues₀) × (length outmarks ≡ length outmarks₀) × Made resolver
+Inv-loop input₀ out₀ ends₀ times₀ values₀ marks₀ outtimes₀ outvalues₀ outmarks₀ session₀ buffer₀ turns₀ input out ends times values marks outtimes outvalues outmarks session buffer turns =
+    (length input ≡ length input₀) × (length out ≡ length out₀) × (length ends ≡ length ends₀) × (length times ≡ length times₀) × (length values ≡ length values₀) × (length marks ≡ length marks₀) × (length outtimes ≡ length outtimes₀) × (length outvalues ≡ length outvalues₀) × (length outmarks ≡ length outmarks₀) × Made (session .resolver)
 
 abbrev μ-loop : tie.MeasureT-loop
-μ-loop input₀ out₀ ends₀ times₀ values₀ marks₀ outtimes₀ outvalues₀ outmarks₀ resolver₀ lent₀ buffer₀ full₀ turns₀ input out ends times values marks outtimes outvalues outmarks resolver lent buffer full turns =
+μ-loop input₀ out₀ ends₀ times₀ values₀ marks₀ outtimes₀ outvalues₀ outmarks₀ session₀ buffer₀ turns₀ input out ends times values marks outtimes outvalues outmarks session buffer turns =
     turns
 
-fresh-requires : tie.Need-fresh-requires Inv-loop μ-loop
-fresh-requires c κs = search needs
-
-none-requires : tie.Need-none-requires Inv-loop μ-loop
-none-requires c κs = search needs
+begin-requires : tie.Need-begin-requires Inv-loop μ-loop
+begin-requires c κs = search needs
 
 empty-requires : tie.Need-empty-requires Inv-loop μ-loop
 empty-requires c κs = search needs
@@ -43,12 +40,12 @@ past-requires : tie.Need-past-requires Inv-loop μ-loop
 past-requires c κs = search needs
 
 loop-less : tie.Need-loop-less Inv-loop μ-loop
-loop-less c = omega (arith, c .before .before .before .before .before .before .before .before .before .before .before .before .before .before .before .before .before .before .before .before .before .before .before .before .before .before .before .before .before .before .before .before .before .before .loop-test .taken)
+loop-less c = omega (arith, c .before .before .before .before .before .before .before .before .before .before .before .before .before .before .before .before .before .before .before .before .before .before .before .before .before .before .before .before .before .before .before .before .loop-test .taken)
 
 loop-again : tie.Need-loop-again Inv-loop μ-loop
 loop-again c =
-    let kept = c .before .before .before .before .before .before .before .before .before .before .before .before .before .before .before .before .before .before .before .run .kept in
-    let inv = c .before .before .before .before .before .before .before .before .before .before .before .before .before .before .before .before .before .before .before .before .before .before .before .before .before .before .before .before .before .before .before .before .before .before .before .loop .inv in (
+    let kept = c .before .before .before .before .before .before .before .before .before .before .before .before .before .before .before .before .before .run .kept in
+    let inv = c .before .before .before .before .before .before .before .before .before .before .before .before .before .before .before .before .before .before .before .before .before .before .before .before .before .before .before .before .before .before .before .before .before .loop .inv in (
       inv .0,
       omega (arith, kept, inv),
       omega (arith, kept, inv),
@@ -58,11 +55,11 @@ loop-again c =
       omega (arith, kept, inv),
       omega (arith, kept, inv),
       omega (arith, kept, inv),
-      c .before .before .before .before .before .before .before .before .before .before .before .before .before .before .before .before .before .before .before .run .ensures,
+      c .before .before .before .before .before .before .before .before .before .before .before .before .before .before .before .before .before .run .ensures,
     )
 
-flush-requires : tie.Need-flush-requires Inv-loop μ-loop
-flush-requires c κs = search needs
+flushed-requires : tie.Need-flushed-requires Inv-loop μ-loop
+flushed-requires c κs = search needs
 
 same-length : tie.Need-same-length Inv-loop μ-loop
 same-length c = search needs
@@ -97,16 +94,16 @@ returns c = search needs
 refill-requires : tie.Need-refill-requires Inv-loop μ-loop
 refill-requires c κs = search needs
 
-skipped-requires : tie.Need-skipped-requires Inv-loop μ-loop
-skipped-requires c κs = search needs
+refilled-requires : tie.Need-refilled-requires Inv-loop μ-loop
+refilled-requires c κs = search needs
 
 loop-less-2 : tie.Need-loop-less-2 Inv-loop μ-loop
-loop-less-2 c = search needs
+loop-less-2 c = omega (arith, c .before .before .before .before .before .before .before .before .before .before .before .before .before .before .before .before .before .loop-test .taken)
 
 loop-again-2 : tie.Need-loop-again-2 Inv-loop μ-loop
 loop-again-2 c =
-    let inv = c .before .before .before .before .before .before .before .before .before .before .before .before .before .before .before .before .loop .inv in
-    (omega (arith, inv), omega (arith, inv), inv .2, inv .3, inv .4, inv .5, inv .6, inv .7, inv .8, inv .9)
+    let inv = c .before .before .before .before .before .before .before .before .before .before .before .before .before .before .before .before .before .before .loop .inv in
+    (omega (arith, c .before .before .before .before .before .before .refill .kept, inv), omega (arith, c .before .before .before .before .before .before .before .before .before .before .before .flushed .kept, c .before .before .refilled .kept, inv), inv .2, inv .3, inv .4, inv .5, inv .6, inv .7, inv .8, c .before .before .refilled .ensures)
 
 same-length-10 : tie.Need-same-length-10 Inv-loop μ-loop
 same-length-10 c = search needs
@@ -144,8 +141,7 @@ serve-spec =
     (tie.spec
     Inv-loop
     μ-loop
-    fresh-requires
-    none-requires
+    begin-requires
     empty-requires
     loop-holds
     sub-turns
@@ -155,7 +151,7 @@ serve-spec =
     past-requires
     loop-less
     loop-again
-    flush-requires
+    flushed-requires
     same-length
     same-length-2
     same-length-3
@@ -167,7 +163,7 @@ serve-spec =
     same-length-9
     returns
     refill-requires
-    skipped-requires
+    refilled-requires
     loop-less-2
     loop-again-2
     same-length-10

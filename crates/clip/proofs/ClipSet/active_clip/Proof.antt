@@ -8,7 +8,7 @@ use lib.Seq.{length-take-le}
 use Rattle.set_laws.specs.Sound.{sound-active}
 use Rattle.clip.specs.Holding.{clipSetOf}
 use Rattle.clip.specs.declared.ActiveClip.the-variants.{Clip}
-use Rattle.clip.proofs.Packing.{lent}
+use Rattle.clip.specs.Laws.{lent}
 use Rattle.clip.proofs.Timed.{no-clip, active-clip-is}
 use Rattle.clip.proofs.ClipSet.active_clip.Statement.{statement}
 use Rattle.clip.proofs.ClipSet.active_clip.Tie as tie

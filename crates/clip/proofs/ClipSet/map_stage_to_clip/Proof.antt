@@ -5,7 +5,7 @@ use Rattle.definitions.specs.ClipSet.{clip}
 use Rattle.definitions.specs.Timing.{mapStageToClip}
 use Rattle.set_laws.specs.Sound.{sound-knots}
 use Rattle.clip.specs.Holding.{clipSetOf}
-use Rattle.clip.proofs.Packing.{lent}
+use Rattle.clip.specs.Laws.{lent}
 use Rattle.clip.proofs.ClipSet.map_stage_to_clip.Statement.{statement}
 use Rattle.clip.proofs.ClipSet.map_stage_to_clip.Tie as tie
 

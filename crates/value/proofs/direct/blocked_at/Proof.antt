@@ -1,40 +1,46 @@
--- `value::direct::blocked_at` meets its contract: the blocks from i on answer for all. Assumes nothing.
-use Prim.Native.Nat.{_-_, _≤_}
-use mathlib.Core.Path.{_≡_, refl, sym, _∙_}
-use mathlib.Core.Bool.{Bool}
+-- `value::direct::blocked_at` meets its contract: those counted and what is left of the list answer for the whole. Assumes nothing.
+use Prim.Native.Nat.{ℕ, _+_, _-_, _≤_}
+use mathlib.Core.Path.{_≡_, refl, sym, ap, _∙_}
+use mathlib.Core.Bool.{Bool, _||_}
 use native.Mathlib.Omega.{arith}
-use lib.ListN.{length, drop}
-use lib.Ieee.{Float, nan, eq}
-use denote.Ref.{now}
-use Rattle.definitions.specs.Lists.{any}
-use Rattle.lists.specs.Fronts.{any-here, any-later, any-end}
 use borrow.Author.Needs.{needs}
+use lib.Dec.{ltb}
+use lib.ListN.{length, getD, drop}
+use lib.Ieee.{Float, nan, eq}
+use Rattle.definitions.specs.Lists.{any}
+use Rattle.lists.specs.Fronts.{any-found, at-most-one, counted-all}
 use Rattle.value.proofs.direct.blocked_at.Statement.{statement}
 use Rattle.value.proofs.direct.blocked_at.Tie as tie
 
-abbrev equals : Float → Float → Bool
-equals start b = eq b start
+abbrev same : Float → Float → Bool
+same start b = eq b start
 
 abbrev Inv-loop : tie.InvT-loop
-Inv-loop blocks start i₀ i = (i ≤ length blocks) × (any (equals start) blocks ≡ any (equals start) (drop i blocks))
+Inv-loop blocks start found₀ i₀ found i = (i ≤ length blocks) × (found ≤ i) × (any (same start) blocks ≡ (ltb 0 found || any (same start) (drop i blocks)))
 
 abbrev μ-loop : tie.MeasureT-loop
-μ-loop blocks start i₀ i = length blocks - i
+μ-loop blocks start found₀ i₀ found i = length blocks - i
+
+-- what is counted of one block
+one-more : (c : tie.After-equal-found Inv-loop μ-loop) → c .equal-found .result ≤ 1
+one-more c =
+    let a = c .before .before .before .before .before .args in
+    at-most-one (same (a .start) (getD (a .blocks .now) (c .before .before .before .loop .i) nan)) (c .equal-found .ensures)
 
 loop-holds : tie.Need-loop-holds Inv-loop μ-loop
-loop-holds c = (omega arith, refl)
+loop-holds c = (omega arith, omega arith, refl)
 
-mul-if1 : tie.Need-mul-if1 Inv-loop μ-loop
-mul-if1 c = search needs
+mul-equal-found : tie.Need-mul-equal-found Inv-loop μ-loop
+mul-equal-found c = search needs
 
-shared-slice-read-if1 : tie.Need-shared-slice-read-if1 Inv-loop μ-loop
-shared-slice-read-if1 c = omega arith
+shared-slice-read-equal-found : tie.Need-shared-slice-read-equal-found Inv-loop μ-loop
+shared-slice-read-equal-found c = omega arith
 
-returns : tie.Need-returns Inv-loop μ-loop
-returns c =
-    let l = c .before .before .before in
-    let a = l .before .args in
-    sym (l .loop .inv .1 ∙ any-here (equals (a .start)) (now (a .blocks)) (l .loop .i) nan (omega arith) (c .if1 .taken))
+equal-found-requires : tie.Need-equal-found-requires Inv-loop μ-loop
+equal-found-requires c κs = search needs
+
+add-found : tie.Need-add-found Inv-loop μ-loop
+add-found c = let k = c .before .before .before .loop in omega (arith, k .inv .1, one-more c)
 
 add-i : tie.Need-add-i Inv-loop μ-loop
 add-i c = omega arith
@@ -44,15 +50,19 @@ loop-less c = omega arith
 
 loop-again : tie.Need-loop-again Inv-loop μ-loop
 loop-again c =
-    let l = c .before .before .before in
-    let a = l .before .args in
-    (omega arith, l .loop .inv .1 ∙ any-later (equals (a .start)) (now (a .blocks)) (l .loop .i) nan (omega arith) (c .if1 .left))
+    let k = c .before .before .before .loop in
+    let a = c .before .before .before .before .before .args in (
+      omega arith,
+      omega (arith, k .inv .1, one-more c),
+      k .inv .2 ∙ any-found (same (a .start)) (a .blocks .now) (k .i) (k .found) nan (omega arith)
+          ∙ ap (λ (n : ℕ). ltb 0 (k .found + n) || any (same (a .start)) (drop (k .i + 1) (a .blocks .now))) (sym (c .equal-found .ensures)),
+    )
 
-returns-2 : tie.Need-returns-2 Inv-loop μ-loop
-returns-2 c =
-    let l = c .before in
-    let a = l .before .args in
-    sym (l .loop .inv .1 ∙ any-end (equals (a .start)) (now (a .blocks)) (l .loop .i) (omega arith))
+returns : tie.Need-returns Inv-loop μ-loop
+returns c =
+    let k = c .before .loop in
+    let a = c .before .before .before .args in
+    counted-all (same (a .start)) (a .blocks .now) (k .i) (k .found) (omega arith) (k .inv .2)
 
 pub blocked-at-spec : {M : Type 1} → statement M
 blocked-at-spec =
@@ -61,10 +71,11 @@ blocked-at-spec =
     Inv-loop
     μ-loop
     loop-holds
-    mul-if1
-    shared-slice-read-if1
-    returns
+    mul-equal-found
+    shared-slice-read-equal-found
+    equal-found-requires
+    add-found
     add-i
     loop-less
     loop-again
-    returns-2)
+    returns)

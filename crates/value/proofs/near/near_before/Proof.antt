@@ -4,7 +4,7 @@ use mathlib.Core.Path.{_≡_, subst}
 use native.Mathlib.Omega.{arith}
 use denote.Ref.{now}
 use borrow.Author.Needs.{needs}
-use Rattle.value.specs.Reaches.{Reached, reached-none, reached-one, reached-tops}
+use Rattle.value.specs.Reaches.{Reached, reached-none, reached-one, reached-past}
 use Rattle.value.proofs.near.near_before.Statement.{statement}
 use Rattle.value.proofs.near.near_before.Tie as tie
 
@@ -20,14 +20,10 @@ entry k = k .before .before .before .before .before
 loop-holds : tie.Need-loop-holds Inv-loop μ-loop
 loop-holds c = (omega arith, reached-none _ _ _ _ _ _ _)
 
-sub-before : tie.Need-sub-before Inv-loop μ-loop
-sub-before c = omega arith
-
-mul-is-past : tie.Need-mul-is-past Inv-loop μ-loop
-mul-is-past c = search needs
-
-shared-slice-read-is-past : tie.Need-shared-slice-read-is-past Inv-loop μ-loop
-shared-slice-read-is-past c = omega (arith, entry (c .before .before) .pre .1 .0 .long)
+top-before-requires : tie.Need-top-before-requires Inv-loop μ-loop
+top-before-requires c κs =
+    let s = entry (c .before) in
+    (s .pre .0 .paired, (s .pre .0 .segments, (s .pre .1 .0, (omega (arith, s .pre .1 .1 .0), omega arith))))
 
 is-past-requires : tie.Need-is-past-requires Inv-loop μ-loop
 is-past-requires c κs = search needs
@@ -38,8 +34,12 @@ returns c =
     let s = entry k in
     let a = s .args in
     let R = s .pre .0 in
-    reached-tops (a .t) (a .w) (now (a .xs)) (now (a .ys)) (now (a .cs)) (R .faces) (R .time) (R .knots) (R .paired) (R .segments) (a .i) (s .pre .1 .1 .1) (s .pre .1 .1 .0) (now (a .tops)) (s .pre .1 .0) (k .loop .j) (omega arith) (k .loop .inv .0)
-    (c .before .before .shared-slice-known5 .given (k .loop .j - 1)) (c .before .is-past .ensures (c .if1 .taken)) (k .loop .inv .1)
+    let u = c .before .before in
+    reached-past (a .t) (a .w) (now (a .xs)) (now (a .ys)) (now (a .cs)) (R .faces) (R .time) (R .knots) (R .paired) (R .segments) (a .i) (s .pre .1 .1 .1) (s .pre .1 .1 .0) (k .loop .j) (k .loop .inv .0)
+    (u .top-before .result) (u .top-before .ensures) (c .before .is-past .ensures (c .if1 .taken)) (k .loop .inv .1)
+
+sub-before : tie.Need-sub-before Inv-loop μ-loop
+sub-before c = omega arith
 
 near-segment-requires : tie.Need-near-segment-requires Inv-loop μ-loop
 near-segment-requires c κs =
@@ -69,11 +69,10 @@ near-before-spec =
     Inv-loop
     μ-loop
     loop-holds
-    sub-before
-    mul-is-past
-    shared-slice-read-is-past
+    top-before-requires
     is-past-requires
     returns
+    sub-before
     near-segment-requires
     loop-less
     loop-again

@@ -59,7 +59,7 @@ next-top-requires : tie.Need-next-top-requires Inv-loop μ-loop
 next-top-requires c κs =
     let k = c .before .before .before .before .before in
     let s = entry k in
-    (segment-here (now (s .args .xs)) (now (s .args .ys)) (s .pre .0) (s .pre .1 .1) (k .loop .i) (omega arith), k .loop .inv .0 .number)
+    (segment-here (now (s .args .xs)) (now (s .args .ys)) (s .pre .0) (s .pre .1 .1) (k .loop .i) (omega arith), k .loop .inv .0 .here .number)
 
 mul-items : tie.Need-mul-items Inv-loop μ-loop
 mul-items c = search needs
@@ -80,7 +80,7 @@ returns : tie.Need-returns Inv-loop μ-loop
 returns c =
     let k = c .before in
     let s = entry k in
-    tops-all (now (s .args .xs)) (now (s .args .ys)) (k .loop .items) (k .loop .top) (k .loop .i) (s .pre .1 .0) (omega arith) (k .loop .inv .0)
+    tops-all (now (s .args .xs)) (now (s .args .ys)) (k .loop .items) (k .loop .top) (k .loop .i) (omega arith) (k .loop .inv .0)
 
 pub tops-of-spec : {M : Type 1} → statement M
 tops-of-spec =

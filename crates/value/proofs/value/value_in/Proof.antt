@@ -1,20 +1,16 @@
 -- `value::value::value_in` meets its contract, case by case as document 01 has them. Assumes nothing.
-use mathlib.Core.Path.{sym, _∙_}
+use mathlib.Core.Path.{refl, sym, _∙_}
+use mathlib.Core.List.{[]}
 use denote.Ref.{now}
+use borrow.Author.Needs.{needs}
+use Rattle.value.specs.Tops.{no-tops}
 use Rattle.value.specs.Windowed.{boundsOf}
 use Rattle.value.specs.Values.{read-below, read-last, read-jump, read-held}
-use borrow.Author.Needs.{needs}
 use Rattle.value.proofs.value.value_in.Statement.{statement}
 use Rattle.value.proofs.value.value_in.Tie as tie
 
 abbrev entry : tie.After-near-in → tie.Start
-entry n = n .before .before .before .before .before .before .before .before .before
-
-tops-of-requires : tie.Need-tops-of-requires
-tops-of-requires c κs = search needs
-
-mul-near-in : tie.Need-mul-near-in
-mul-near-in c = search needs
+entry n = n .before .before .before .before .before .before
 
 sub-near-in : tie.Need-sub-near-in
 sub-near-in c = search needs
@@ -25,10 +21,22 @@ part-near-in-start c = search needs
 part-near-in-end : tie.Need-part-near-in-end
 part-near-in-end c = search needs
 
+mul-near-in : tie.Need-mul-near-in
+mul-near-in c = search needs
+
+sub-near-in-2 : tie.Need-sub-near-in-2
+sub-near-in-2 c = search needs
+
+part-near-in-start-2 : tie.Need-part-near-in-start-2
+part-near-in-start-2 c = search needs
+
+part-near-in-end-2 : tie.Need-part-near-in-end-2
+part-near-in-end-2 c = search needs
+
 near-in-requires : tie.Need-near-in-requires
 near-in-requires c κs =
-    let k = c .before .before .before .before in
-    k .before .before .before .before .pre .nears (k .tops-of .result .items) (k .tops-of .ensures)
+    let s = c .before .before .before .before .before in
+    s .pre .nears [] (no-tops (now (s .args .xs)) (now (s .args .ys)) [] refl)
 
 enum-known-lower : tie.Need-enum-known-lower
 enum-known-lower c = search needs
@@ -92,11 +100,13 @@ pub value-in-spec : {M : Type 1} → statement M
 value-in-spec =
     tie.close
     (tie.spec
-    tops-of-requires
-    mul-near-in
     sub-near-in
     part-near-in-start
     part-near-in-end
+    mul-near-in
+    sub-near-in-2
+    part-near-in-start-2
+    part-near-in-end-2
     near-in-requires
     enum-known-lower
     enum-told

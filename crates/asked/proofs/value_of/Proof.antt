@@ -1,0 +1,80 @@
+-- `asked::value_of` meets its contract: the lists that it lends are the set's. Assumes nothing.
+use mathlib.Core.Path.{sym, ap, _∙_}
+use borrow.Author.Needs.{needs}
+use denote.Ref.{now}
+use Rattle.definitions.specs.ClipSet as model
+use Rattle.definitions.specs.ClipSet.{stage, maxActive, maxKnots, maxBlocks}
+use Rattle.definitions.specs.Value.{valueInSet}
+use Rattle.cell_laws.specs.Unpacked.{samplesOf}
+use Rattle.unpack.specs.Unpacking.{front-long, unpacked-is, unpacked-ready}
+use Rattle.asked.proofs.value_of.Statement.{statement}
+use Rattle.asked.proofs.value_of.Tie as tie
+
+unpack-starts-requires : tie.Need-unpack-starts-requires
+unpack-starts-requires c κs = search needs
+
+unpack-knots-requires : tie.Need-unpack-knots-requires
+unpack-knots-requires c κs = search needs
+
+array-share-prefix-starts : tie.Need-array-share-prefix-starts
+array-share-prefix-starts c = search needs
+
+slice-aggregate-value : tie.Need-slice-aggregate-value
+slice-aggregate-value c = let e = c .before .before .before .before .before .before .before .before .before .unpack-starts .ensures in sym (front-long _ _ maxActive (e .times-room .long) (e .times-room .few))
+
+array-share-prefix-clips : tie.Need-array-share-prefix-clips
+array-share-prefix-clips c = search needs
+
+slice-aggregate-value-2 : tie.Need-slice-aggregate-value-2
+slice-aggregate-value-2 c = let e = c .before .before .before .before .before .before .before .before .before .before .unpack-starts .ensures in sym (front-long _ _ maxActive (e .clips-room .long) (e .clips-room .few))
+
+array-share-prefix-xs : tie.Need-array-share-prefix-xs
+array-share-prefix-xs c = search needs
+
+slice-aggregate-value-3 : tie.Need-slice-aggregate-value-3
+slice-aggregate-value-3 c = let e = c .before .before .before .before .before .before .before .before .before .before .unpack-knots .ensures in sym (front-long _ _ maxKnots (e .xs-room .long) (e .xs-room .few))
+
+array-share-prefix-ys : tie.Need-array-share-prefix-ys
+array-share-prefix-ys c = search needs
+
+slice-aggregate-value-4 : tie.Need-slice-aggregate-value-4
+slice-aggregate-value-4 c = let e = c .before .before .before .before .before .before .before .before .before .before .before .unpack-knots .ensures in sym (front-long _ _ maxKnots (e .ys-room .long) (e .ys-room .few))
+
+array-share-prefix-blocks : tie.Need-array-share-prefix-blocks
+array-share-prefix-blocks c = search needs
+
+slice-aggregate-value-5 : tie.Need-slice-aggregate-value-5
+slice-aggregate-value-5 c = let h = c .before .before .before .before .before .before .before .before .before .before .before .before .before .before .before .before .before .before .pre .0 .held .blocks in sym (front-long _ _ maxBlocks (h .long) (h .few))
+
+value-requires : tie.Need-value-requires
+value-requires c κs =
+    let s = c .before .before .before .before .before .before .before .before .before .before .before .before .before .before .before .before .before .before in
+    let p = s .pre .0 in
+    (unpacked-ready (s .args .set) _ _ (c .before .before .before .before .before .before .before .before .before .before .before .before .before .unpack-starts .ensures) (c .before .before .before .before .before .before .before .before .before .before .before .before .unpack-knots .ensures) (now (s .args .times)) (now (s .args .values)) (now (s .args .marks)) (now (s .args .ends)) (p .sound) (p .accepted) (p .numbers), s .pre .1)
+
+returns : tie.Need-returns
+returns c =
+    let s = c .before .before .before .before .before .before .before .before .before .before .before .before .before .before .before .before .before .before .before in
+    let p = s .pre .0 in
+    c .value .ensures
+    ∙ ap (λ (x : model.ClipSet). valueInSet x (samplesOf (now (s .args .times)) (now (s .args .values)) (now (s .args .marks)) (now (s .args .ends))) (stage (s .args .t)))
+    (unpacked-is (s .args .set) _ _ (c .before .before .before .before .before .before .before .before .before .before .before .before .before .before .unpack-starts .ensures) (c .before .before .before .before .before .before .before .before .before .before .before .before .before .unpack-knots .ensures) _ (p .accepted .ends))
+
+pub value-of-spec : {M : Type 1} → statement M
+value-of-spec =
+    tie.close
+    (tie.spec
+    unpack-starts-requires
+    unpack-knots-requires
+    array-share-prefix-starts
+    slice-aggregate-value
+    array-share-prefix-clips
+    slice-aggregate-value-2
+    array-share-prefix-xs
+    slice-aggregate-value-3
+    array-share-prefix-ys
+    slice-aggregate-value-4
+    array-share-prefix-blocks
+    slice-aggregate-value-5
+    value-requires
+    returns)

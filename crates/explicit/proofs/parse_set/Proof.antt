@@ -1,0 +1,110 @@
+-- `explicit::parse_set` meets its contract: the numbers of its fields, or those of the settled lists. Assumes nothing.
+use mathlib.Core.Path.{_≡_, sym, subst, _∙_}
+use native.Mathlib.Omega.{arith}
+use borrow.Author.Needs.{needs}
+use lib.Dec.{T}
+use denote.Ref.{now}
+use Rattle.definitions.specs.Explicit.{ExplicitFields}
+use Rattle.set_laws.specs.SoundExplicit.{ExplicitLimits, ExplicitFits}
+use Rattle.clip.specs.Holding.{manifest}
+use Rattle.explicit.specs.Parsing.{explicitFields, fieldsNumber}
+use Rattle.clip.specs.Laws.{all-fit, lent}
+use Rattle.explicit.proofs.Acceptance.{fields-fit, parse-refuses, parse-settles}
+use Rattle.explicit.proofs.parse_set.Statement.{statement}
+use Rattle.explicit.proofs.parse_set.Tie as tie
+
+abbrev fields : tie.Start → ExplicitFields
+fields c = explicitFields (c .args .clips) (now (c .args .starts)) (now (c .args .numbers)) (now (c .args .xs)) (now (c .args .ys)) (now (c .args .blocks)) (manifest (c .args .default) (c .args .interpolate))
+
+none : (c : tie.Else1) → fieldsNumber (fields (c .before .before .before .before .before .before .before)) ≡ 0
+none c = sym (c .before .fields-number .ensures) ∙ c .if1 .left
+
+limits : (c : tie.Else1) → ExplicitLimits (fields (c .before .before .before .before .before .before .before))
+limits c = fields-fit (fields (c .before .before .before .before .before .before .before)) (none c)
+
+-- what owning `f64`s tells: the format holds them
+fitting : (c : tie.After-shared-slice-known5) → ExplicitFits (fields (c .before .before .before .before .before))
+fitting c =
+    let a = c .before .before .before .before .before .args in
+    record {
+      startTimes = all-fit (now (a .starts)) (c .before .before .before .before .shared-slice-known .given);
+      knotX = all-fit (now (a .xs)) (c .before .before .shared-slice-known3 .given);
+      knotY = all-fit (now (a .ys)) (c .before .shared-slice-known4 .given);
+      blocks = all-fit (now (a .blocks)) (c .shared-slice-known5 .given);
+      value = subst T (sym (c .before .before .before .before .before .good .1 .1 .1 .1 .1 .1 .0 .1 .1 .1 .0 .1)) tt;
+    }
+
+fields-number-requires : tie.Need-fields-number-requires
+fields-number-requires c κs = search needs
+
+refused-requires : tie.Need-refused-requires
+refused-requires c κs = search needs
+
+returns : tie.Need-returns
+returns c =
+    let s = c .before .before .before .before .before .before .before .before in
+    parse-refuses (fields s) (c .before .before .fields-number .result) (c .refused .result) (c .before .before .fields-number .ensures) (c .before .if1 .taken) (c .refused .ensures)
+
+blank-requires : tie.Need-blank-requires
+blank-requires c κs = search needs
+
+array-borrow-prefix-times : tie.Need-array-borrow-prefix-times
+array-borrow-prefix-times c = omega (arith, limits (c .before .before .before .before .before) .starts, c .before .before .before .before .blank .ensures .times)
+
+slice-aggregate-parse-lists : tie.Need-slice-aggregate-parse-lists
+slice-aggregate-parse-lists c = let l = limits (c .before .before .before .before .before .before) in let b = c .before .before .before .before .before .blank in sym (lent 256 _ (b .result .times) (b .ensures .times) (l .starts))
+
+array-borrow-prefix-indices : tie.Need-array-borrow-prefix-indices
+array-borrow-prefix-indices c = omega (arith, limits (c .before .before .before .before .before .before) .starts, c .before .before .before .before .before .blank .ensures .numbers)
+
+slice-aggregate-parse-lists-2 : tie.Need-slice-aggregate-parse-lists-2
+slice-aggregate-parse-lists-2 c = let l = limits (c .before .before .before .before .before .before .before) in let b = c .before .before .before .before .before .before .blank in sym (lent 256 _ (b .result .numbers) (b .ensures .numbers) (l .starts))
+
+array-borrow-prefix-us : tie.Need-array-borrow-prefix-us
+array-borrow-prefix-us c = omega (arith, limits (c .before .before .before .before .before .before .before) .knots, c .before .before .before .before .before .before .blank .ensures .xs)
+
+slice-aggregate-parse-lists-3 : tie.Need-slice-aggregate-parse-lists-3
+slice-aggregate-parse-lists-3 c = let l = limits (c .before .before .before .before .before .before .before .before) in let b = c .before .before .before .before .before .before .before .blank in sym (lent 512 _ (b .result .xs) (b .ensures .xs) (l .knots))
+
+array-borrow-prefix-vs : tie.Need-array-borrow-prefix-vs
+array-borrow-prefix-vs c = omega (arith, limits (c .before .before .before .before .before .before .before .before) .knots, c .before .before .before .before .before .before .before .blank .ensures .ys)
+
+slice-aggregate-parse-lists-4 : tie.Need-slice-aggregate-parse-lists-4
+slice-aggregate-parse-lists-4 c = let l = limits (c .before .before .before .before .before .before .before .before .before) in let b = c .before .before .before .before .before .before .before .before .blank in sym (lent 512 _ (b .result .ys) (b .ensures .ys) (l .knots))
+
+parse-lists-requires : tie.Need-parse-lists-requires
+parse-lists-requires c κs =
+    let l = limits (c .before .before .before .before .before .before .before .before .before) in
+    let b = c .before .before .before .before .before .before .before .before .blank in (
+      none (c .before .before .before .before .before .before .before .before .before),
+      record {
+        for-times = lent 256 _ (b .result .times) (b .ensures .times) (l .starts);
+        for-indices = lent 256 _ (b .result .numbers) (b .ensures .numbers) (l .starts);
+        for-xs = lent 512 _ (b .result .xs) (b .ensures .xs) (l .knots);
+        for-ys = lent 512 _ (b .result .ys) (b .ensures .ys) (l .knots);
+      },
+    )
+
+returns-2 : tie.Need-returns-2
+returns-2 c =
+    let e = c .before .before .before .before .before .before .before .before .before .before .before .before .before .before in
+    parse-settles (fields (e .before .before .before .before .before .before .before)) (c .before .before .before .before .parse-lists .result) (fitting (e .before .before)) (none e) (c .before .before .before .before .parse-lists .ensures)
+
+pub parse-set-spec : {M : Type 1} → statement M
+parse-set-spec =
+    tie.close
+    (tie.spec
+    fields-number-requires
+    refused-requires
+    returns
+    blank-requires
+    array-borrow-prefix-times
+    slice-aggregate-parse-lists
+    array-borrow-prefix-indices
+    slice-aggregate-parse-lists-2
+    array-borrow-prefix-us
+    slice-aggregate-parse-lists-3
+    array-borrow-prefix-vs
+    slice-aggregate-parse-lists-4
+    parse-lists-requires
+    returns-2)

@@ -1,0 +1,87 @@
+-- `explicit::parsing::copy_clips` meets its contract: the first i indices are written. Assumes nothing.
+use Prim.Native.Nat.{_-_}
+use mathlib.Core.Path.{_≡_, sym, _∙_}
+use mathlib.Core.List.{map}
+use native.Mathlib.Omega.{arith}
+use borrow.Author.Needs.{needs}
+use lib.ListN.{length, length-set, length-map}
+use lib.Ieee.{Float, nan}
+use denote.Ref.{now}
+use lib.Dec.{T}
+use Rattle.gf.specs.Doubles.{truncated, isClipNumber}
+use Rattle.set_laws.specs.Every.{every-at, any-not-every}
+use Rattle.lists.specs.Filled.{Filled, fill-start, fill-next, fill-whole}
+use Rattle.explicit.proofs.Indices.{index-ready}
+use Rattle.clip.specs.Laws.{mapped-at}
+use Rattle.explicit.proofs.parsing.copy_clips.Statement.{statement}
+use Rattle.explicit.proofs.parsing.copy_clips.Tie as tie
+
+abbrev Inv-loop : tie.InvT-loop
+Inv-loop numbers clips to₀ i₀ to i = Filled (map truncated numbers) to i × (length to ≡ length numbers)
+
+abbrev μ-loop : tie.MeasureT-loop
+μ-loop numbers clips to₀ i₀ to i = length numbers - i
+
+loop-holds : tie.Need-loop-holds Inv-loop μ-loop
+loop-holds c =
+    let s = c .before .before in
+    (fill-start (map truncated (now (s .args .numbers))) (now (s .args .to)) (omega (arith, length-map (now (s .args .numbers)) truncated, s .pre .1)), s .pre .1)
+
+mul-to-index : tie.Need-mul-to-index Inv-loop μ-loop
+mul-to-index c = search needs
+
+shared-slice-read-to-index : tie.Need-shared-slice-read-to-index Inv-loop μ-loop
+shared-slice-read-to-index c = omega arith
+
+to-index-requires : tie.Need-to-index-requires Inv-loop μ-loop
+to-index-requires c κs =
+    let k = c .before .before .loop in
+    let s = c .before .before .before .before .before in
+    index-ready (s .args .clips) _ (omega arith) (every-at (λ (x : Float). T (isClipNumber (s .args .clips) x)) (now (s .args .numbers)) (k .i) nan (any-not-every (isClipNumber (s .args .clips)) (now (s .args .numbers)) (s .pre .0)) (omega arith))
+
+mul-to : tie.Need-mul-to Inv-loop μ-loop
+mul-to c = search needs
+
+slice-write-to : tie.Need-slice-write-to Inv-loop μ-loop
+slice-write-to c = search needs
+
+add-i : tie.Need-add-i Inv-loop μ-loop
+add-i c = search needs
+
+loop-less : tie.Need-loop-less Inv-loop μ-loop
+loop-less c = search needs
+
+loop-again : tie.Need-loop-again Inv-loop μ-loop
+loop-again c =
+    let k = c .before .before .before .loop in
+    let s = c .before .before .before .before .before .before in
+    let n = length-map (now (s .args .numbers)) truncated in
+    (fill-next (map truncated (now (s .args .numbers))) (k .to) (k .i) _ 0 (k .inv .0) (omega arith) (c .to-index .ensures ∙ mapped-at truncated (now (s .args .numbers)) (k .i) nan 0 (omega arith)), length-set (k .to) (k .i) _ ∙ k .inv .1)
+
+same-length : tie.Need-same-length Inv-loop μ-loop
+same-length c = search needs
+
+returns : tie.Need-returns Inv-loop μ-loop
+returns c =
+    let k = c .before .loop in
+    let s = c .before .before .before .before in
+    let n = length-map (now (s .args .numbers)) truncated in
+    fill-whole (map truncated (now (s .args .numbers))) (k .to) (k .i) (k .inv .0) (omega arith) (k .inv .1 ∙ sym n)
+
+pub copy-clips-spec : {M : Type 1} → statement M
+copy-clips-spec =
+    tie.close
+    (tie.spec
+    Inv-loop
+    μ-loop
+    loop-holds
+    mul-to-index
+    shared-slice-read-to-index
+    to-index-requires
+    mul-to
+    slice-write-to
+    add-i
+    loop-less
+    loop-again
+    same-length
+    returns)

@@ -1,0 +1,81 @@
+-- `explicit::parsing::parse_lists` meets its contract. Assumes nothing.
+use mathlib.Core.Path.{sym, subst, _∙_}
+use native.Mathlib.Omega.{arith}
+use borrow.Author.Needs.{needs}
+use denote.Ref.{now}
+use Rattle.definitions.specs.ClipSet as Definitions
+use Rattle.definitions.specs.Explicit.{ExplicitFields}
+use Rattle.set_laws.specs.SoundExplicit.{ExplicitLimits}
+use Rattle.clip.specs.Settling.{Settles}
+use Rattle.explicit.specs.Parsing.{explicitFields}
+use Rattle.explicit.proofs.Acceptance.{fields-fit, fields-clips, explicit-is}
+use Rattle.explicit.proofs.parsing.parse_lists.Statement.{statement}
+use Rattle.explicit.proofs.parsing.parse_lists.Tie as tie
+
+abbrev fields : tie.Start → ExplicitFields
+fields c = explicitFields (c .args .clips) (now (c .args .starts)) (now (c .args .numbers)) (now (c .args .xs)) (now (c .args .ys)) (now (c .args .blocks)) (c .args .manifest)
+
+limits : (c : tie.Start) → ExplicitLimits (fields c)
+limits c = fields-fit (fields c) (c .pre .0)
+
+copy-requires : tie.Need-copy-requires
+copy-requires c κs = search needs
+
+copy-clips-requires : tie.Need-copy-clips-requires
+copy-clips-requires c κs = let s = c .before .before .before .before .before .before .before .before .before .before .before .before .before .before in (fields-clips (fields s) (s .pre .0), s .pre .1 .for-indices ∙ limits s .starts-paired)
+
+copy-requires-2 : tie.Need-copy-requires-2
+copy-requires-2 c κs = search needs
+
+copy-requires-3 : tie.Need-copy-requires-3
+copy-requires-3 c κs = let s = c .before .before .before .before .before .before .before .before .before .before .before .before .before .before .before .before .before .before .before .before .before .before in s .pre .1 .for-ys ∙ limits s .knots-paired
+
+sort-and-settle-requires : tie.Need-sort-and-settle-requires
+sort-and-settle-requires c κs =
+    let s = c .before .before .before .before .before .before .before .before .before .before .before .before .before .before .before .before .before .before .before .before .before .before .before .before .before .before .before .before .before in
+    let t = c .before .before .before .before .before .before .before .before .before .before .before .before .before .before .before .before .before .before .copy .kept .1 .0 ∙ s .pre .1 .for-times in
+    let i = c .before .before .before .before .before .before .before .before .before .before .before .before .before .before .copy-clips .kept .1 .1 .0 ∙ s .pre .1 .for-indices in
+    let x = c .before .before .before .before .before .before .before .before .before .before .copy2 .kept .1 .0 ∙ s .pre .1 .for-xs in
+    let y = c .before .before .before .before .before .before .copy3 .kept .1 .0 ∙ s .pre .1 .for-ys in
+    let l = limits s in
+    record { starts = t ∙ sym i; knots = x ∙ sym y; few-starts = omega arith; few-knots = omega arith; few-blocks = l .blocks }
+
+same-length : tie.Need-same-length
+same-length c = c .before .before .before .before .before .before .before .before .sort-and-settle .kept .1 .0 ∙ c .before .before .before .before .before .before .before .before .before .before .before .before .before .before .before .before .before .before .before .before .before .before .before .before .before .before .before .copy .kept .1 .0
+
+same-length-2 : tie.Need-same-length-2
+same-length-2 c = c .before .before .before .before .before .before .before .before .sort-and-settle .kept .1 .1 .0 ∙ c .before .before .before .before .before .before .before .before .before .before .before .before .before .before .before .before .before .before .before .before .before .before .before .copy-clips .kept .1 .1 .0
+
+same-length-3 : tie.Need-same-length-3
+same-length-3 c = search needs
+
+same-length-4 : tie.Need-same-length-4
+same-length-4 c = search needs
+
+returns : tie.Need-returns
+returns c =
+    let s = c .before .before .before .before .before .before .before .before .before .before .before .before .before .before .before .before .before .before .before .before .before .before .before .before .before .before .before .before .before .before .before .before .before .before .before .before .before .before in
+    let a = s .args in
+    let t = c .before .before .before .before .before .before .before .before .before .before .before .before .before .before .before .before .before .before .before .before .before .before .before .before .before .before .before .copy in
+    let i = c .before .before .before .before .before .before .before .before .before .before .before .before .before .before .before .before .before .before .before .before .before .before .before .copy-clips in
+    let x = c .before .before .before .before .before .before .before .before .before .before .before .before .before .before .before .before .before .before .before .copy2 in
+    let y = c .before .before .before .before .before .before .before .before .before .before .before .before .before .before .before .copy3 in
+    let r = c .before .before .before .before .before .before .before .before .sort-and-settle in
+    subst (λ (set : Definitions.ClipSet). Settles set (r .result))
+    (explicit-is (a .clips) (now (a .starts)) (t .last .1 .0) (now (a .numbers)) (i .last .1 .1 .0) (now (a .xs)) (x .last .1 .0) (now (a .ys)) (y .last .1 .0) (now (a .blocks)) (a .manifest) (t .ensures) (i .ensures) (x .ensures) (y .ensures))
+    (r .ensures)
+
+pub parse-lists-spec : {M : Type 1} → statement M
+parse-lists-spec =
+    tie.close
+    (tie.spec
+    copy-requires
+    copy-clips-requires
+    copy-requires-2
+    copy-requires-3
+    sort-and-settle-requires
+    same-length
+    same-length-2
+    same-length-3
+    same-length-4
+    returns)

@@ -1,0 +1,2 @@
+-- What the contracts on an explicit acceptance cite.
+pub mod Parsing

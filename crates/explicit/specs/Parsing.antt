@@ -1,0 +1,64 @@
+-- What an explicit acceptance replies. Assumes nothing.
+use Prim.Native.Nat.{ℕ}
+use mathlib.Core.Path.{_≡_}
+use mathlib.Core.Bool.{Bool, not, _||_}
+use mathlib.Core.List.{List}
+use lib.Dec.{ltb, eqb}
+use lib.ListN.{length}
+use lib.Ieee.{Float}
+use Rattle.gf.specs.Doubles.{isClipNumber}
+use Rattle.definitions.specs.declared.Manifest.{Manifest}
+use Rattle.definitions.specs.Lists.{_if_else_, any}
+use Rattle.definitions.specs.ClipSet.{maxClips, maxActive, maxKnots, maxBlocks}
+use Rattle.definitions.specs.Explicit.{ExplicitFields, explicitSet, explicit1, explicit2, explicit3, explicitNumber}
+use Rattle.set_laws.specs.Sound.{Sound}
+use Rattle.clip.specs.declared.Parsed.{Parsed}
+use Rattle.clip.specs.Holding.{Held, clipSetOf}
+
+abbrev pub explicitFields : ℕ → List Float → List Float → List Float → List Float → List Float → Manifest → ExplicitFields
+explicitFields clips starts numbers xs ys blocks m = record {
+  clips = clips;
+  startTimes = starts;
+  startClips = numbers;
+  knotX = xs;
+  knotY = ys;
+  blocks = blocks;
+  default = m .default;
+  interpolateMissing = m .interpolate;
+}
+
+-- the definitions' 1, of lengths
+unfoldable pub misshapen : ℕ → ℕ → ℕ → ℕ → ℕ → ℕ → Bool
+misshapen clips starts numbers xs ys blocks =
+    ltb maxClips clips
+    || ltb maxActive starts
+    || ltb maxActive numbers
+    || ltb maxKnots xs
+    || ltb maxKnots ys
+    || ltb maxBlocks blocks
+    || not (eqb starts numbers)
+    || not (eqb xs ys)
+
+abbrev pub anyNotClip : ℕ → List Float → Bool
+anyNotClip clips numbers = any (λ (c : Float). not (isClipNumber clips c)) numbers
+
+-- the numbers that the fields alone give
+unfoldable pub fieldsNumber : ExplicitFields → ℕ
+fieldsNumber f =
+    1 if explicit1 f else
+    2 if explicit2 f else
+    3 if explicit3 f else
+    0
+
+-- lists as long as the fields'
+pub record Lent (starts xs times : List Float) (indices : List ℕ) (us vs : List Float) : Type 0 where
+  pub for-times : length times ≡ length starts
+  pub for-indices : length indices ≡ length starts
+  pub for-xs : length us ≡ length xs
+  pub for-ys : length vs ≡ length xs
+
+pub record Parses (f : ExplicitFields) (r : Parsed) : Type 0 where
+  pub number : r .number ≡ explicitNumber f
+  pub made : r .number ≡ 0 → clipSetOf (r .set) ≡ explicitSet f
+  pub sound : r .number ≡ 0 → Sound (clipSetOf (r .set))
+  pub held : Held (r .set)

@@ -1,0 +1,97 @@
+// An explicit set's fields: the numbers that they alone give.
+use clip::settling;
+use definitions::Manifest;
+ghost use mathlib.Core.Path.{_≡_};
+ghost use Rattle.explicit.specs.Parsing.{explicitFields, misshapen, anyNotClip, fieldsNumber};
+
+// 1 of the clip count and the lengths.
+fn is_misshapen(
+    clips: u64,
+    starts: usize,
+    numbers: usize,
+    xs: usize,
+    ys: usize,
+    blocks: usize,
+) -> bool
+    ensures { λ r. ⌜ r ≡ misshapen clips starts numbers xs ys blocks ⌝ }
+{
+    if 256 < clips {
+        return true;
+    }
+    if 256 < starts {
+        return true;
+    }
+    if 256 < numbers {
+        return true;
+    }
+    if 512 < xs {
+        return true;
+    }
+    if 512 < ys {
+        return true;
+    }
+    if 256 < blocks {
+        return true;
+    }
+    if starts != numbers {
+        return true;
+    }
+    xs != ys
+}
+
+// 3: a number that is none of a clip.
+fn any_not_clip(numbers: &[f64], clips: u64) -> bool
+    ensures { λ r. ⌜ r ≡ anyNotClip clips (now (numbers .entry)) ⌝ }
+{
+    let mut i: usize = 0;
+    while i < numbers.len() {
+        if !gf::clip_number::is_clip_number(numbers[i], clips) {
+            return true;
+        }
+        i += 1;
+    }
+    false
+}
+
+// 1, 2 and 3, which are judged by the fields alone.
+pub fn fields_number(
+    clips: u64,
+    starts: &[f64],
+    numbers: &[f64],
+    xs: &[f64],
+    ys: &[f64],
+    blocks: &[f64],
+    manifest: Manifest,
+) -> u8
+    ensures { λ r. ⌜ r ≡ fieldsNumber (explicitFields clips (now (starts .entry)) (now (numbers .entry)) (now (xs .entry)) (now (ys .entry)) (now (blocks .entry)) manifest) ⌝ }
+{
+    if is_misshapen(
+        clips,
+        starts.len(),
+        numbers.len(),
+        xs.len(),
+        ys.len(),
+        blocks.len(),
+    ) {
+        return 1;
+    }
+    if lists::any_unstorable(starts) {
+        return 2;
+    }
+    if lists::any_unstorable(xs) {
+        return 2;
+    }
+    if lists::any_unstorable(ys) {
+        return 2;
+    }
+    if lists::any_unstorable(blocks) {
+        return 2;
+    }
+    if settling::is_nan_default(manifest.default) {
+        return 2;
+    }
+    if any_not_clip(numbers, clips) {
+        return 3;
+    }
+    0
+}

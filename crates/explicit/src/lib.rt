@@ -1,0 +1,54 @@
+// An explicit set: the Rust's `parse_set`.
+mod fields;
+mod parsing;
+
+use clip::Parsed;
+use clip::settling;
+use clip::storage;
+use definitions::Default;
+use definitions::Manifest;
+ghost use Rattle.clip.specs.Holding.{manifest};
+ghost use Rattle.explicit.specs.Parsing.{explicitFields, Parses};
+
+// The set of the fields, unless 1, 2, 3, 4, 5 or 9 refuses it.
+pub fn parse_set(
+    clips: u64,
+    starts: &[f64],
+    numbers: &[f64],
+    xs: &[f64],
+    ys: &[f64],
+    blocks: &[f64],
+    default: Default,
+    interpolate: bool,
+) -> Parsed
+    ensures { λ r. ⌜ Parses (explicitFields clips (now (starts .entry)) (now (numbers .entry)) (now (xs .entry)) (now (ys .entry)) (now (blocks .entry)) (manifest default interpolate)) r ⌝ }
+{
+    let manifest = Manifest {
+        default,
+        interpolate,
+    };
+    let number = fields::fields_number(clips, starts, numbers, xs, ys, blocks, manifest);
+    if number != 0 {
+        return settling::refused(number);
+    }
+    let n = starts.len();
+    let m = xs.len();
+    let plain = storage::blank();
+    let mut times = plain.times;
+    let mut indices = plain.numbers;
+    let mut us = plain.xs;
+    let mut vs = plain.ys;
+    parsing::parse_lists(
+        clips,
+        starts,
+        numbers,
+        xs,
+        ys,
+        blocks,
+        manifest,
+        &mut times[..n],
+        &mut indices[..n],
+        &mut us[..m],
+        &mut vs[..m],
+    )
+}

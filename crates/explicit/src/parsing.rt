@@ -1,0 +1,48 @@
+// An explicit set's lists: the fields copied, sorted and settled.
+use clip::Parsed;
+use clip::settling;
+use definitions::Manifest;
+ghost use mathlib.Core.Path.{_≡_};
+ghost use mathlib.Core.Bool.{false};
+ghost use mathlib.Core.List.{map};
+ghost use lib.ListN.{length};
+ghost use Rattle.gf.specs.Doubles.{truncated};
+ghost use Rattle.definitions.specs.Explicit.{explicitSet};
+ghost use Rattle.clip.specs.Settling.{Settles};
+ghost use Rattle.explicit.specs.Parsing.{Lent, explicitFields, anyNotClip, fieldsNumber};
+
+// The clip numbers as indices. -0.0 is 0.
+fn copy_clips(numbers: &[f64], clips: u64, to: &mut [u64])
+    requires { ⌜ anyNotClip clips (now numbers) ≡ false ⌝ ∗ ⌜ length (now to) ≡ length (now numbers) ⌝ }
+    ensures { λ _. ⌜ now (to .exit) ≡ map truncated (now (numbers .entry)) ⌝ }
+{
+    let mut i: usize = 0;
+    while i < numbers.len() {
+        to[i] = gf::clip_number::to_index(numbers[i]);
+        i += 1;
+    }
+}
+
+// Fields without 1, 2 and 3, copied to lists of their lengths.
+pub fn parse_lists(
+    clips: u64,
+    starts: &[f64],
+    numbers: &[f64],
+    xs: &[f64],
+    ys: &[f64],
+    blocks: &[f64],
+    manifest: Manifest,
+    times: &mut [f64],
+    indices: &mut [u64],
+    us: &mut [f64],
+    vs: &mut [f64],
+) -> Parsed
+    requires { ⌜ fieldsNumber (explicitFields clips (now starts) (now numbers) (now xs) (now ys) (now blocks) manifest) ≡ 0 ⌝ ∗ ⌜ Lent (now starts) (now xs) (now times) (now indices) (now us) (now vs) ⌝ }
+    ensures { λ r. ⌜ Settles (explicitSet (explicitFields clips (now (starts .entry)) (now (numbers .entry)) (now (xs .entry)) (now (ys .entry)) (now (blocks .entry)) manifest)) r ⌝ }
+{
+    lists::writing::copy(starts, times);
+    copy_clips(numbers, clips, indices);
+    lists::writing::copy(xs, us);
+    lists::writing::copy(ys, vs);
+    settling::sort_and_settle(clips, times, indices, us, vs, blocks, manifest)
+}

@@ -1,0 +1,60 @@
+// The normal form of time samples.
+use sdf::Counted;
+use sdf::scans;
+ghost use mathlib.Core.Path.{_≡_};
+ghost use Rattle.normal_form.specs.Normalizes.{Normalizes, outputs, listedNumber};
+
+mod merging;
+mod sorting;
+
+// The number by which lists in any order are refused, before their normal form is looked at.
+fn listed_number(times: &[f64], values: &[f64], marks: &[u8]) -> u8
+    ensures { λ r. ⌜ r ≡ listedNumber (now (times .entry)) (now (values .entry)) (now (marks .entry)) ⌝ }
+{
+    if scans::unlike_lengths(times, values, marks) {
+        return 1;
+    }
+    if lists::any_unstorable(times) {
+        return 2;
+    }
+    if scans::any_nan(values, marks) {
+        return 2;
+    }
+    if scans::bad_marks(marks) {
+        return 9;
+    }
+    0
+}
+
+// The samples sorted stably by time, and of equal times the first time with the last value and mark: the Rust's
+// `normalize_time_samples`. Nothing is written before the merged count is known to fit.
+pub fn normalize(
+    times: &[f64],
+    values: &[f64],
+    marks: &[u8],
+    outtimes: &mut [f64],
+    outvalues: &mut [f64],
+    outmarks: &mut [u8],
+) -> Counted
+    ensures { λ r. ⌜ Normalizes (now (times .entry)) (now (values .entry)) (now (marks .entry)) (outputs (now (outtimes .entry)) (now (outvalues .entry)) (now (outmarks .entry))) (outputs (now (outtimes .exit)) (now (outvalues .exit)) (now (outmarks .exit))) r ⌝ }
+{
+    let number = listed_number(times, values, marks);
+    if number != 0 {
+        return Counted { number, count: 0 };
+    }
+    let n = times.len();
+    let mut places = [0u16; 4096];
+    let mut firsts = [0u16; 4096];
+    let mut lasts = [0u16; 4096];
+    merging::normalize_into(
+        times,
+        values,
+        marks,
+        &mut places[..n],
+        &mut firsts[..n],
+        &mut lasts[..n],
+        outtimes,
+        outvalues,
+        outmarks,
+    )
+}

@@ -1,0 +1,68 @@
+-- `plain_questions::dump::blocks` is safe and ends: each turn passes an entry of the array. Assumes nothing.
+use borrow.Author.Needs.{needs}
+use Prim.Native.Nat.{_-_}
+use mathlib.Core.Path.{_≡_}
+use lib.ListN.{length}
+use Rattle.plain_questions.proofs.dump.blocks.Statement.{statement}
+use Rattle.plain_questions.proofs.dump.blocks.Tie as tie
+
+abbrev Inv-loop : tie.InvT-loop
+Inv-loop out₀ full list n₀ i₀ out n i = length out ≡ length out₀
+
+abbrev μ-loop : tie.MeasureT-loop
+μ-loop out₀ full list n₀ i₀ out n i = 256 - i
+
+decimal-requires : tie.Need-decimal-requires Inv-loop μ-loop
+decimal-requires c κs = search needs
+
+loop-holds : tie.Need-loop-holds Inv-loop μ-loop
+loop-holds c = search needs
+
+same-length : tie.Need-same-length Inv-loop μ-loop
+same-length c = search needs
+
+returns : tie.Need-returns Inv-loop μ-loop
+returns c = search needs
+
+mul-double : tie.Need-mul-double Inv-loop μ-loop
+mul-double c = search needs
+
+element-copy-out-double : tie.Need-element-copy-out-double Inv-loop μ-loop
+element-copy-out-double c = search needs
+
+double-requires : tie.Need-double-requires Inv-loop μ-loop
+double-requires c κs = search needs
+
+add-i : tie.Need-add-i Inv-loop μ-loop
+add-i c = search needs
+
+loop-less : tie.Need-loop-less Inv-loop μ-loop
+loop-less c = search needs
+
+loop-again : tie.Need-loop-again Inv-loop μ-loop
+loop-again c = search needs
+
+same-length-2 : tie.Need-same-length-2 Inv-loop μ-loop
+same-length-2 c = search needs
+
+returns-2 : tie.Need-returns-2 Inv-loop μ-loop
+returns-2 c = search needs
+
+pub blocks-spec : {M : Type 1} → statement M
+blocks-spec =
+    tie.close
+    (tie.spec
+    Inv-loop
+    μ-loop
+    decimal-requires
+    loop-holds
+    same-length
+    returns
+    mul-double
+    element-copy-out-double
+    double-requires
+    add-i
+    loop-less
+    loop-again
+    same-length-2
+    returns-2)

@@ -1,0 +1,4 @@
+-- Laws that belong to no one function.
+pub mod Promotion
+pub mod Expansion
+pub mod Templates

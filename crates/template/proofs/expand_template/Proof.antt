@@ -1,0 +1,149 @@
+-- `template::expand_template` meets its contract: the numbers of its fields, 8, or those of the settled lists. Assumes nothing.
+use Prim.Native.Nat.{_≤_}
+use mathlib.Core.Path.{_≡_, sym, ap, subst, _∙_}
+use mathlib.Core.List.{List}
+use native.Mathlib.Omega.{arith}
+use borrow.Author.Needs.{needs}
+use lib.Dec.{T}
+use lib.ListN.{length, take}
+use lib.Ieee.{Float}
+use denote.Ref.{now}
+use Rattle.definitions.specs.Template.{TemplateFields, activeOffset}
+use Rattle.set_laws.specs.SoundTemplate.{TemplateFits}
+use Rattle.clip.specs.Settling.{Settles}
+use Rattle.clip.specs.Holding.{manifest}
+use Rattle.template.specs.Expanding.{templateFields, templateFieldsNumber, knotCount, expandedSet}
+use Rattle.clip.specs.Laws.{all-fit, lent}
+use Rattle.template.proofs.Expansion.{few-knots}
+use Rattle.template.proofs.Templates.{few-blocks, template-refuses, template-beyond, template-settles}
+use Rattle.template.proofs.expand_template.Statement.{statement}
+use Rattle.template.proofs.expand_template.Tie as tie
+
+abbrev fields : tie.Start → TemplateFields
+fields c = templateFields (now (c .args .template)) (c .args .times) (c .args .offset) (now (c .args .blocks)) (manifest (c .args .default) (c .args .interpolate))
+
+none : (c : tie.Else1) → templateFieldsNumber (fields (c .before .before .before .before)) ≡ 0
+none c = sym (c .before .fields-number .ensures) ∙ c .if1 .left
+
+-- the clips and the knots have room
+few : (c : tie.After-blank) → c .before .before .before .before .promote .result .count ≤ 256
+few c = c .before .before .before .if2 .left
+
+few-lent : (c : tie.After-blank) → c .before .before .knot-count .result ≤ 512
+few-lent c = omega (arith, c .before .before .knot-count .ensures, few-knots (c .before .before .before .before .before .before .before .before .before .args .offset) (c .before .before .before .before .promote .result .count) (few c))
+
+clips-lent : (c : tie.After-blank) → length (take (c .before .before .before .before .promote .result .count) (c .before .before .before .before .promote .result .items)) ≡ c .before .before .before .before .promote .result .count
+clips-lent c = lent 256 (c .before .before .before .before .promote .result .count) (c .before .before .before .before .promote .result .items) (c .before .before .before .before .promote .ensures .long) (few c)
+
+-- what owning `f64`s tells: the format holds them
+fitting : (c : tie.After-shared-slice-known2) → TemplateFits (fields (c .before .before))
+fitting c = record { blocks = all-fit (now (c .before .before .args .blocks)) (c .shared-slice-known2 .given); value = subst T (sym (c .before .before .good .1 .1 .1 .1 .0 .1 .1 .1 .0 .1)) tt }
+
+fields-number-requires : tie.Need-fields-number-requires
+fields-number-requires c κs = search needs
+
+refused-requires : tie.Need-refused-requires
+refused-requires c κs = search needs
+
+returns : tie.Need-returns
+returns c =
+    let s = c .before .before .before .before .before in
+    template-refuses (fields s) (c .before .before .fields-number .result) (c .refused .result) (c .before .before .fields-number .ensures) (c .before .if1 .taken) (c .refused .ensures)
+
+promote-requires : tie.Need-promote-requires
+promote-requires c κs = search needs
+
+refused-requires-2 : tie.Need-refused-requires-2
+refused-requires-2 c κs = search needs
+
+returns-2 : tie.Need-returns-2
+returns-2 c =
+    let s = c .before .before .before .before .before .before .before in
+    template-beyond (fields s) (c .refused2 .result) (none (c .before .before .before)) (omega (arith, c .before .if2 .taken, c .before .before .promote .ensures .count)) (c .refused2 .ensures)
+
+knot-count-requires : tie.Need-knot-count-requires
+knot-count-requires c κs = search needs
+
+blank-requires : tie.Need-blank-requires
+blank-requires c κs = search needs
+
+array-share-prefix-ts : tie.Need-array-share-prefix-ts
+array-share-prefix-ts c = search needs
+
+slice-aggregate-expand-lists : tie.Need-slice-aggregate-expand-lists
+slice-aggregate-expand-lists c = sym (clips-lent (c .before .before .before .before .before))
+
+array-borrow-prefix-starts : tie.Need-array-borrow-prefix-starts
+array-borrow-prefix-starts c = search needs
+
+slice-aggregate-expand-lists-2 : tie.Need-slice-aggregate-expand-lists-2
+slice-aggregate-expand-lists-2 c = let b = c .before .before .before .before .before .before in sym (lent 256 (c .before .before .before .before .before .before .before .before .before .before .promote .result .count) (b .blank .result .times) (b .blank .ensures .times) (few b))
+
+array-borrow-prefix-numbers : tie.Need-array-borrow-prefix-numbers
+array-borrow-prefix-numbers c = search needs
+
+slice-aggregate-expand-lists-3 : tie.Need-slice-aggregate-expand-lists-3
+slice-aggregate-expand-lists-3 c = let b = c .before .before .before .before .before .before .before in sym (lent 256 (c .before .before .before .before .before .before .before .before .before .before .before .promote .result .count) (b .blank .result .numbers) (b .blank .ensures .numbers) (few b))
+
+array-borrow-prefix-xs : tie.Need-array-borrow-prefix-xs
+array-borrow-prefix-xs c = omega (arith, few-lent (c .before .before .before .before .before .before .before), c .before .before .before .before .before .before .before .blank .ensures .xs)
+
+slice-aggregate-expand-lists-4 : tie.Need-slice-aggregate-expand-lists-4
+slice-aggregate-expand-lists-4 c = let b = c .before .before .before .before .before .before .before .before in sym (lent 512 (c .before .before .before .before .before .before .before .before .before .before .knot-count .result) (b .blank .result .xs) (b .blank .ensures .xs) (few-lent b))
+
+array-borrow-prefix-ys : tie.Need-array-borrow-prefix-ys
+array-borrow-prefix-ys c = omega (arith, few-lent (c .before .before .before .before .before .before .before .before), c .before .before .before .before .before .before .before .before .blank .ensures .ys)
+
+slice-aggregate-expand-lists-5 : tie.Need-slice-aggregate-expand-lists-5
+slice-aggregate-expand-lists-5 c = let b = c .before .before .before .before .before .before .before .before .before in sym (lent 512 (c .before .before .before .before .before .before .before .before .before .before .before .knot-count .result) (b .blank .result .ys) (b .blank .ensures .ys) (few-lent b))
+
+expand-lists-requires : tie.Need-expand-lists-requires
+expand-lists-requires c κs =
+    let b = c .before .before .before .before .before .before .before .before .before in
+    let n = b .before .before .before .before .promote .result .count in
+    let m = b .before .before .knot-count .result in
+    let t = clips-lent b in
+    let k : m ≡ knotCount (b .before .before .before .before .before .before .before .before .before .args .offset) (length (take n (b .before .before .before .before .promote .result .items))) = b .before .before .knot-count .ensures ∙ ap (knotCount (b .before .before .before .before .before .before .before .before .before .args .offset)) (sym t) in
+    record {
+      for-times = lent 256 n (b .blank .result .times) (b .blank .ensures .times) (few b) ∙ sym t;
+      for-numbers = lent 256 n (b .blank .result .numbers) (b .blank .ensures .numbers) (few b) ∙ sym t;
+      for-xs = lent 512 m (b .blank .result .xs) (b .blank .ensures .xs) (few-lent b) ∙ k;
+      for-ys = lent 512 m (b .blank .result .ys) (b .blank .ensures .ys) (few-lent b) ∙ k;
+      few = omega (arith, t, few b);
+      few-blocks = few-blocks (fields (b .before .before .before .before .before .before .before .before .before)) (none (b .before .before .before .before .before));
+    }
+
+returns-3 : tie.Need-returns-3
+returns-3 c =
+    let b = c .before .before .before .before .before .before .before .before .before .before .before .before .before .before in
+    let s = b .before .before .before .before .before .before .before .before .before in
+    let f = fields s in
+    let p = b .before .before .before .before .promote .ensures in
+    let r = c .before .before .before .before .expand-lists in
+    template-settles f (r .result) (fitting (b .before .before .before .before .before .before .before)) (none (b .before .before .before .before .before)) (omega (arith, p .count, few b))
+    (subst (λ (ts : List Float). Settles (expandedSet ts (s .args .times) (activeOffset f) (now (s .args .blocks)) (manifest (s .args .default) (s .args .interpolate))) (r .result)) (p .list (few b)) (r .ensures))
+
+pub expand-template-spec : {M : Type 1} → statement M
+expand-template-spec =
+    tie.close
+    (tie.spec
+    fields-number-requires
+    refused-requires
+    returns
+    promote-requires
+    refused-requires-2
+    returns-2
+    knot-count-requires
+    blank-requires
+    array-share-prefix-ts
+    slice-aggregate-expand-lists
+    array-borrow-prefix-starts
+    slice-aggregate-expand-lists-2
+    array-borrow-prefix-numbers
+    slice-aggregate-expand-lists-3
+    array-borrow-prefix-xs
+    slice-aggregate-expand-lists-4
+    array-borrow-prefix-ys
+    slice-aggregate-expand-lists-5
+    expand-lists-requires
+    returns-3)

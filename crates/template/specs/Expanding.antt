@@ -1,0 +1,102 @@
+-- What a template acceptance replies. Assumes nothing.
+use Prim.Native.Nat.{ℕ, suc, _+_, _≤_}
+use mathlib.Core.Path.{_≡_}
+use mathlib.Core.Bool.{Bool, not, _||_, cond}
+use mathlib.Core.List.{List, [], _∷_, _++_, map}
+use mathlib.Core.Option.{Option, none, some}
+use lib.ListN.{length, take}
+use lib.Ieee.{Float, lt, le}
+use lib.Ieee.Scale.{finite}
+use Rattle.gf.specs.Doubles.{_⊕_, _⊖_, _⊘_, 0·0, 10000·0, abs, storable}
+use Rattle.definitions.specs.declared.Manifest.{Manifest}
+use Rattle.definitions.specs.declared.TemplateTimes.{TemplateTimes}
+use Rattle.definitions.specs.Lists.{_if_else_}
+use Rattle.definitions.specs.ClipSet as Definitions
+use Rattle.definitions.specs.ClipSet.{maxClips, maxBlocks, sortActive, sortKnots}
+use Rattle.definitions.specs.Template.{TemplateFields, promoted, activations, clipKnots, withBounds, offsetNotFinite, offsetBeyond, templateSet, template1, template2, template7, template6, templateNumber}
+use Rattle.set_laws.specs.Sound.{Sound}
+use Rattle.clip.specs.declared.Parsed.{Parsed}
+use Rattle.template.specs.declared.expanding.Promoted.{Promoted}
+use Rattle.clip.specs.Holding.{Held, clipSetOf}
+
+abbrev pub templateFields : List ℕ → TemplateTimes → Bool → List Float → Manifest → TemplateFields
+templateFields template x offset blocks m = record {
+  template = template;
+  times = x;
+  hasOffset = offset;
+  blocks = blocks;
+  default = m .default;
+  interpolateMissing = m .interpolate;
+}
+
+abbrev pub offsetOf : TemplateTimes → Bool → Option Float
+offsetOf x offset = cond offset (some (x .offset)) none
+
+-- the definitions' 2 and 7, of the four numbers
+unfoldable pub timesUnstorable : TemplateTimes → Option Float → Bool
+timesUnstorable x o = not (storable (x .start)) || not (storable (x .end)) || not (finite (x .stride)) || offsetNotFinite o
+
+unfoldable pub timesDisordered : TemplateTimes → Option Float → Bool
+timesDisordered x o = le (x .stride) 0·0 || lt (x .end) (x .start) || offsetBeyond (x .stride) o
+
+-- the numbers that the fields alone give
+unfoldable pub templateFieldsNumber : TemplateFields → ℕ
+templateFieldsNumber f =
+    1 if template1 f else
+    2 if template2 f else
+    7 if template7 f else
+    6 if template6 f else
+    0
+
+-- the times t of the clips, if there are not too many
+pub record Promotes (x : TemplateTimes) (r : Promoted) : Type 0 where
+  pub long : length (r .items) ≡ maxClips
+  pub count : r .count ≡ length (promoted x)
+  pub list : r .count ≤ maxClips → take (r .count) (r .items) ≡ promoted x
+
+-- ---- the lists of the times t
+
+abbrev pub timesOfClips : List Float → List Float
+timesOfClips ts = map (λ (t : Float). t ⊘ 10000·0) ts
+
+abbrev pub bounded : Float → Float → List Float → List Float
+bounded first last ts = first ∷ (timesOfClips ts ++ (last ∷ []))
+
+-- the x of the knots, and their y
+abbrev pub knotXs : TemplateTimes → Option Float → List Float → List Float
+knotXs x none ts = timesOfClips ts
+knotXs x (some offset) ts = bounded (x .start ⊖ abs offset) (x .end ⊕ abs offset) ts
+
+abbrev pub knotCount : Bool → ℕ → ℕ
+knotCount offset n = cond offset (n + 2) n
+
+-- i, i + 1, .., as many as there are entries
+abbrev pub numbered : {A : Type 0} → ℕ → List A → List ℕ
+numbered i [] = []
+numbered i (x ∷ xs) = i ∷ numbered (suc i) xs
+
+-- lists as long as the clips, and as their knots
+pub record Prepared (offset : Bool) (ts times : List Float) (numbers : List ℕ) (xs ys blocks : List Float) : Type 0 where
+  pub for-times : length times ≡ length ts
+  pub for-numbers : length numbers ≡ length ts
+  pub for-xs : length xs ≡ knotCount offset (length ts)
+  pub for-ys : length ys ≡ knotCount offset (length ts)
+  pub few : length ts ≤ maxClips
+  pub few-blocks : length blocks ≤ maxBlocks
+
+-- the set that a template makes of the times t
+unfoldable pub expandedSet : List Float → TemplateTimes → Option Float → List Float → Manifest → Definitions.ClipSet
+expandedSet ts x o blocks m = record {
+  clips = length ts;
+  active = sortActive (activations o 0 ts);
+  knots = sortKnots (withBounds x o (clipKnots ts));
+  blocks = blocks;
+  default = m .default;
+  interpolateMissing = m .interpolate;
+}
+
+pub record Expands (f : TemplateFields) (r : Parsed) : Type 0 where
+  pub number : r .number ≡ templateNumber f
+  pub made : r .number ≡ 0 → clipSetOf (r .set) ≡ templateSet f
+  pub sound : r .number ≡ 0 → Sound (clipSetOf (r .set))
+  pub held : Held (r .set)

@@ -1,0 +1,2 @@
+-- What the contracts on a template acceptance cite.
+pub mod Expanding

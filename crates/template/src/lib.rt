@@ -1,0 +1,56 @@
+// A template: the Rust's expansion of one to an explicit set.
+mod expanding;
+mod fields;
+
+use clip::Parsed;
+use clip::settling;
+use clip::storage;
+use definitions::Default;
+use definitions::Manifest;
+use definitions::TemplateTimes;
+ghost use Rattle.clip.specs.Holding.{manifest};
+ghost use Rattle.template.specs.Expanding.{templateFields, Expands};
+
+// The set that a template expands to, unless 1, 2, 7, 6, 8, 2, 4, 5 or 9 refuses it. Where `offset` is false the offset is absent, whatever its slot holds.
+pub fn expand_template(
+    template: &[u8],
+    times: TemplateTimes,
+    offset: bool,
+    blocks: &[f64],
+    default: Default,
+    interpolate: bool,
+) -> Parsed
+    ensures { λ r. ⌜ Expands (templateFields (now (template .entry)) times offset (now (blocks .entry)) (manifest default interpolate)) r ⌝ }
+{
+    let manifest = Manifest {
+        default,
+        interpolate,
+    };
+    let number = fields::fields_number(template, times, offset, blocks, manifest);
+    if number != 0 {
+        return settling::refused(number);
+    }
+    let promoted = expanding::promote(times);
+    let n = promoted.count;
+    if 256 < n {
+        return settling::refused(8);
+    }
+    let m = expanding::knot_count(n, offset);
+    let ts = promoted.items;
+    let plain = storage::blank();
+    let mut starts = plain.times;
+    let mut numbers = plain.numbers;
+    let mut xs = plain.xs;
+    let mut ys = plain.ys;
+    expanding::expand_lists(
+        &ts[..n],
+        times,
+        offset,
+        blocks,
+        manifest,
+        &mut starts[..n],
+        &mut numbers[..n],
+        &mut xs[..m],
+        &mut ys[..m],
+    )
+}
