@@ -1,4 +1,4 @@
--- `stage::next_time` meets its contract: a pass over all windows. Assumes nothing.
+-- `stage::next::next_time` meets its contract: a pass over all windows. Assumes nothing.
 use Prim.Native.Nat.{ℕ, _-_, _≤_}
 use mathlib.Core.Path.{_≡_, sym, subst}
 use mathlib.Core.Bool.{true}
@@ -13,8 +13,8 @@ use Rattle.value.specs.Reads.{partOf, ready-readable, ready-clip}
 use Rattle.value.specs.Bounds.{nothing, Scanned, scanned-none, scanned-then}
 use Rattle.value.specs.Windows.{windowPart, ifOwn}
 use Rattle.stage.specs.Times.{gather-more, next-time}
-use Rattle.stage.proofs.next_time.Statement.{statement}
-use Rattle.stage.proofs.next_time.Tie as tie
+use Rattle.stage.proofs.next.next_time.Statement.{statement}
+use Rattle.stage.proofs.next.next_time.Tie as tie
 
 -- the times of one window
 abbrev part : List Float → List ℕ → List Float → List Float → List Float → List ℕ → ℕ → List Float

@@ -1,4 +1,4 @@
--- `stage::write_times` meets its contract: the times that were written and those above the last one are all. Assumes nothing.
+-- `stage::walk::write_times` meets its contract: the times that were written and those above the last one are all. Assumes nothing.
 use Prim.Native.Nat.{_-_, _<_}
 use mathlib.Core.Path.{_≡_, sym}
 use mathlib.Core.List.{_∷_}
@@ -13,8 +13,8 @@ use Rattle.value.specs.declared.window.Bound.{Bound}
 use Rattle.stage.specs.Times.{stageAfter, NextTime, times-all}
 use Rattle.stage.specs.Writing.{Wrote, wrote-start, wrote-room, wrote-on, wrote-end, wrote-rest}
 use borrow.Author.Needs.{needs}
-use Rattle.stage.proofs.write_times.Statement.{statement}
-use Rattle.stage.proofs.write_times.Tie as tie
+use Rattle.stage.proofs.walk.write_times.Statement.{statement}
+use Rattle.stage.proofs.walk.write_times.Tie as tie
 
 abbrev Inv-loop : tie.InvT-loop
 Inv-loop starts clips xs ys blocks m times values marks ends out₀ t₀ count₀ out t count =

@@ -1,4 +1,4 @@
--- `stage::fits` meets its contract: the times that were counted and those above the last one are all. Assumes nothing.
+-- `stage::walk::fits` meets its contract: the times that were counted and those above the last one are all. Assumes nothing.
 use Prim.Native.Nat.{_+_, _-_, _≤_}
 use mathlib.Core.Path.{_≡_, ap}
 use mathlib.Core.List.{List}
@@ -13,8 +13,8 @@ use Rattle.value.specs.declared.window.Bound.{Bound}
 use Rattle.stage.specs.Times.{stageAfter, NextTime, times-all}
 use Rattle.stage.specs.Writing.{count-done, count-over, count-on}
 use borrow.Author.Needs.{needs}
-use Rattle.stage.proofs.fits.Statement.{statement}
-use Rattle.stage.proofs.fits.Tie as tie
+use Rattle.stage.proofs.walk.fits.Statement.{statement}
+use Rattle.stage.proofs.walk.fits.Tie as tie
 
 abbrev Inv-loop : tie.InvT-loop
 Inv-loop starts clips xs ys blocks m times values marks ends room t₀ count₀ t count =

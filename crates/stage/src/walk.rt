@@ -1,0 +1,98 @@
+// The stage sample times one after the other, counted or written.
+
+use super::next::next_time;
+use definitions::Manifest;
+use value::window::Bound;
+ghost use mathlib.Core.Path.{_≡_};
+ghost use Prim.Native.Nat.{_≤_};
+ghost use lib.Dec.{leb};
+ghost use lib.ListN.{length};
+ghost use Rattle.definitions.specs.Lists.{writtenOver};
+ghost use Rattle.definitions.specs.StageSamples.{stageSampleTimes};
+ghost use Rattle.cell_laws.specs.Unpacked.{setOf, samplesOf, Ready};
+
+// Whether there are at most `room` stage sample times.
+pub fn fits(
+    starts: &[f64],
+    clips: &[u64],
+    xs: &[f64],
+    ys: &[f64],
+    blocks: &[f64],
+    m: Manifest,
+    times: &[f64],
+    values: &[f64],
+    marks: &[u8],
+    ends: &[u64],
+    room: usize,
+) -> bool
+    requires { ⌜ Ready (now starts) (now clips) (now xs) (now ys) (now blocks) m (now times) (now values) (now marks) (now ends) ⌝ }
+    ensures { λ r. ⌜ r ≡ leb (length (stageSampleTimes (setOf (length (now (ends .entry))) (now (starts .entry)) (now (clips .entry)) (now (xs .entry)) (now (ys .entry)) (now (blocks .entry)) m) (samplesOf (now (times .entry)) (now (values .entry)) (now (marks .entry)) (now (ends .entry))))) room ⌝ }
+{
+    let mut t = -1.0 / 0.0;
+    let mut count: usize = 0;
+    loop {
+        let next = next_time(
+            starts,
+            clips,
+            xs,
+            ys,
+            blocks,
+            m,
+            times,
+            values,
+            marks,
+            ends,
+            t,
+        );
+        let Bound::At(h) = next else {
+            return true;
+        };
+        if count == room {
+            return false;
+        }
+        count += 1;
+        t = h;
+    }
+}
+
+// The stage sample times go to the front of `out`, which has room for them.
+pub fn write_times(
+    starts: &[f64],
+    clips: &[u64],
+    xs: &[f64],
+    ys: &[f64],
+    blocks: &[f64],
+    m: Manifest,
+    times: &[f64],
+    values: &[f64],
+    marks: &[u8],
+    ends: &[u64],
+    out: &mut [f64],
+) -> usize
+    requires { ⌜ Ready (now starts) (now clips) (now xs) (now ys) (now blocks) m (now times) (now values) (now marks) (now ends) ⌝ ∗ ⌜ length (stageSampleTimes (setOf (length (now ends)) (now starts) (now clips) (now xs) (now ys) (now blocks) m) (samplesOf (now times) (now values) (now marks) (now ends))) ≤ length (now out) ⌝ }
+    ensures { λ r. ⌜ (r ≡ length (stageSampleTimes (setOf (length (now (ends .entry))) (now (starts .entry)) (now (clips .entry)) (now (xs .entry)) (now (ys .entry)) (now (blocks .entry)) m) (samplesOf (now (times .entry)) (now (values .entry)) (now (marks .entry)) (now (ends .entry))))) × (now (out .exit) ≡ writtenOver (stageSampleTimes (setOf (length (now (ends .entry))) (now (starts .entry)) (now (clips .entry)) (now (xs .entry)) (now (ys .entry)) (now (blocks .entry)) m) (samplesOf (now (times .entry)) (now (values .entry)) (now (marks .entry)) (now (ends .entry)))) (now (out .entry))) ⌝ }
+{
+    let mut t = -1.0 / 0.0;
+    let mut count: usize = 0;
+    loop {
+        let next = next_time(
+            starts,
+            clips,
+            xs,
+            ys,
+            blocks,
+            m,
+            times,
+            values,
+            marks,
+            ends,
+            t,
+        );
+        let Bound::At(h) = next else {
+            return count;
+        };
+        out[count] = h;
+        count += 1;
+        t = h;
+    }
+}
