@@ -6,6 +6,7 @@ pub mod walk;
 
 use definitions::Manifest;
 use mark::write_marks;
+use value::tops::tops_of;
 use walk::fits;
 use walk::write_times;
 ghost use mathlib.Core.Path.{_≡_};
@@ -39,6 +40,7 @@ pub fn stage_sample_times(
     requires { ⌜ Ready (now starts) (now clips) (now xs) (now ys) (now blocks) m (now times) (now values) (now marks) (now ends) ⌝ }
     ensures { λ r. ⌜ TimesWritten (stageSampleTimes (setOf (length (now (ends .entry))) (now (starts .entry)) (now (clips .entry)) (now (xs .entry)) (now (ys .entry)) (now (blocks .entry)) m) (samplesOf (now (times .entry)) (now (values .entry)) (now (marks .entry)) (now (ends .entry)))) (now (out .entry)) (now (out .exit)) r ⌝ }
 {
+    let reach = tops_of(xs, ys);
     if fits(
         starts,
         clips,
@@ -50,6 +52,7 @@ pub fn stage_sample_times(
         values,
         marks,
         ends,
+        &reach.items,
         out.len(),
     ) {
         let count = write_times(
@@ -63,6 +66,7 @@ pub fn stage_sample_times(
             values,
             marks,
             ends,
+            &reach.items,
             out,
         );
         return Written::Count(count);
@@ -97,6 +101,7 @@ pub fn stage_samples(
     requires { ⌜ Ready (now starts) (now clips) (now xs) (now ys) (now blocks) m (now times) (now values) (now marks) (now ends) ⌝ }
     ensures { λ r. ⌜ SamplesWritten (sampleTimes (setOf (length (now (ends .entry))) (now (starts .entry)) (now (clips .entry)) (now (xs .entry)) (now (ys .entry)) (now (blocks .entry)) m) (samplesOf (now (times .entry)) (now (values .entry)) (now (marks .entry)) (now (ends .entry)))) (sampleMarks (setOf (length (now (ends .entry))) (now (starts .entry)) (now (clips .entry)) (now (xs .entry)) (now (ys .entry)) (now (blocks .entry)) m) (samplesOf (now (times .entry)) (now (values .entry)) (now (marks .entry)) (now (ends .entry)))) (now (outtimes .entry)) (now (outtimes .exit)) (now (outmarks .entry)) (now (outmarks .exit)) r ⌝ }
 {
+    let reach = tops_of(xs, ys);
     let room = shorter(outtimes.len(), outmarks.len());
     if fits(
         starts,
@@ -109,6 +114,7 @@ pub fn stage_samples(
         values,
         marks,
         ends,
+        &reach.items,
         room,
     ) {
         let count = write_times(
@@ -122,6 +128,7 @@ pub fn stage_samples(
             values,
             marks,
             ends,
+            &reach.items,
             outtimes,
         );
         write_marks(

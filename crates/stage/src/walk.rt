@@ -10,6 +10,7 @@ ghost use lib.ListN.{length};
 ghost use Rattle.definitions.specs.Lists.{writtenOver};
 ghost use Rattle.definitions.specs.StageSamples.{stageSampleTimes};
 ghost use Rattle.cell_laws.specs.Unpacked.{setOf, samplesOf, Ready};
+ghost use Rattle.value.specs.Tops.{TopsOf};
 
 // Whether there are at most `room` stage sample times.
 pub fn fits(
@@ -23,13 +24,17 @@ pub fn fits(
     values: &[f64],
     marks: &[u8],
     ends: &[u64],
+    tops: &[f64],
     room: usize,
 ) -> bool
-    requires { ⌜ Ready (now starts) (now clips) (now xs) (now ys) (now blocks) m (now times) (now values) (now marks) (now ends) ⌝ }
+    requires { ⌜ Ready (now starts) (now clips) (now xs) (now ys) (now blocks) m (now times) (now values) (now marks) (now ends) ⌝ ∗ ⌜ TopsOf (now xs) (now ys) (now tops) ⌝ }
     ensures { λ r. ⌜ r ≡ leb (length (stageSampleTimes (setOf (length (now (ends .entry))) (now (starts .entry)) (now (clips .entry)) (now (xs .entry)) (now (ys .entry)) (now (blocks .entry)) m) (samplesOf (now (times .entry)) (now (values .entry)) (now (marks .entry)) (now (ends .entry))))) room ⌝ }
 {
     let mut t = -1.0 / 0.0;
     let mut count: usize = 0;
+    let mut place: usize = 0;
+    let mut knot: usize = 0;
+    let mut sample: usize = 0;
     loop {
         let next = next_time(
             starts,
@@ -42,9 +47,14 @@ pub fn fits(
             values,
             marks,
             ends,
+            tops,
             t,
+            place,
+            knot,
+            sample,
         );
-        let Bound::At(h) = next else {
+        let time = next.time;
+        let Bound::At(h) = time else {
             return true;
         };
         if count == room {
@@ -52,6 +62,9 @@ pub fn fits(
         }
         count += 1;
         t = h;
+        place = next.place;
+        knot = next.knot;
+        sample = next.sample;
     }
 }
 
@@ -67,13 +80,17 @@ pub fn write_times(
     values: &[f64],
     marks: &[u8],
     ends: &[u64],
+    tops: &[f64],
     out: &mut [f64],
 ) -> usize
-    requires { ⌜ Ready (now starts) (now clips) (now xs) (now ys) (now blocks) m (now times) (now values) (now marks) (now ends) ⌝ ∗ ⌜ length (stageSampleTimes (setOf (length (now ends)) (now starts) (now clips) (now xs) (now ys) (now blocks) m) (samplesOf (now times) (now values) (now marks) (now ends))) ≤ length (now out) ⌝ }
+    requires { ⌜ Ready (now starts) (now clips) (now xs) (now ys) (now blocks) m (now times) (now values) (now marks) (now ends) ⌝ ∗ ⌜ TopsOf (now xs) (now ys) (now tops) ⌝ ∗ ⌜ length (stageSampleTimes (setOf (length (now ends)) (now starts) (now clips) (now xs) (now ys) (now blocks) m) (samplesOf (now times) (now values) (now marks) (now ends))) ≤ length (now out) ⌝ }
     ensures { λ r. ⌜ (r ≡ length (stageSampleTimes (setOf (length (now (ends .entry))) (now (starts .entry)) (now (clips .entry)) (now (xs .entry)) (now (ys .entry)) (now (blocks .entry)) m) (samplesOf (now (times .entry)) (now (values .entry)) (now (marks .entry)) (now (ends .entry))))) × (now (out .exit) ≡ writtenOver (stageSampleTimes (setOf (length (now (ends .entry))) (now (starts .entry)) (now (clips .entry)) (now (xs .entry)) (now (ys .entry)) (now (blocks .entry)) m) (samplesOf (now (times .entry)) (now (values .entry)) (now (marks .entry)) (now (ends .entry)))) (now (out .entry))) ⌝ }
 {
     let mut t = -1.0 / 0.0;
     let mut count: usize = 0;
+    let mut place: usize = 0;
+    let mut knot: usize = 0;
+    let mut sample: usize = 0;
     loop {
         let next = next_time(
             starts,
@@ -86,13 +103,21 @@ pub fn write_times(
             values,
             marks,
             ends,
+            tops,
             t,
+            place,
+            knot,
+            sample,
         );
-        let Bound::At(h) = next else {
+        let time = next.time;
+        let Bound::At(h) = time else {
             return count;
         };
         out[count] = h;
         count += 1;
         t = h;
+        place = next.place;
+        knot = next.knot;
+        sample = next.sample;
     }
 }
