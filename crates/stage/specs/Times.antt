@@ -2,10 +2,9 @@
 use mathlib.Core.Path.{_≡_, refl, sym, ap, ap₂, _∙_, subst}
 use mathlib.Core.Logic.{inl, inr}
 use mathlib.Core.Bool.{Bool, true, false, _&&_, cond}
-use mathlib.Core.List.{List, [], _∷_, _++_, append-assoc, append-nil}
+use mathlib.Core.List.{List, [], _∷_, _++_, append-assoc}
 use mathlib.Core.Option.{Option}
-use Prim.Native.Nat.{ℕ, zero, suc, _+_, _<_}
-use native.Mathlib.Numerals.{add-one}
+use Prim.Native.Nat.{ℕ, zero, suc, _<_}
 use native.Mathlib.Omega.{arith}
 use native.Mathlib.Decide.{decLe}
 use lib.Dec.{T}
@@ -57,9 +56,6 @@ NextTime set s t Nothing = stageAfter set s t ≡ []
 gather-append : {A : Type 0} (f : A → List Float) (a b : List A) → gather f (a ++ b) ≡ gather f a ++ gather f b
 gather-append f [] b = refl
 gather-append f (x ∷ a) b = ap (λ (l : List Float). f x ++ l) (gather-append f a b) ∙ sym (append-assoc (f x) (gather f a) (gather f b))
-
-pub gather-more : (f : ℕ → List Float) (n : ℕ) → gather f (below (n + 1)) ≡ gather f (below n) ++ f n
-gather-more f n = ap (λ (k : ℕ). gather f (below k)) (add-one n) ∙ gather-append f (below n) (n ∷ []) ∙ ap (λ (l : List Float). gather f (below n) ++ l) (append-nil (f n))
 
 gather-same : (f g : ℕ → List Float) (n : ℕ) → ((p : ℕ) → p < n → f p ≡ g p) → gather f (below n) ≡ gather g (below n)
 gather-same f g zero h = refl
@@ -171,7 +167,7 @@ module _ {starts : List Float} {clips : List ℕ} {xs ys blocks : List Float} {m
   pub parts-finite : Every FiniteDouble (gather part (below (length starts)))
   parts-finite = every-gather (λ (p : ℕ). p < length starts) FiniteDouble part part-finite (below (length starts)) (every-below (length starts))
 
-  pub times-finite : Every FiniteDouble (allTimes set s)
+  times-finite : Every FiniteDouble (allTimes set s)
   times-finite = rw parts-are parts-finite
 
   -- below all

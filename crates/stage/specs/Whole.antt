@@ -27,7 +27,7 @@ use Rattle.value.specs.Inverses.{inversesOf}
 use Rattle.value.specs.Windows.{minOf, maxOf, windowPart}
 use Rattle.value.specs.Beside.{finite-number, number-at, next-above, last-reached}
 use Rattle.value.specs.Tops.{TopsOf}
-use Rattle.value.specs.Windowed.{intervalOf, samplesIn, nextOf, windowTimes, Nearing}
+use Rattle.value.specs.Windowed.{samplesIn, nextOf, windowTimes, Nearing}
 
 -- the times of the window at the place p
 abbrev pub wholeTimes : List Float → List ℕ → List Float → List Float → List Float → List ℕ → ℕ → List Float
