@@ -1,8 +1,14 @@
 -- What the contracts of this crate cite, and the laws that its proofs share.
 -- Times in order, equals dropped, one after the other
 pub mod Ordered
+-- The window of a start with all samples of its clip
+pub mod Whole
 -- The stage sample times over the lent lists
 pub mod Times
+-- The first of the times above another
+pub mod First
+-- The next stage sample time by the active window and what is behind it
+pub mod Around
 -- Entries written to the front of a lent list one after the other
 pub mod Writing
 -- What is promised of lent output lists

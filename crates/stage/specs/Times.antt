@@ -1,12 +1,12 @@
--- The stage sample times over the lent lists: they are finite, and a pass over all windows finds the next one. Assumes nothing.
+-- The stage sample times over the lent lists: they are finite, and the next one is the next of the times of all windows. Assumes nothing.
 use mathlib.Core.Path.{_≡_, refl, sym, ap, ap₂, _∙_, subst}
 use mathlib.Core.Logic.{inl, inr}
 use mathlib.Core.Bool.{Bool, true, false, _&&_, cond}
-use mathlib.Core.List.{List, [], _∷_, _++_, append-assoc, append-nil}
+use mathlib.Core.List.{List, [], _∷_, _++_, append-assoc}
 use mathlib.Core.Option.{Option}
-use Prim.Native.Nat.{ℕ, zero, suc, _+_, _<_}
-use native.Mathlib.Numerals.{add-one}
+use Prim.Native.Nat.{ℕ, zero, suc, _<_}
 use native.Mathlib.Omega.{arith}
+use native.Mathlib.Decide.{decLe}
 use lib.Dec.{T}
 use lib.ListN.{length, getD, getElem?}
 use lib.Ieee.{Float, nan, inf, binary64, lt, le}
@@ -22,18 +22,18 @@ use Rattle.definitions.specs.Samples.{Samples, clipTimes}
 use Rattle.definitions.specs.Value.{spans, inverse, onPair, stageTimesForClipTime, windowSampleTimes}
 use Rattle.definitions.specs.StageSamples.{timesOfClip, stageSampleTimes}
 use Rattle.set_laws.specs.Every.{Every, every-at}
-use Rattle.cell_laws.specs.Every.{every-map, every-append, every-keep, every-gather, both-l, both-r, or-split}
+use Rattle.cell_laws.specs.Every.{every-map, every-append, every-left, every-right, every-gather, both-l, both-r, or-split}
 use Rattle.cell_laws.specs.Places.{Fits}
 use Rattle.cell_laws.specs.Inverse.{inverse-fin-up, inverse-fin-down}
 use Rattle.cell_laws.specs.Unpacked.{start, activeOf, knotsOf, setOf, samplesOf, zip-here, zip-length, Ready}
 use Rattle.value.specs.declared.window.Bound.{Bound}
 use Rattle.value.specs.declared.window.Bound.the-variants.{At, Nothing}
-use Rattle.value.specs.declared.window.Bounds.{Bounds}
 use Rattle.value.specs.Reads.{partOf, ready-starts, ready-clip, ready-readable}
 use Rattle.value.specs.Near.{Segment}
-use Rattle.value.specs.Bounds.{inside, in-every, nothing, Scanned, NextIs, next-of}
-use Rattle.value.specs.Inverses.{inversesOf}
-use Rattle.value.specs.Windows.{windowOf, windowPart, ifOwn, window-times}
+use Rattle.value.specs.Bounds.{inside, in-every, NextIs}
+use Rattle.value.specs.Inverses.{inversesOf, every-if}
+use Rattle.value.specs.Windows.{windowOf, windowPart, window-times}
+use Rattle.stage.specs.Whole.{wholeTimes}
 use Rattle.stage.specs.Ordered.{after, after-all, after-none, after-next}
 
 -- ---- the contracts
@@ -57,9 +57,6 @@ gather-append : {A : Type 0} (f : A → List Float) (a b : List A) → gather f 
 gather-append f [] b = refl
 gather-append f (x ∷ a) b = ap (λ (l : List Float). f x ++ l) (gather-append f a b) ∙ sym (append-assoc (f x) (gather f a) (gather f b))
 
-pub gather-more : (f : ℕ → List Float) (n : ℕ) → gather f (below (n + 1)) ≡ gather f (below n) ++ f n
-gather-more f n = ap (λ (k : ℕ). gather f (below k)) (add-one n) ∙ gather-append f (below n) (n ∷ []) ∙ ap (λ (l : List Float). gather f (below n) ++ l) (append-nil (f n))
-
 gather-same : (f g : ℕ → List Float) (n : ℕ) → ((p : ℕ) → p < n → f p ≡ g p) → gather f (below n) ≡ gather g (below n)
 gather-same f g zero h = refl
 gather-same f g (suc n) h =
@@ -67,9 +64,19 @@ gather-same f g (suc n) h =
     ∙ ap₂ (λ (u v : List Float). u ++ v) (gather-same f g n (λ p l. h p (omega arith))) (ap (λ (l : List Float). l ++ []) (h n (omega arith)))
     ∙ sym (gather-append g (below n) (n ∷ []))
 
-every-below : (n : ℕ) → Every (λ (p : ℕ). p < n) (below n)
+pub every-below : (n : ℕ) → Every (λ (p : ℕ). p < n) (below n)
 every-below zero = tt
 every-below (suc n) = every-append (λ (p : ℕ). p < suc n) (below n) (n ∷ []) (every-map (λ (p : ℕ). p < n) (λ (p : ℕ). p < suc n) (λ p h. omega arith) (below n) (every-below n)) (omega arith, tt)
+
+-- what holds of all times holds of one window's
+pub every-part : (P : Float → Type 0) (f : ℕ → List Float) (n q : ℕ) → q < n → Every P (gather f (below n)) → Every P (f q)
+every-part P f zero q l h = absurd (omega arith)
+every-part P f (suc n) q l h =
+    let k = subst (Every P) (gather-append f (below n) (n ∷ [])) h in
+    elim (decLe n q) [
+      | yes e ↦ let z : n ≡ q = omega arith in subst (λ (i : ℕ). Every P (f i)) z (every-left P (f n) [] (every-right P (gather f (below n)) (f n ++ []) k))
+      | no e ↦ every-part P f n q (omega arith) (every-left P (gather f (below n)) (f n ++ []) k)
+    ]
 
 -- ---- inverse times are finite
 
@@ -123,7 +130,7 @@ module _ {starts : List Float} {clips : List ℕ} {xs ys blocks : List Float} {m
 
   -- the times of one window
   abbrev part : ℕ → List Float
-  part p = windowPart starts xs ys p (ifOwn true (partOf times ends (getD clips p 0)))
+  part p = wholeTimes starts clips xs ys times ends p
 
   part-is : (p : ℕ) → p < length starts → windowSampleTimes set p (timesOfClip s (getElem? (activeOf starts clips) p)) ≡ part p
   unfolding clipTimes
@@ -137,21 +144,30 @@ module _ {starts : List Float} {clips : List ℕ} {xs ys blocks : List Float} {m
       ap (λ (n : ℕ). gather (λ (p : ℕ). windowSampleTimes set p (timesOfClip s (getElem? (activeOf starts clips) p))) (below n)) (zip-length start starts clips (R .starts-paired))
       ∙ gather-same (λ (p : ℕ). windowSampleTimes set p (timesOfClip s (getElem? (activeOf starts clips) p))) part (length starts) part-is
 
-  part-finite : (p : ℕ) → p < length starts → Every FiniteDouble (part p)
+  -- what holds of the start and of finite times inside the window holds of its times
+  pub part-each : (P : Float → Type 0) (p : ℕ) → p < length starts → P (getD starts p nan) → ((x : Float) → FiniteDouble x → T (inside (windowOf starts p) x) → P x) → Every P (part p)
   unfolding windowPart
-  part-finite p h =
+  part-each P p h first within =
       let w = inside (windowOf starts p) in
       let cs = partOf times ends (getD clips p 0) in (
-        every-at FiniteDouble starts p nan (ready-starts R .numbers) h,
-        every-append FiniteDouble (keep w xs) (keep w (inversesOf (knotsOf xs ys) cs)) (every-keep FiniteDouble w xs (ready-readable R .knots .numbers))
-            (every-keep FiniteDouble w (inversesOf (knotsOf xs ys) cs)
-            (every-gather FiniteDouble FiniteDouble (λ (c : Float). stageTimesForClipTime (knotsOf xs ys) (clip c)) (stage-finite (knotsOf xs ys) (ready-readable R .segments)) cs (ready-readable R .rising (getD clips p 0) (ready-clip R p h) .numbers))),
+        first,
+        every-append P (keep w xs) (keep w (inversesOf (knotsOf xs ys) cs)) (every-if P w xs (every-map FiniteDouble (λ (x : Float). T (w x) → P x) within xs (ready-readable R .knots .numbers)))
+            (every-if P w (inversesOf (knotsOf xs ys) cs)
+            (every-map FiniteDouble (λ (x : Float). T (w x) → P x) within (inversesOf (knotsOf xs ys) cs)
+            (every-gather FiniteDouble FiniteDouble (λ (c : Float). stageTimesForClipTime (knotsOf xs ys) (clip c)) (stage-finite (knotsOf xs ys) (ready-readable R .segments)) cs (ready-readable R .rising (getD clips p 0) (ready-clip R p h) .numbers)))),
       )
 
-  parts-finite : Every FiniteDouble (gather part (below (length starts)))
+  pub part-first : (P : Float → Type 0) (p : ℕ) → Every P (part p) → P (getD starts p nan)
+  unfolding windowPart
+  part-first P p h = h .0
+
+  pub part-finite : (p : ℕ) → p < length starts → Every FiniteDouble (part p)
+  part-finite p h = part-each FiniteDouble p h (every-at FiniteDouble starts p nan (ready-starts R .numbers) h) (λ x f i. f)
+
+  pub parts-finite : Every FiniteDouble (gather part (below (length starts)))
   parts-finite = every-gather (λ (p : ℕ). p < length starts) FiniteDouble part part-finite (below (length starts)) (every-below (length starts))
 
-  pub times-finite : Every FiniteDouble (allTimes set s)
+  times-finite : Every FiniteDouble (allTimes set s)
   times-finite = rw parts-are parts-finite
 
   -- below all
@@ -159,11 +175,14 @@ module _ {starts : List Float} {clips : List ℕ} {xs ys blocks : List Float} {m
   unfolding stageSampleTimes
   times-all = after-all (allTimes set s) times-finite
 
-  -- by a pass over all windows
-  pub next-time : (t : Float) → Fits t → (r : Bounds) → Scanned t (gather part (below (length starts))) nothing r → NextTime set s t (r .upper)
-  next-time t ft r S =
-      go (r .upper) (next-of t ft (allTimes set s) (every-map FiniteDouble Fits (λ x f. f .fitting) (allTimes set s) times-finite) r (subst (λ (l : List Float). Scanned t l nothing r) (sym parts-are) S))
+  -- by the next of the times of all windows
+  pub next-time : (t : Float) → Fits t → (b : Bound) → NextIs (gather part (below (length starts))) t b → NextTime set s t b
+  next-time t ft b n = go b (subst (λ (l : List Float). NextIs l t b) (sym parts-are) n)
     where
       go : (b : Bound) → NextIs (allTimes set s) t b → NextTime set s t b
       go Nothing n = after-none (allTimes set s) times-finite t ft n
       go (At h) n = (in-every FiniteDouble h (allTimes set s) times-finite (n .0) .fitting, after-next (allTimes set s) times-finite t ft h n)
+
+  -- without starts there is none
+  pub next-none : (t : Float) → Fits t → length starts ≡ 0 → NextTime set s t Nothing
+  next-none t ft e = next-time t ft Nothing (subst (λ (n : ℕ). NextIs (gather part (below n)) t Nothing) (sym e) tt)

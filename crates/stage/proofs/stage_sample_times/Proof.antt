@@ -1,5 +1,5 @@
 -- `stage::stage_sample_times` meets its contract: the times are counted before any is written. Assumes nothing.
-use mathlib.Core.Path.{refl, sym, ap, _∙_}
+use mathlib.Core.Path.{refl, sym, _∙_}
 use mathlib.Core.List.{List}
 use lib.Ieee.{Float}
 use lib.ListN.{length}
@@ -9,12 +9,18 @@ use borrow.Author.Tests.{leb-true, leb-false}
 use borrow.Author.Needs.{needs}
 use Rattle.definitions.specs.StageSamples.{stageSampleTimes}
 use Rattle.cell_laws.specs.Unpacked.{setOf, samplesOf}
-use Rattle.stage.specs.Writing.{length-written}
+use Rattle.value.specs.Reads.{ready-readable}
+use Rattle.stage.specs.Around.{ready-few}
 use Rattle.stage.proofs.stage_sample_times.Statement.{statement}
 use Rattle.stage.proofs.stage_sample_times.Tie as tie
 
-abbrev entry : tie.After-fits2 → tie.Start
+abbrev entry : tie.After-tops-of → tie.Start
 entry k = k .before .before .before .before .before .before .before .before .before .before .before
+
+tops-of-requires : tie.Need-tops-of-requires
+tops-of-requires c κs =
+    let R = c .before .before .before .before .before .before .before .before .before .before .pre in
+    (R .knots-paired, (ready-few R, ready-readable R .segments))
 
 fits-requires : tie.Need-fits-requires
 fits-requires c κs = search needs
@@ -23,27 +29,30 @@ fits-requires c κs = search needs
 abbrev all : tie.Start → List Float
 all s = stageSampleTimes (setOf (length (now (s .args .ends))) (now (s .args .starts)) (now (s .args .clips)) (now (s .args .xs)) (now (s .args .ys)) (now (s .args .blocks)) (s .args .m)) (samplesOf (now (s .args .times)) (now (s .args .values)) (now (s .args .marks)) (now (s .args .ends)))
 
+abbrev reach : tie.Then1 → tie.After-tops-of
+reach c = c .before .before .before .before .before
+
 -- there is room for them
-room : (c : tie.Then1) → length (all (entry (c .before))) ≤ length (now (entry (c .before) .args .out))
-room c = leb-true (length (all (entry (c .before)))) (length (now (entry (c .before) .args .out))) (sym (c .before .fits2 .ensures) ∙ c .if1 .taken)
+room : (c : tie.Then1) → length (all (entry (reach c))) ≤ length (now (entry (reach c) .args .out))
+room c = leb-true (length (all (entry (reach c)))) (length (now (entry (reach c) .args .out))) (sym (c .before .fits2 .ensures) ∙ c .if1 .taken)
 
 write-times-requires : tie.Need-write-times-requires
-write-times-requires c κs = let k = c .before in (entry (k .before) .pre, room k)
+write-times-requires c κs =
+    let k = c .before .before .before .before in
+    (entry (reach k) .pre, (reach k .tops-of .ensures, room k))
 
 same-length : tie.Need-same-length
-same-length c =
-    let w = c .before .before in
-    let k = w .before .before in
-    ap length (w .write-times .ensures .1) ∙ length-written (all (entry (k .before))) (now (entry (k .before) .args .out)) (room k)
+same-length c = search needs
 
 returns : tie.Need-returns
 returns c =
     let w = c .before .before in
-    (w .write-times .ensures .0, room (w .before .before), w .write-times .ensures .1)
+    (w .write-times .ensures .0, room (w .before .before .before .before .before), w .write-times .ensures .1)
 
 returns-2 : tie.Need-returns-2
 returns-2 c = let k = c .before in (leb-false _ _ (sym (k .fits2 .ensures) ∙ c .if1 .left), refl)
 
 pub stage-sample-times-spec : {M : Type 1} → statement M
 stage-sample-times-spec =
-    tie.close (tie.spec fits-requires write-times-requires same-length returns returns-2)
+    tie.close
+    (tie.spec tops-of-requires fits-requires write-times-requires same-length returns returns-2)

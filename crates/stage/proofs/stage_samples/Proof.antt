@@ -14,6 +14,8 @@ use Rattle.definitions.specs.ClipSet.{ClipSet}
 use Rattle.definitions.specs.Samples.{Samples}
 use Rattle.definitions.specs.StageSamples.{stageSampleTimes}
 use Rattle.cell_laws.specs.Unpacked.{setOf, samplesOf}
+use Rattle.value.specs.Reads.{ready-readable}
+use Rattle.stage.specs.Around.{ready-few}
 use Rattle.stage.specs.Writing.{length-written}
 use Rattle.stage.specs.Samples.{samples-written, samples-none}
 use borrow.Author.Needs.{needs}
@@ -21,7 +23,7 @@ use Rattle.stage.proofs.stage_samples.Statement.{statement}
 use Rattle.stage.proofs.stage_samples.Tie as tie
 
 abbrev entry : tie.After-shorter → tie.Start
-entry k = k .before .before .before .before .before .before .before .before .before .before .before .before
+entry k = k .before .before .before .before .before .before .before .before .before .before .before .before .before
 
 abbrev set : tie.Start → ClipSet
 set s = setOf (length (now (s .args .ends))) (now (s .args .starts)) (now (s .args .clips)) (now (s .args .xs)) (now (s .args .ys)) (now (s .args .blocks)) (s .args .m)
@@ -32,18 +34,27 @@ lent s = samplesOf (now (s .args .times)) (now (s .args .values)) (now (s .args 
 abbrev all : tie.Start → List Float
 all s = stageSampleTimes (set s) (lent s)
 
+-- before the times were counted
+abbrev asked : tie.Then1 → tie.After-shorter
+asked c = c .before .before .before .before .before
+
 -- the shorter list has room for all
-room : (c : tie.Then1) → let s = entry (c .before .before) in length (all s) ≤ min (length (now (s .args .outtimes))) (length (now (s .args .outmarks)))
+room : (c : tie.Then1) → let s = entry (asked c) in length (all s) ≤ min (length (now (s .args .outtimes))) (length (now (s .args .outmarks)))
 room c =
-    let k = c .before .before in
+    let k = asked c in
     let s = entry k in
     leb-true (length (all s)) (min (length (now (s .args .outtimes))) (length (now (s .args .outmarks)))) (ap (leb (length (all s))) (sym (k .shorter .ensures)) ∙ sym (c .before .fits2 .ensures) ∙ c .if1 .taken)
 
-times-room : (c : tie.Then1) → let s = entry (c .before .before) in length (all s) ≤ length (now (s .args .outtimes))
-times-room c = let s = entry (c .before .before) in le-trans (room c) (min-le-left (length (now (s .args .outtimes))) (length (now (s .args .outmarks))))
+times-room : (c : tie.Then1) → let s = entry (asked c) in length (all s) ≤ length (now (s .args .outtimes))
+times-room c = let s = entry (asked c) in le-trans (room c) (min-le-left (length (now (s .args .outtimes))) (length (now (s .args .outmarks))))
 
-marks-room : (c : tie.Then1) → let s = entry (c .before .before) in length (all s) ≤ length (now (s .args .outmarks))
-marks-room c = let s = entry (c .before .before) in le-trans (room c) (min-le-right (length (now (s .args .outtimes))) (length (now (s .args .outmarks))))
+marks-room : (c : tie.Then1) → let s = entry (asked c) in length (all s) ≤ length (now (s .args .outmarks))
+marks-room c = let s = entry (asked c) in le-trans (room c) (min-le-right (length (now (s .args .outtimes))) (length (now (s .args .outmarks))))
+
+tops-of-requires : tie.Need-tops-of-requires
+tops-of-requires c κs =
+    let R = c .before .before .before .before .before .before .before .before .before .before .before .pre in
+    (R .knots-paired, (ready-few R, ready-readable R .segments))
 
 shorter-requires : tie.Need-shorter-requires
 shorter-requires c κs = search needs
@@ -52,29 +63,31 @@ fits-requires : tie.Need-fits-requires
 fits-requires c κs = search needs
 
 write-times-requires : tie.Need-write-times-requires
-write-times-requires c κs = let k = c .before in (entry (k .before .before) .pre, times-room k)
+write-times-requires c κs =
+    let k = c .before .before .before .before in
+    (entry (asked k) .pre, (asked k .before .tops-of .ensures, times-room k))
 
 -- the times as they were written
 abbrev then : tie.After-write-times → tie.Then1
-then w = w .before .before
+then w = w .before .before .before .before .before
 
-times-long : (w : tie.After-write-times) → length (w .write-times .last .1 .1 .1 .1 .1 .1 .1 .1 .1 .1 .0) ≡ length (now (entry (then w .before .before) .args .outtimes))
-times-long w = let s = entry (then w .before .before) in ap length (w .write-times .ensures .1) ∙ length-written (all s) (now (s .args .outtimes)) (times-room (then w))
+times-long : (w : tie.After-write-times) → length (w .write-times .last .1 .1 .1 .1 .1 .1 .1 .1 .1 .1 .1 .0) ≡ length (now (entry (asked (then w)) .args .outtimes))
+times-long w = let s = entry (asked (then w)) in ap length (w .write-times .ensures .1) ∙ length-written (all s) (now (s .args .outtimes)) (times-room (then w))
 
-count-room : (w : tie.After-write-times) → w .write-times .result ≤ length (w .write-times .last .1 .1 .1 .1 .1 .1 .1 .1 .1 .1 .0)
+count-room : (w : tie.After-write-times) → w .write-times .result ≤ length (w .write-times .last .1 .1 .1 .1 .1 .1 .1 .1 .1 .1 .1 .0)
 count-room w = omega (arith, times-long w, times-room (then w), w .write-times .ensures .0)
 
 slice-reshare-prefix-write-marks : tie.Need-slice-reshare-prefix-write-marks
 slice-reshare-prefix-write-marks c = count-room (c .before .before)
 
 slice-aggregate-write-marks : tie.Need-slice-aggregate-write-marks
-slice-aggregate-write-marks c = let w = c .before .before .before in sym (length-take-le (w .write-times .result) (w .write-times .last .1 .1 .1 .1 .1 .1 .1 .1 .1 .1 .0) (count-room w))
+slice-aggregate-write-marks c = let w = c .before .before .before in sym (length-take-le (w .write-times .result) (w .write-times .last .1 .1 .1 .1 .1 .1 .1 .1 .1 .1 .1 .0) (count-room w))
 
 write-marks-requires : tie.Need-write-marks-requires
 write-marks-requires c κs =
     let w = c .before .before .before .before in (
-      entry (then w .before .before) .pre,
-      omega (arith, length-take-le (w .write-times .result) (w .write-times .last .1 .1 .1 .1 .1 .1 .1 .1 .1 .1 .0) (count-room w), marks-room (then w), w .write-times .ensures .0),
+      entry (asked (then w)) .pre,
+      omega (arith, length-take-le (w .write-times .result) (w .write-times .last .1 .1 .1 .1 .1 .1 .1 .1 .1 .1 .1 .0) (count-room w), marks-room (then w), w .write-times .ensures .0),
     )
 
 same-length : tie.Need-same-length
@@ -87,12 +100,12 @@ returns : tie.Need-returns
 returns c =
     let b = c .before .before in
     let w = b .before .before .before .before .before in
-    let s = entry (then w .before .before) in
-    samples-written (set s) (lent s) (now (s .args .outtimes)) (w .write-times .last .1 .1 .1 .1 .1 .1 .1 .1 .1 .1 .0) (now (s .args .outmarks)) _ (w .write-times .result) (w .write-times .ensures .0) (room (then w)) (w .write-times .ensures .1) (b .write-marks .ensures)
+    let s = entry (asked (then w)) in
+    samples-written (set s) (lent s) (now (s .args .outtimes)) (w .write-times .last .1 .1 .1 .1 .1 .1 .1 .1 .1 .1 .1 .0) (now (s .args .outmarks)) _ (w .write-times .result) (w .write-times .ensures .0) (room (then w)) (w .write-times .ensures .1) (b .write-marks .ensures)
 
 returns-2 : tie.Need-returns-2
 returns-2 c =
-    let k = c .before .before in
+    let k = c .before .before .before .before .before in
     let s = entry k in
     samples-none (set s) (lent s) (now (s .args .outtimes)) (now (s .args .outtimes)) (now (s .args .outmarks)) (now (s .args .outmarks))
     (leb-false (length (all s)) (min (length (now (s .args .outtimes))) (length (now (s .args .outmarks)))) (ap (leb (length (all s))) (sym (k .shorter .ensures)) ∙ sym (c .before .fits2 .ensures) ∙ c .if1 .left)) refl refl
@@ -101,6 +114,7 @@ pub stage-samples-spec : {M : Type 1} → statement M
 stage-samples-spec =
     tie.close
     (tie.spec
+    tops-of-requires
     shorter-requires
     fits-requires
     write-times-requires

@@ -1,4 +1,4 @@
--- `stage::write_marks` meets its contract: the marks that were written and those of the times from i on are all. Assumes nothing.
+-- `stage::mark::write_marks` meets its contract: the marks that were written and those of the times from i on are all. Assumes nothing.
 use Prim.Native.Nat.{ℕ, _+_, _-_, _≤_, _<_}
 use mathlib.Core.Path.{sym, ap, _∙_}
 use mathlib.Core.List.{_∷_}
@@ -11,8 +11,8 @@ use Rattle.definitions.specs.Samples.{Samples}
 use Rattle.cell_laws.specs.Unpacked.{setOf, samplesOf}
 use Rattle.stage.specs.Marks.{marksAt, marks-front, marks-end}
 use Rattle.stage.specs.Writing.{Wrote, wrote-start, wrote-on, wrote-end, wrote-rest}
-use Rattle.stage.proofs.write_marks.Statement.{statement}
-use Rattle.stage.proofs.write_marks.Tie as tie
+use Rattle.stage.proofs.mark.write_marks.Statement.{statement}
+use Rattle.stage.proofs.mark.write_marks.Tie as tie
 
 abbrev Inv-loop : tie.InvT-loop
 Inv-loop starts clips xs ys blocks m times values marks ends at out₀ i₀ out i =

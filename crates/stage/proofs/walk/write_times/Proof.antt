@@ -1,4 +1,4 @@
--- `stage::write_times` meets its contract: the times that were written and those above the last one are all. Assumes nothing.
+-- `stage::walk::write_times` meets its contract: the times that were written and those above the last one are all. Assumes nothing.
 use Prim.Native.Nat.{_-_, _<_}
 use mathlib.Core.Path.{_≡_, sym}
 use mathlib.Core.List.{_∷_}
@@ -13,36 +13,36 @@ use Rattle.value.specs.declared.window.Bound.{Bound}
 use Rattle.stage.specs.Times.{stageAfter, NextTime, times-all}
 use Rattle.stage.specs.Writing.{Wrote, wrote-start, wrote-room, wrote-on, wrote-end, wrote-rest}
 use borrow.Author.Needs.{needs}
-use Rattle.stage.proofs.write_times.Statement.{statement}
-use Rattle.stage.proofs.write_times.Tie as tie
+use Rattle.stage.proofs.walk.write_times.Statement.{statement}
+use Rattle.stage.proofs.walk.write_times.Tie as tie
 
 abbrev Inv-loop : tie.InvT-loop
-Inv-loop starts clips xs ys blocks m times values marks ends out₀ t₀ count₀ out t count =
+Inv-loop starts clips xs ys blocks m times values marks ends tops out₀ t₀ count₀ place₀ knot₀ sample₀ out t count place knot sample =
     Fits t
     × Wrote (stageSampleTimes (setOf (length ends) starts clips xs ys blocks m) (samplesOf times values marks ends)) (stageAfter (setOf (length ends) starts clips xs ys blocks m) (samplesOf times values marks ends) t) out₀ out count
 
 abbrev μ-loop : tie.MeasureT-loop
-μ-loop starts clips xs ys blocks m times values marks ends out₀ t₀ count₀ out t count = length out₀ - count
+μ-loop starts clips xs ys blocks m times values marks ends tops out₀ t₀ count₀ place₀ knot₀ sample₀ out t count place knot sample = length out₀ - count
 
 abbrev entry : tie.At-loop Inv-loop μ-loop → tie.Start Inv-loop μ-loop
-entry k = k .before .before .before .before .before .before .before .before .before .before .before
+entry k = k .before .before .before .before .before .before .before .before .before .before .before .before
 
 loop-holds : tie.Need-loop-holds Inv-loop μ-loop
 unfolding ofBits neg div fits
 loop-holds c =
-    let s = c .before .before .before .before .before .before .before .before .before .before in
+    let s = c .before .before .before .before .before .before .before .before .before .before .before in
     (tt, wrote-rest _ _ _ 0 _ _ (sym (times-all (s .pre .0))) (wrote-start _ _))
 
 -- what the next time is
-next-is : (k : tie.After-next-time Inv-loop μ-loop) (b : Bound) → k .next-time .result ≡ b
+next-is : (k : tie.After-next-time Inv-loop μ-loop) (b : Bound) → k .next-time .result .time ≡ b
     → NextTime (setOf (length (now (entry (k .before) .args .ends))) (now (entry (k .before) .args .starts)) (now (entry (k .before) .args .clips)) (now (entry (k .before) .args .xs)) (now (entry (k .before) .args .ys)) (now (entry (k .before) .args .blocks)) (entry (k .before) .args .m)) (samplesOf (now (entry (k .before) .args .times)) (now (entry (k .before) .args .values)) (now (entry (k .before) .args .marks)) (now (entry (k .before) .args .ends))) (k .before .loop .t) b
 next-is k b e = rw e at (k .next-time .ensures)
 
 next-time-requires : tie.Need-next-time-requires Inv-loop μ-loop
-next-time-requires c κs = entry c .pre .0
+next-time-requires c κs = (entry c .pre .0, entry c .pre .1 .0)
 
-enum-known-next : tie.Need-enum-known-next Inv-loop μ-loop
-enum-known-next c = search needs
+enum-known-time : tie.Need-enum-known-time Inv-loop μ-loop
+enum-known-time c = search needs
 
 enum-told : tie.Need-enum-told Inv-loop μ-loop
 enum-told c = search needs
@@ -59,19 +59,19 @@ returns c =
 -- with the next time in front of what is left
 left : (c : tie.After-known-told Inv-loop μ-loop) → let k = c .before .before .before .before in let s = entry k in
     Wrote (stageSampleTimes (setOf (length (now (s .args .ends))) (now (s .args .starts)) (now (s .args .clips)) (now (s .args .xs)) (now (s .args .ys)) (now (s .args .blocks)) (s .args .m)) (samplesOf (now (s .args .times)) (now (s .args .values)) (now (s .args .marks)) (now (s .args .ends))))
-    (c .before .next .given .0 .0 ∷ stageAfter (setOf (length (now (s .args .ends))) (now (s .args .starts)) (now (s .args .clips)) (now (s .args .xs)) (now (s .args .ys)) (now (s .args .blocks)) (s .args .m)) (samplesOf (now (s .args .times)) (now (s .args .values)) (now (s .args .marks)) (now (s .args .ends))) (c .before .next .given .0 .0))
+    (c .before .time .given .0 .0 ∷ stageAfter (setOf (length (now (s .args .ends))) (now (s .args .starts)) (now (s .args .clips)) (now (s .args .xs)) (now (s .args .ys)) (now (s .args .blocks)) (s .args .m)) (samplesOf (now (s .args .times)) (now (s .args .values)) (now (s .args .marks)) (now (s .args .ends))) (c .before .time .given .0 .0))
     (now (s .args .out)) (k .loop .out) (k .loop .count)
 left c =
     let n = c .before .before .before in
-    wrote-rest _ _ _ _ _ _ (next-is n _ (c .before .next .given .1) .1) (n .before .loop .inv .1)
+    wrote-rest _ _ _ _ _ _ (next-is n _ (c .before .time .given .1) .1) (n .before .loop .inv .1)
 
 room : (c : tie.After-known-told Inv-loop μ-loop) → let k = c .before .before .before .before in k .loop .count < length (k .loop .out)
-room c = let k = c .before .before .before .before in wrote-room _ _ (k .loop .out) (k .loop .count) _ _ (left c) (entry k .pre .1)
+room c = let k = c .before .before .before .before in wrote-room _ _ (k .loop .out) (k .loop .count) _ _ (left c) (entry k .pre .1 .1)
 
 mul-out : tie.Need-mul-out Inv-loop μ-loop
 mul-out c =
     let k = c .before .before .before .before in
-    omega (arith, room c, k .loop .inv .1 .long, entry k .good .1 .1 .1 .1 .1 .1 .1 .1 .1 .1 .0)
+    omega (arith, room c, k .loop .inv .1 .long, entry k .good .1 .1 .1 .1 .1 .1 .1 .1 .1 .1 .1 .0)
 
 slice-write-out : tie.Need-slice-write-out Inv-loop μ-loop
 slice-write-out c = room c
@@ -79,7 +79,7 @@ slice-write-out c = room c
 add-count : tie.Need-add-count Inv-loop μ-loop
 add-count c =
     let k = c .before .before .before .before in
-    omega (arith, room c, k .loop .inv .1 .long, entry k .good .1 .1 .1 .1 .1 .1 .1 .1 .1 .1 .0)
+    omega (arith, room c, k .loop .inv .1 .long, entry k .good .1 .1 .1 .1 .1 .1 .1 .1 .1 .1 .1 .0)
 
 loop-less : tie.Need-loop-less Inv-loop μ-loop
 loop-less c = let h = room c in let e = c .before .before .before .before .loop .inv .1 .long in omega arith
@@ -87,7 +87,7 @@ loop-less c = let h = room c in let e = c .before .before .before .before .loop 
 loop-again : tie.Need-loop-again Inv-loop μ-loop
 loop-again c =
     let k = c .before .before .before .before in
-    (next-is (c .before .before .before) _ (c .before .next .given .1) .0, wrote-on _ _ (k .loop .out) (k .loop .count) _ _ (left c) (room c))
+    (next-is (c .before .before .before) _ (c .before .time .given .1) .0, wrote-on _ _ (k .loop .out) (k .loop .count) _ _ (left c) (room c))
 
 pub write-times-spec : {M : Type 1} → statement M
 write-times-spec =
@@ -97,7 +97,7 @@ write-times-spec =
     μ-loop
     loop-holds
     next-time-requires
-    enum-known-next
+    enum-known-time
     enum-told
     same-length
     returns

@@ -1,4 +1,4 @@
--- `stage::fits` meets its contract: the times that were counted and those above the last one are all. Assumes nothing.
+-- `stage::walk::fits` meets its contract: the times that were counted and those above the last one are all. Assumes nothing.
 use Prim.Native.Nat.{_+_, _-_, _≤_}
 use mathlib.Core.Path.{_≡_, ap}
 use mathlib.Core.List.{List}
@@ -13,19 +13,19 @@ use Rattle.value.specs.declared.window.Bound.{Bound}
 use Rattle.stage.specs.Times.{stageAfter, NextTime, times-all}
 use Rattle.stage.specs.Writing.{count-done, count-over, count-on}
 use borrow.Author.Needs.{needs}
-use Rattle.stage.proofs.fits.Statement.{statement}
-use Rattle.stage.proofs.fits.Tie as tie
+use Rattle.stage.proofs.walk.fits.Statement.{statement}
+use Rattle.stage.proofs.walk.fits.Tie as tie
 
 abbrev Inv-loop : tie.InvT-loop
-Inv-loop starts clips xs ys blocks m times values marks ends room t₀ count₀ t count =
+Inv-loop starts clips xs ys blocks m times values marks ends tops room t₀ count₀ place₀ knot₀ sample₀ t count place knot sample =
     Fits t × (count ≤ room)
     × (length (stageSampleTimes (setOf (length ends) starts clips xs ys blocks m) (samplesOf times values marks ends)) ≡ count + length (stageAfter (setOf (length ends) starts clips xs ys blocks m) (samplesOf times values marks ends) t))
 
 abbrev μ-loop : tie.MeasureT-loop
-μ-loop starts clips xs ys blocks m times values marks ends room t₀ count₀ t count = room - count
+μ-loop starts clips xs ys blocks m times values marks ends tops room t₀ count₀ place₀ knot₀ sample₀ t count place knot sample = room - count
 
 abbrev entry : tie.At-loop Inv-loop μ-loop → tie.Start Inv-loop μ-loop
-entry k = k .before .before .before .before .before .before .before .before .before .before
+entry k = k .before .before .before .before .before .before .before .before .before .before .before
 
 -- all stage sample times, and those above t
 abbrev all : tie.Start Inv-loop μ-loop → List Float
@@ -36,18 +36,18 @@ above s t = stageAfter (setOf (length (now (s .args .ends))) (now (s .args .star
 
 loop-holds : tie.Need-loop-holds Inv-loop μ-loop
 unfolding ofBits neg div fits
-loop-holds c = let R = c .before .before .before .before .before .before .before .before .before .pre in (tt, omega arith, omega (arith, ap length (times-all R)))
+loop-holds c = let R = c .before .before .before .before .before .before .before .before .before .before .pre .0 in (tt, omega arith, omega (arith, ap length (times-all R)))
 
 -- what the next time is
-next-is : (k : tie.After-next-time Inv-loop μ-loop) (b : Bound) → k .next-time .result ≡ b
+next-is : (k : tie.After-next-time Inv-loop μ-loop) (b : Bound) → k .next-time .result .time ≡ b
     → NextTime (setOf (length (now (entry (k .before) .args .ends))) (now (entry (k .before) .args .starts)) (now (entry (k .before) .args .clips)) (now (entry (k .before) .args .xs)) (now (entry (k .before) .args .ys)) (now (entry (k .before) .args .blocks)) (entry (k .before) .args .m)) (samplesOf (now (entry (k .before) .args .times)) (now (entry (k .before) .args .values)) (now (entry (k .before) .args .marks)) (now (entry (k .before) .args .ends))) (k .before .loop .t) b
 next-is k b e = rw e at (k .next-time .ensures)
 
 next-time-requires : tie.Need-next-time-requires Inv-loop μ-loop
-next-time-requires c κs = entry c .pre
+next-time-requires c κs = (entry c .pre .0, entry c .pre .1)
 
-enum-known-next : tie.Need-enum-known-next Inv-loop μ-loop
-enum-known-next c = search needs
+enum-known-time : tie.Need-enum-known-time Inv-loop μ-loop
+enum-known-time c = search needs
 
 enum-told : tie.Need-enum-told Inv-loop μ-loop
 enum-told c = search needs
@@ -62,8 +62,8 @@ returns-2 : tie.Need-returns-2 Inv-loop μ-loop
 returns-2 c =
     let g = c .before .before in
     let k = g .before .before in
-    let n = next-is k _ (g .next .given .1) in
-    count-over (all (entry (k .before))) (above (entry (k .before)) (k .before .loop .t)) (k .before .loop .count) (entry (k .before) .args .room) (k .before .loop .inv .2) (g .next .given .0 .0) _ (c .if1 .taken) (n .1)
+    let n = next-is k _ (g .time .given .1) in
+    count-over (all (entry (k .before))) (above (entry (k .before)) (k .before .loop .t)) (k .before .loop .count) (entry (k .before) .args .room) (k .before .loop .inv .2) (g .time .given .0 .0) _ (c .if1 .taken) (n .1)
 
 add-count : tie.Need-add-count Inv-loop μ-loop
 add-count c = omega (arith, c .before .before .before .before .before .loop .inv .1, entry (c .before .before .before .before .before) .fits .room .fits)
@@ -75,8 +75,8 @@ loop-again : tie.Need-loop-again Inv-loop μ-loop
 loop-again c =
     let g = c .before .before in
     let k = g .before .before in
-    let n = next-is k _ (g .next .given .1) in
-    (n .0, omega (arith, k .before .loop .inv .1, c .if1 .left), count-on (all (entry (k .before))) (above (entry (k .before)) (k .before .loop .t)) (k .before .loop .count) (entry (k .before) .args .room) (k .before .loop .inv .2) (g .next .given .0 .0) _ (n .1))
+    let n = next-is k _ (g .time .given .1) in
+    (n .0, omega (arith, k .before .loop .inv .1, c .if1 .left), count-on (all (entry (k .before))) (above (entry (k .before)) (k .before .loop .t)) (k .before .loop .count) (entry (k .before) .args .room) (k .before .loop .inv .2) (g .time .given .0 .0) _ (n .1))
 
 pub fits-spec : {M : Type 1} → statement M
 fits-spec =
@@ -86,7 +86,7 @@ fits-spec =
     μ-loop
     loop-holds
     next-time-requires
-    enum-known-next
+    enum-known-time
     enum-told
     returns
     returns-2

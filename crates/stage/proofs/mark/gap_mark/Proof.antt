@@ -1,7 +1,7 @@
--- `stage::gap_mark` meets its contract. Assumes nothing.
+-- `stage::mark::gap_mark` meets its contract. Assumes nothing.
 use borrow.Author.Tests.{eq-eqb, ne-eqb}
-use Rattle.stage.proofs.gap_mark.Statement.{statement}
-use Rattle.stage.proofs.gap_mark.Tie as tie
+use Rattle.stage.proofs.mark.gap_mark.Statement.{statement}
+use Rattle.stage.proofs.mark.gap_mark.Tie as tie
 
 returns : tie.Need-returns
 returns c = rw (eq-eqb (c .before .before .before .args .m .default .mark) 0 (c .if1 .taken))

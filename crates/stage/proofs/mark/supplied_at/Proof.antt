@@ -1,4 +1,4 @@
--- `stage::supplied_at` meets its contract. Assumes nothing.
+-- `stage::mark::supplied_at` meets its contract. Assumes nothing.
 use mathlib.Core.Path.{_≡_, sym, ap, _∙_}
 use mathlib.Core.Option.{some}
 use Prim.Native.Nat.{ℕ, _+_, _<_}
@@ -10,8 +10,8 @@ use Rattle.definitions.specs.Samples.{clipBegin}
 use Rattle.value.specs.Reads.{readingIs, readPart, last-short, ready-starts, ready-clip, ready-readable}
 use Rattle.stage.specs.Marks.{mark-none, mark-read, mark-place, mark-gap}
 use borrow.Author.Needs.{needs}
-use Rattle.stage.proofs.supplied_at.Statement.{statement}
-use Rattle.stage.proofs.supplied_at.Tie as tie
+use Rattle.stage.proofs.mark.supplied_at.Statement.{statement}
+use Rattle.stage.proofs.mark.supplied_at.Tie as tie
 
 abbrev entry : tie.After-shared-slice-known9 → tie.Start
 entry k = k .before .before .before .before .before .before .before .before .before

@@ -1,0 +1,91 @@
+// The marks of the stage samples.
+
+use definitions::Manifest;
+use value::direct::Reading;
+use value::direct::clip_begin;
+use value::direct::read_clip;
+ghost use mathlib.Core.Path.{_≡_};
+ghost use Prim.Native.Nat.{_≤_};
+ghost use lib.ListN.{length};
+ghost use Rattle.definitions.specs.Lists.{writtenOver};
+ghost use Rattle.definitions.specs.ClipSet.{stage};
+ghost use Rattle.definitions.specs.StageSamples.{suppliedAt};
+ghost use Rattle.cell_laws.specs.Unpacked.{setOf, samplesOf, Ready};
+ghost use Rattle.stage.specs.Marks.{gapMarkOf, marksAt};
+
+// The mark that stands where the active clip has no samples: that of the manifest default if it is a value, else a block.
+fn gap_mark(m: Manifest) -> u8
+    ensures { λ r. ⌜ r ≡ gapMarkOf (m .default .mark) ⌝ }
+{
+    let default = m.default;
+    if default.mark == 0 {
+        return 0;
+    }
+    1
+}
+
+// The mark of the active clip's reading at the stage time `t`: the Rust's `supplied_at`.
+fn supplied_at(
+    starts: &[f64],
+    clips: &[u64],
+    xs: &[f64],
+    ys: &[f64],
+    blocks: &[f64],
+    m: Manifest,
+    times: &[f64],
+    values: &[f64],
+    marks: &[u8],
+    ends: &[u64],
+    t: f64,
+) -> u8
+    requires { ⌜ Ready (now starts) (now clips) (now xs) (now ys) (now blocks) m (now times) (now values) (now marks) (now ends) ⌝ }
+    ensures { λ r. ⌜ r ≡ suppliedAt (setOf (length (now (ends .entry))) (now (starts .entry)) (now (clips .entry)) (now (xs .entry)) (now (ys .entry)) (now (blocks .entry)) m) (samplesOf (now (times .entry)) (now (values .entry)) (now (marks .entry)) (now (ends .entry))) (stage t) ⌝ }
+{
+    if starts.len() == 0 {
+        return gap_mark(m);
+    }
+    let p = lists::last_at_most(starts, t);
+    let own = read_clip(xs, ys, times, ends, clips[p], t);
+    if let Reading::Of(clip, place) = own {
+        let at = clip_begin(ends, clip) + place as usize;
+        return marks[at];
+    }
+    gap_mark(m)
+}
+
+// The mark of each of the times goes to the front of `out`, which has room for them.
+pub fn write_marks(
+    starts: &[f64],
+    clips: &[u64],
+    xs: &[f64],
+    ys: &[f64],
+    blocks: &[f64],
+    m: Manifest,
+    times: &[f64],
+    values: &[f64],
+    marks: &[u8],
+    ends: &[u64],
+    at: &[f64],
+    out: &mut [u8],
+)
+    requires { ⌜ Ready (now starts) (now clips) (now xs) (now ys) (now blocks) m (now times) (now values) (now marks) (now ends) ⌝ ∗ ⌜ length (now at) ≤ length (now out) ⌝ }
+    ensures { λ _. ⌜ now (out .exit) ≡ writtenOver (marksAt (setOf (length (now (ends .entry))) (now (starts .entry)) (now (clips .entry)) (now (xs .entry)) (now (ys .entry)) (now (blocks .entry)) m) (samplesOf (now (times .entry)) (now (values .entry)) (now (marks .entry)) (now (ends .entry))) (now (at .entry))) (now (out .entry)) ⌝ }
+{
+    let mut i: usize = 0;
+    while i < at.len() {
+        out[i] = supplied_at(
+            starts,
+            clips,
+            xs,
+            ys,
+            blocks,
+            m,
+            times,
+            values,
+            marks,
+            ends,
+            at[i],
+        );
+        i += 1;
+    }
+}

@@ -1,0 +1,170 @@
+// The next stage sample time: a search in the active window, begun where the last one ended. Later windows begin at the next start, which the search has.
+
+use definitions::Manifest;
+use definitions::Source;
+use value::direct::clip_begin;
+use value::direct::clip_end;
+use value::near::Near;
+use value::near::near_in;
+use value::window::Bound;
+use value::window::Bounds;
+use value::window::scan_window;
+use value::window::window_max;
+use value::window::window_min;
+use value::windowed::Window;
+ghost use mathlib.Core.Path.{_≡_};
+ghost use mathlib.Core.Bool.{true};
+ghost use mathlib.Core.List.{_++_};
+ghost use Prim.Native.Nat.{_<_};
+ghost use lib.Dec.{T};
+ghost use lib.ListN.{length, getD};
+ghost use lib.Ieee.Scale.{finite};
+ghost use Rattle.definitions.specs.Timing.{lastAtMost};
+ghost use Rattle.cell_laws.specs.Unpacked.{setOf, samplesOf, Ready};
+ghost use Rattle.value.specs.Bounds.{nothing, UpperIs, Scanned};
+ghost use Rattle.value.specs.Tops.{TopsOf};
+ghost use Rattle.stage.specs.Whole.{Windows, WholeWindow, wholeTimes, nextStart};
+ghost use Rattle.stage.specs.Times.{NextTime};
+ghost use Rattle.stage.specs.First.{Told};
+ghost use Rattle.stage.specs.Around.{nextTimes};
+
+// The next time, and where the search for the one behind it may begin: the place of the active start, a knot and a sample.
+pub struct Next {
+    pub time: Bound,
+    pub place: usize,
+    pub knot: usize,
+    pub sample: usize,
+}
+
+// The window of the start at the place `p` with all samples of its clip, whether it contributes them or not. A search needs no gap.
+fn whole_window(starts: &[f64], clips: &[u64], ends: &[u64], p: usize) -> Window
+    requires { ⌜ p < length (now starts) ⌝ ∗ ⌜ length (now starts) ≡ length (now clips) ⌝ ∗ ⌜ getD (now clips) p 0 < length (now ends) ⌝ }
+    ensures { λ r. ⌜ WholeWindow (now (starts .entry)) (now (clips .entry)) (now (ends .entry)) p r ⌝ }
+{
+    let start = starts[p];
+    let clip = clips[p];
+    let min = window_min(starts, p);
+    let max = window_max(starts, p);
+    let begin = clip_begin(ends, clip);
+    let end = clip_end(ends, clip);
+    Window {
+        start,
+        min,
+        max,
+        clip,
+        begin,
+        end,
+        gap: Source::Blocked,
+    }
+}
+
+// The neighbours of `t` in its window, the next start included.
+fn search_window(
+    starts: &[f64],
+    clips: &[u64],
+    xs: &[f64],
+    ys: &[f64],
+    tops: &[f64],
+    times: &[f64],
+    ends: &[u64],
+    p: usize,
+    t: f64,
+    knot: usize,
+    sample: usize,
+) -> Near
+    requires { ⌜ Windows (now starts) (now clips) (now xs) (now ys) (now times) (now ends) ⌝ ∗ ⌜ TopsOf (now xs) (now ys) (now tops) ⌝ ∗ ⌜ p ≡ lastAtMost (now starts) t ⌝ ∗ ⌜ p < length (now starts) ⌝ ∗ ⌜ T (finite t) ⌝ }
+    ensures { λ r. ⌜ UpperIs (wholeTimes (now (starts .entry)) (now (clips .entry)) (now (xs .entry)) (now (ys .entry)) (now (times .entry)) (now (ends .entry)) p ++ nextStart (now (starts .entry)) p) t (r .upper) ⌝ }
+{
+    let w = whole_window(starts, clips, ends, p);
+    let begin = w.begin;
+    let end = w.end;
+    near_in(xs, ys, tops, &times[begin..end], w, t, knot, sample)
+}
+
+// The neighbours of `t` in its window and the next, by a pass that tells the two zeros apart.
+fn pass_windows(
+    starts: &[f64],
+    clips: &[u64],
+    xs: &[f64],
+    ys: &[f64],
+    times: &[f64],
+    ends: &[u64],
+    p: usize,
+    t: f64,
+) -> Bounds
+    requires { ⌜ Windows (now starts) (now clips) (now xs) (now ys) (now times) (now ends) ⌝ ∗ ⌜ p < length (now starts) ⌝ }
+    ensures { λ r. ⌜ Scanned t (wholeTimes (now (starts .entry)) (now (clips .entry)) (now (xs .entry)) (now (ys .entry)) (now (times .entry)) (now (ends .entry)) p ++ nextTimes (now (starts .entry)) (now (clips .entry)) (now (xs .entry)) (now (ys .entry)) (now (times .entry)) (now (ends .entry)) p) nothing r ⌝ }
+{
+    let none = Bounds {
+        lower: Bound::Nothing,
+        upper: Bound::Nothing,
+    };
+    let own = scan_window(starts, clips, xs, ys, times, ends, p, true, t, none);
+    let next = p + 1;
+    if next < starts.len() {
+        return scan_window(starts, clips, xs, ys, times, ends, next, true, t, own);
+    }
+    own
+}
+
+// Whether the number tells the time: that of the two zeros does not.
+fn is_told(b: Bound) -> bool
+    ensures { λ r. ⌜ ((r ≡ true) → Told b) ⌝ }
+{
+    if let Bound::At(h) = b {
+        return h != 0.0;
+    }
+    true
+}
+
+// The first stage sample time above `t`. The hints are any numbers. A pass finds the first of all, where `t` is not finite, and zero.
+pub fn next_time(
+    starts: &[f64],
+    clips: &[u64],
+    xs: &[f64],
+    ys: &[f64],
+    blocks: &[f64],
+    m: Manifest,
+    times: &[f64],
+    values: &[f64],
+    marks: &[u8],
+    ends: &[u64],
+    tops: &[f64],
+    t: f64,
+    place: usize,
+    knot: usize,
+    sample: usize,
+) -> Next
+    requires { ⌜ Ready (now starts) (now clips) (now xs) (now ys) (now blocks) m (now times) (now values) (now marks) (now ends) ⌝ ∗ ⌜ TopsOf (now xs) (now ys) (now tops) ⌝ }
+    ensures { λ r. ⌜ NextTime (setOf (length (now (ends .entry))) (now (starts .entry)) (now (clips .entry)) (now (xs .entry)) (now (ys .entry)) (now (blocks .entry)) m) (samplesOf (now (times .entry)) (now (values .entry)) (now (marks .entry)) (now (ends .entry))) t (r .time) ⌝ }
+{
+    if starts.len() == 0 {
+        return Next {
+            time: Bound::Nothing,
+            place,
+            knot,
+            sample,
+        };
+    }
+    let p = lists::near::last_at_most_near(starts, t, place);
+    if gf::is_finite(t) {
+        let found = search_window(starts, clips, xs, ys, tops, times, ends, p, t, knot, sample);
+        let upper = found.upper;
+        if is_told(upper) {
+            return Next {
+                time: upper,
+                place: p,
+                knot: found.knot,
+                sample: found.sample,
+            };
+        }
+    }
+    let passed = pass_windows(starts, clips, xs, ys, times, ends, p, t);
+    let upper = passed.upper;
+    Next {
+        time: upper,
+        place: p,
+        knot,
+        sample,
+    }
+}

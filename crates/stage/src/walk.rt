@@ -1,0 +1,123 @@
+// The stage sample times one after the other, counted or written.
+
+use super::next::next_time;
+use definitions::Manifest;
+use value::window::Bound;
+ghost use mathlib.Core.Path.{_≡_};
+ghost use Prim.Native.Nat.{_≤_};
+ghost use lib.Dec.{leb};
+ghost use lib.ListN.{length};
+ghost use Rattle.definitions.specs.Lists.{writtenOver};
+ghost use Rattle.definitions.specs.StageSamples.{stageSampleTimes};
+ghost use Rattle.cell_laws.specs.Unpacked.{setOf, samplesOf, Ready};
+ghost use Rattle.value.specs.Tops.{TopsOf};
+
+// Whether there are at most `room` stage sample times.
+pub fn fits(
+    starts: &[f64],
+    clips: &[u64],
+    xs: &[f64],
+    ys: &[f64],
+    blocks: &[f64],
+    m: Manifest,
+    times: &[f64],
+    values: &[f64],
+    marks: &[u8],
+    ends: &[u64],
+    tops: &[f64],
+    room: usize,
+) -> bool
+    requires { ⌜ Ready (now starts) (now clips) (now xs) (now ys) (now blocks) m (now times) (now values) (now marks) (now ends) ⌝ ∗ ⌜ TopsOf (now xs) (now ys) (now tops) ⌝ }
+    ensures { λ r. ⌜ r ≡ leb (length (stageSampleTimes (setOf (length (now (ends .entry))) (now (starts .entry)) (now (clips .entry)) (now (xs .entry)) (now (ys .entry)) (now (blocks .entry)) m) (samplesOf (now (times .entry)) (now (values .entry)) (now (marks .entry)) (now (ends .entry))))) room ⌝ }
+{
+    let mut t = -1.0 / 0.0;
+    let mut count: usize = 0;
+    let mut place: usize = 0;
+    let mut knot: usize = 0;
+    let mut sample: usize = 0;
+    loop {
+        let next = next_time(
+            starts,
+            clips,
+            xs,
+            ys,
+            blocks,
+            m,
+            times,
+            values,
+            marks,
+            ends,
+            tops,
+            t,
+            place,
+            knot,
+            sample,
+        );
+        let time = next.time;
+        let Bound::At(h) = time else {
+            return true;
+        };
+        if count == room {
+            return false;
+        }
+        count += 1;
+        t = h;
+        place = next.place;
+        knot = next.knot;
+        sample = next.sample;
+    }
+}
+
+// The stage sample times go to the front of `out`, which has room for them.
+pub fn write_times(
+    starts: &[f64],
+    clips: &[u64],
+    xs: &[f64],
+    ys: &[f64],
+    blocks: &[f64],
+    m: Manifest,
+    times: &[f64],
+    values: &[f64],
+    marks: &[u8],
+    ends: &[u64],
+    tops: &[f64],
+    out: &mut [f64],
+) -> usize
+    requires { ⌜ Ready (now starts) (now clips) (now xs) (now ys) (now blocks) m (now times) (now values) (now marks) (now ends) ⌝ ∗ ⌜ TopsOf (now xs) (now ys) (now tops) ⌝ ∗ ⌜ length (stageSampleTimes (setOf (length (now ends)) (now starts) (now clips) (now xs) (now ys) (now blocks) m) (samplesOf (now times) (now values) (now marks) (now ends))) ≤ length (now out) ⌝ }
+    ensures { λ r. ⌜ (r ≡ length (stageSampleTimes (setOf (length (now (ends .entry))) (now (starts .entry)) (now (clips .entry)) (now (xs .entry)) (now (ys .entry)) (now (blocks .entry)) m) (samplesOf (now (times .entry)) (now (values .entry)) (now (marks .entry)) (now (ends .entry))))) × (now (out .exit) ≡ writtenOver (stageSampleTimes (setOf (length (now (ends .entry))) (now (starts .entry)) (now (clips .entry)) (now (xs .entry)) (now (ys .entry)) (now (blocks .entry)) m) (samplesOf (now (times .entry)) (now (values .entry)) (now (marks .entry)) (now (ends .entry)))) (now (out .entry))) ⌝ }
+{
+    let mut t = -1.0 / 0.0;
+    let mut count: usize = 0;
+    let mut place: usize = 0;
+    let mut knot: usize = 0;
+    let mut sample: usize = 0;
+    loop {
+        let next = next_time(
+            starts,
+            clips,
+            xs,
+            ys,
+            blocks,
+            m,
+            times,
+            values,
+            marks,
+            ends,
+            tops,
+            t,
+            place,
+            knot,
+            sample,
+        );
+        let time = next.time;
+        let Bound::At(h) = time else {
+            return count;
+        };
+        out[count] = h;
+        count += 1;
+        t = h;
+        place = next.place;
+        knot = next.knot;
+        sample = next.sample;
+    }
+}
