@@ -9,6 +9,7 @@ pub mod Likeness
 pub mod Halts
 pub mod Readings
 pub mod Spans
+pub mod Plains
 pub mod Onward
 pub mod Cuts
 pub mod Counting

@@ -68,11 +68,116 @@ turns-by f g e lo hi t = elim t [
 -- ---- a clip's part
 
 module _ {A : Type 0} (l : List A) (ends : List ℕ) (c : ℕ) where
-  part-length : clipEnd ends c ≤ length l → length (part l ends c) ≡ clipEnd ends c - clipBegin ends c
+  pub part-length : clipEnd ends c ≤ length l → length (part l ends c) ≡ clipEnd ends c - clipBegin ends c
   part-length h = length-take-le (clipEnd ends c - clipBegin ends c) (drop (clipBegin ends c) l) (rw (length-drop (clipBegin ends c) l) (omega arith))
 
-  part-at : (i : ℕ) (d : A) → i < clipEnd ends c - clipBegin ends c → getD l (clipBegin ends c + i) d ≡ getD (part l ends c) i d
+  pub part-at : (i : ℕ) (d : A) → i < clipEnd ends c - clipBegin ends c → getD l (clipBegin ends c + i) d ≡ getD (part l ends c) i d
   part-at i d h = sym (getD-take (clipEnd ends c - clipBegin ends c) (drop (clipBegin ends c) l) i d h ∙ getD-drop (clipBegin ends c) l i d)
+
+-- ---- a cell that reads the value from k to hi
+
+-- the place that a reading takes turns one way
+abbrev pub TurnsOn : List Float → List ℕ → Cell → ℕ → ℕ → Type 0
+TurnsOn times ends (Constant r) k hi = Unit {0}
+TurnsOn times ends (Reading c line) k hi = Turns (placeOn (part times ends c) line) k hi
+
+pub record Told (set : ClipSet) (s : Samples) (k hi : ℕ) (cell : Cell) : Type 0 where
+  pub keys : Keys k hi
+  pub reads : (j : ℕ) → k ≤ j → j ≤ hi → sourceAtKey set s j ≡ readOn (s .times) (s .ends) cell j
+  pub clip : Sampled set s cell
+  pub turns : TurnsOn (s .times) (s .ends) cell k hi
+
+module _ {starts : List Float} {clips : List ℕ} {xs ys blocks : List Float} {m : Manifest} {times values : List Float} {marks ends : List ℕ} (R : Ready starts clips xs ys blocks m times values marks ends) (k hi : ℕ) (cell : Cell) (D : Told (setOf (length ends) starts clips xs ys blocks m) (samplesOf times values marks ends) k hi cell) where
+  abbrev lent : ClipSet
+  lent = setOf (length ends) starts clips xs ys blocks m
+
+  abbrev held : Samples
+  held = samplesOf times values marks ends
+
+  pub told-sayable : Sayable (length values) ends (readOn times ends cell k)
+  told-sayable = subst (Sayable (length values) ends) (D .reads k (le-of-eq refl) (D .keys .order)) (value-in R (stage (ofKey k)))
+
+  entry-on : (j : ℕ) → k ≤ j → j ≤ hi → entryAtKey lent held j ≡ entryOf (says lent held (readOn times ends cell j))
+  unfolding valueInSet
+  entry-on j a b = ap (λ (r : Source). entryOf (says lent held r)) (D .reads j a b)
+
+  pub told-here : entryOf (saysIn m values marks ends (readOn times ends cell k)) ≡ entryAtKey (setOf (length ends) starts clips xs ys blocks m) (samplesOf times values marks ends) k
+  told-here = ap entryOf (says-ready R (readOn times ends cell k)) ∙ sym (entry-on k (le-of-eq refl) (D .keys .order))
+
+  -- ---- where a clip is read
+
+  module _ (c : ℕ) (line : Line) (q : cell ≡ Reading c line) where
+    sampled : (c < length ends) × (0 < length (part times ends c))
+    unfolding setOf clipTimes
+    sampled = subst (Sampled lent held) q (D .clip)
+
+    turning : Turns (placeOn (part times ends c) line) k hi
+    turning = subst (λ (d : Cell). TurnsOn times ends d k hi) q (D .turns)
+
+    abbrev b : ℕ
+    b = clipBegin ends c
+
+    abbrev n : ℕ
+    n = clipEnd ends c - clipBegin ends c
+
+    lengths : (length (part times ends c) ≡ n) × (length (part values ends c) ≡ n) × (length (part marks ends c) ≡ n)
+    lengths =
+        let i = ready-readable R .inside c (sampled .0) in
+        let v = R .accepted .values in
+        let w = R .accepted .marks in
+        (part-length times ends c i, part-length values ends c (omega arith), part-length marks ends c (omega arith))
+
+    run : Run times values marks ends c line k hi
+    run = record {
+      clip = sampled .0;
+      from = ready-readable R .from c (sampled .0);
+      inside = ready-readable R .inside c (sampled .0);
+      valued = R .accepted .values;
+      flagged = R .accepted .marks;
+      reads = record {
+        ascending = ready-readable R .rising c (sampled .0);
+        values = lengths .1 ∙ sym (lengths .0);
+        marks = lengths .2 ∙ sym (lengths .0);
+        some = sampled .1;
+        numbers = every-take Fits n (drop b values) (every-drop Fits b values (R .numbers));
+      };
+      turns = turning;
+    }
+
+    sample-says : (i : ℕ) → i < n → marked (getD marks (b + i) 0) (getD values (b + i) 0·0) ≡ marked (getD (part marks ends c) i 0) (getD (part values ends c) i 0·0)
+    sample-says i h = ap₂ marked (part-at marks ends c i 0 h) (part-at values ends c i 0·0 h)
+
+    place-inside : (j : ℕ) → placeOn (part times ends c) line j < n
+    unfolding placeOn
+    place-inside j = let l = lengths .0 in let h = last-short (part times ends c) (Knots.along (lineIs line) (ofKey j)) (sampled .1) in omega arith
+
+    reading-says : (j : ℕ) → k ≤ j → j ≤ hi → entryAtKey lent held j ≡ readingAt (part times ends c) (part values ends c) (part marks ends c) line j
+    unfolding says
+    reading-says j x y =
+        entry-on j x y
+        ∙ ap (λ (d : Cell). entryOf (says lent held (readOn times ends d j))) q
+        ∙ ap entryOf (sample-says (placeOn (part times ends c) line j) (place-inside j))
+
+  constant-says : (r : Source) → cell ≡ Constant r → (j : ℕ) → k ≤ j → j ≤ hi → entryAtKey lent held j ≡ entryAtKey lent held k
+  constant-says r q j x y =
+      entry-on j x y
+      ∙ ap (λ (d : Cell). entryOf (says lent held (readOn times ends d j))) q
+      ∙ sym (entry-on k (le-of-eq refl) (D .keys .order) ∙ ap (λ (d : Cell). entryOf (says lent held (readOn times ends d k))) q)
+
+  pub told-runs : Runs times values marks ends cell k hi
+  told-runs = go cell refl
+    where
+      go : (c : Cell) → cell ≡ c → Runs times values marks ends c k hi
+      go (Constant r) q = tt
+      go (Reading c line) q = run c line q
+
+  pub told-says : (here : Entry) → here ≡ entryAtKey (setOf (length ends) starts clips xs ys blocks m) (samplesOf times values marks ends) k
+      → Agree k hi (entryAtKey (setOf (length ends) starts clips xs ys blocks m) (samplesOf times values marks ends)) (saysOn times values marks ends cell here)
+  told-says here p = go cell refl
+    where
+      go : (c : Cell) → cell ≡ c → Agree k hi (entryAtKey lent held) (saysOn times values marks ends c here)
+      go (Constant r) q j x y = constant-says r q j x y ∙ sym p
+      go (Reading c line) q j x y = reading-says c line q j x y
 
 -- ---- the stretch of a piece
 
@@ -105,90 +210,28 @@ module _ {starts : List Float} {clips : List ℕ} {xs ys blocks : List Float} {m
         ∙ ap (λ (c : Cells.Cell). Cells.readCell s c (ofKey j)) (sym (P .is))
         ∙ reads-on cell j
 
+    turns-on : TurnsOn times ends cell k hi
+    turns-on = go cell refl
+      where
+        go : (c : Cell) → cell ≡ c → TurnsOn times ends c k hi
+        go (Constant r) q = tt
+        go (Reading c line) q =
+            turns-by (cellPlaceAt set s k) (placeOn (part times ends c) line)
+            (same-place set s (sound R) (samples R) k top K e (P .ends) c line (ap cellIs (sym q) ∙ P .is) (part times ends c) (unfold clipTimes in refl))
+            k hi (cell-turning set s (sound R) (samples R) k hi span-keys clear)
+
+    told : Told set s k hi cell
+    told = record { keys = span-keys; reads = source-on; clip = P .clip; turns = turns-on }
+
     pub span-sayable : Sayable (length values) ends (readOn times ends cell k)
-    span-sayable = subst (Sayable (length values) ends) (source-on k (le-of-eq refl) (span-keys .order)) (value-in R (stage (ofKey k)))
+    span-sayable = told-sayable R k hi cell told
 
-    entry-on : (j : ℕ) → k ≤ j → j ≤ hi → entryAtKey set s j ≡ entryOf (says set s (readOn times ends cell j))
-    unfolding valueInSet
-    entry-on j a b = ap (λ (r : Source). entryOf (says set s r)) (source-on j a b)
-
-    pub span-here : entryOf (saysIn m values marks ends (readOn times ends cell k)) ≡ entryAtKey set s k
-    span-here = ap entryOf (says-ready R (readOn times ends cell k)) ∙ sym (entry-on k (le-of-eq refl) (span-keys .order))
-
-    -- ---- where a clip is read
-
-    module _ (c : ℕ) (line : Line) (q : cell ≡ Reading c line) where
-      sampled : (c < length ends) × (0 < length (part times ends c))
-      unfolding setOf clipTimes
-      sampled = subst (Sampled set s) q (P .clip)
-
-      turning : Turns (placeOn (part times ends c) line) k hi
-      unfolding clipTimes
-      turning = turns-by (cellPlaceAt set s k) (placeOn (part times ends c) line)
-          (same-place set s (sound R) (samples R) k top K e (P .ends) c line (ap cellIs (sym q) ∙ P .is) (part times ends c) refl)
-          k hi (cell-turning set s (sound R) (samples R) k hi span-keys clear)
-
-      abbrev b : ℕ
-      b = clipBegin ends c
-
-      abbrev n : ℕ
-      n = clipEnd ends c - clipBegin ends c
-
-      lengths : (length (part times ends c) ≡ n) × (length (part values ends c) ≡ n) × (length (part marks ends c) ≡ n)
-      lengths =
-          let i = ready-readable R .inside c (sampled .0) in
-          let v = R .accepted .values in
-          let w = R .accepted .marks in
-          (part-length times ends c i, part-length values ends c (omega arith), part-length marks ends c (omega arith))
-
-      run : Run times values marks ends c line k hi
-      run = record {
-        clip = sampled .0;
-        from = ready-readable R .from c (sampled .0);
-        inside = ready-readable R .inside c (sampled .0);
-        valued = R .accepted .values;
-        flagged = R .accepted .marks;
-        reads = record {
-          ascending = ready-readable R .rising c (sampled .0);
-          values = lengths .1 ∙ sym (lengths .0);
-          marks = lengths .2 ∙ sym (lengths .0);
-          some = sampled .1;
-          numbers = every-take Fits n (drop b values) (every-drop Fits b values (R .numbers));
-        };
-        turns = turning;
-      }
-
-      sample-says : (i : ℕ) → i < n → marked (getD marks (b + i) 0) (getD values (b + i) 0·0) ≡ marked (getD (part marks ends c) i 0) (getD (part values ends c) i 0·0)
-      sample-says i h = ap₂ marked (part-at marks ends c i 0 h) (part-at values ends c i 0·0 h)
-
-      place-inside : (j : ℕ) → placeOn (part times ends c) line j < n
-      unfolding placeOn
-      place-inside j = let l = lengths .0 in let h = last-short (part times ends c) (Knots.along (lineIs line) (ofKey j)) (sampled .1) in omega arith
-
-      reading-says : (j : ℕ) → k ≤ j → j ≤ hi → entryAtKey set s j ≡ readingAt (part times ends c) (part values ends c) (part marks ends c) line j
-      unfolding says
-      reading-says j x y =
-          entry-on j x y
-          ∙ ap (λ (d : Cell). entryOf (says set s (readOn times ends d j))) q
-          ∙ ap entryOf (sample-says (placeOn (part times ends c) line j) (place-inside j))
-
-    constant-says : (r : Source) → cell ≡ Constant r → (j : ℕ) → k ≤ j → j ≤ hi → entryAtKey set s j ≡ entryAtKey set s k
-    constant-says r q j x y =
-        entry-on j x y
-        ∙ ap (λ (d : Cell). entryOf (says set s (readOn times ends d j))) q
-        ∙ sym (entry-on k (le-of-eq refl) (span-keys .order) ∙ ap (λ (d : Cell). entryOf (says set s (readOn times ends d k))) q)
+    pub span-here : entryOf (saysIn m values marks ends (readOn times ends cell k)) ≡ entryAtKey (setOf (length ends) starts clips xs ys blocks m) (samplesOf times values marks ends) k
+    span-here = told-here R k hi cell told
 
     pub span-runs : Runs times values marks ends cell k (min top (endKey e - 1))
-    span-runs = go cell refl
-      where
-        go : (c : Cell) → cell ≡ c → Runs times values marks ends c k hi
-        go (Constant r) q = tt
-        go (Reading c line) q = run c line q
+    span-runs = told-runs R k hi cell told
 
     pub span-says : (here : Entry) → here ≡ entryAtKey (setOf (length ends) starts clips xs ys blocks m) (samplesOf times values marks ends) k
         → Agree k (min top (endKey e - 1)) (entryAtKey (setOf (length ends) starts clips xs ys blocks m) (samplesOf times values marks ends)) (saysOn times values marks ends cell here)
-    span-says here p = go cell refl
-      where
-        go : (c : Cell) → cell ≡ c → Agree k hi (entryAtKey set s) (saysOn times values marks ends c here)
-        go (Constant r) q j x y = constant-says r q j x y ∙ sym p
-        go (Reading c line) q j x y = reading-says c line q j x y
+    span-says = told-says R k hi cell told

@@ -3,6 +3,8 @@
 pub mod Lines
 -- A cell and its end
 pub mod Pieces
+-- The cell of a window without knots
+pub mod Plains
 -- The end of a cell as a stop
 pub mod Stops
 -- A value and its mark

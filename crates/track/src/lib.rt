@@ -12,6 +12,8 @@ pub mod reading;
 pub mod spot;
 // The stretches on which one source is read, or one clip along one line.
 pub mod cell;
+// The cell of a window without knots.
+pub mod plain;
 // The next change.
 pub mod change;
 // The stretch of keys in one cell.

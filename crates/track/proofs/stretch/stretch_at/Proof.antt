@@ -1,22 +1,28 @@
 -- `stretch::stretch_at` meets its contract: the cell of k up to its end, and what it reads at k is the value. Assumes nothing.
 use mathlib.Core.Path.{_≡_, refl, sym, ap, _∙_, subst}
+use mathlib.Core.Bool.{_&&_}
 use Prim.Native.Nat.{ℕ, _-_, min}
 use native.Mathlib.Omega.{arith}
+use lib.Dec.{eqb, ltb}
 use lib.ListN.{length}
 use lib.Ieee.{Float}
+use borrow.Author.Tests.{eqb-true, ltb-true}
 use Rattle.gf.specs.Key.{ofKey, ofKey-fits, ofKey-finite}
 use Rattle.definitions.specs.declared.Source.{Source}
 use Rattle.definitions.specs.Doubles.{FiniteDouble}
 use Rattle.definitions.specs.ClipSet.{ClipSet}
 use Rattle.definitions.specs.Samples.{Samples}
 use Rattle.definitions.specs.Track.{entryOf}
+use Rattle.set_laws.specs.Tests.{holds, is-true}
 use Rattle.track_laws.specs.Laws.{Agree}
+use Rattle.cell_laws.specs.Every.{both-l, both-r}
 use Rattle.cell_laws.specs.Keys.{Keys, entryAtKey}
 use Rattle.cell_laws.specs.Unpacked.{setOf, samplesOf}
 use Rattle.value.specs.Says.{saysIn, Sayable, ready-marks}
 use Rattle.track.specs.Entries.{entryIs}
 use Rattle.track.specs.Stops.{endKey}
 use Rattle.track.specs.Pieces.{PieceIs}
+use Rattle.track.specs.Spots.{SpotAt}
 use Rattle.track.specs.Runs.{Runs, readOn, saysOn}
 use Rattle.track.proofs.Lent.{sound, samples}
 use Rattle.track.proofs.Halts.{end-numbered, end-later}
@@ -33,14 +39,23 @@ abbrev lent : tie.Start → Samples
 lent a = samplesOf (a .args .times .now) (a .args .values .now) (a .args .marks .now) (a .args .ends .now)
 
 abbrev entry : tie.After-piece-at → tie.Start
-entry c = c .before .before .before .before .before .before .before .before .before .before .before .before .before
+entry c = c .before .before .before .before .before .before .before .before .before .before .before .before .before .before .before
+
+abbrev start : tie.After-spot-at → tie.Start
+start c = c .before .before .before .before .before .before .before .before .before .before .before .before
+
+-- the spot at the key
+spot : (c : tie.After-spot-at) → SpotAt (start c .args .starts .now) (start c .args .clips .now) (start c .args .xs .now) (start c .args .ys .now) (start c .args .blocks .now) (start c .args .m) (start c .args .times .now) (start c .args .values .now) (start c .args .marks .now) (start c .args .ends .now) (ofKey (start c .args .k)) (c .spot-at .result .p) (c .spot-at .result .w)
+spot c =
+    let a = start c .args in
+    subst (λ (t : Float). SpotAt (a .starts .now) (a .clips .now) (a .xs .now) (a .ys .now) (a .blocks .now) (a .m) (a .times .now) (a .values .now) (a .marks .now) (a .ends .now) t (c .spot-at .result .p) (c .spot-at .result .w)) (c .before .of-key .ensures) (c .spot-at .ensures)
 
 -- k is the key of a finite double
 finite-key : (a : tie.Start) → FiniteDouble (ofKey (a .args .k))
 finite-key a = let K = a .pre .1 .1 .1 in record { fitting = ofKey-fits (a .args .k); finitely = ofKey-finite (a .args .k) (K .low) (omega (arith, K .order, K .high)) }
 
 piece : (c : tie.After-piece-at) → PieceIs (set (entry c)) (lent (entry c)) (ofKey (entry c .args .k)) (c .piece-at .result .cell) (c .piece-at .result .end)
-piece c = subst (λ (t : Float). PieceIs (set (entry c)) (lent (entry c)) t (c .piece-at .result .cell) (c .piece-at .result .end)) (c .before .before .of-key .ensures) (c .piece-at .ensures)
+piece c = subst (λ (t : Float). PieceIs (set (entry c)) (lent (entry c)) t (c .piece-at .result .cell) (c .piece-at .result .end)) (c .before .before .before .before .of-key .ensures) (c .piece-at .ensures)
 
 -- the last key
 hi-is : (c : tie.After-lesser) → min (entry (c .before .before) .args .top) (endKey (c .before .before .piece-at .result .end) - 1) ≡ c .lesser .result
@@ -74,8 +89,28 @@ of-key-requires c κs = search needs
 spot-at-requires : tie.Need-spot-at-requires
 spot-at-requires c κs = let a = c .before .before .before .before .before .before .before .before .before .before .before in (a .pre .0, (a .pre .1 .1 .0, subst FiniteDouble (sym (c .of-key .ensures)) (finite-key a)))
 
+is-plain-requires : tie.Need-is-plain-requires
+is-plain-requires c κs = search needs
+
+-- there are several starts, and no knots
+plain-stretch-requires : tie.Need-plain-stretch-requires
+plain-stretch-requires c κs =
+    let o = c .before .before in
+    let a = start o in
+    let e = sym (c .before .is-plain .ensures) ∙ c .if1 .taken in
+    let h = holds (ltb 1 (length (a .args .starts .now)) && eqb (length (a .args .xs .now)) 0) e in
+    let n = is-true (ltb 1 (length (a .args .starts .now))) (both-l (ltb 1 (length (a .args .starts .now))) (eqb (length (a .args .xs .now)) 0) h) in
+    let z = is-true (eqb (length (a .args .xs .now)) 0) (both-r (ltb 1 (length (a .args .starts .now))) (eqb (length (a .args .xs .now)) 0) h) in
+    (a .pre .0, (spot o, (a .pre .1 .1 .1, (eqb-true (length (a .args .xs .now)) 0 z, ltb-true 1 (length (a .args .starts .now)) n))))
+
+returns : tie.Need-returns
+returns c = record { stretch = c .plain-stretch .ensures; spot = c .before .before .before .spot-at .ensures .spot }
+
 piece-at-requires : tie.Need-piece-at-requires
-piece-at-requires c κs = let a = c .before .before .before .before .before .before .before .before .before .before .before .before in (a .pre .0, (a .pre .1 .0, (c .spot-at .ensures, subst FiniteDouble (sym (c .before .of-key .ensures)) (finite-key a))))
+piece-at-requires c κs =
+    let o = c .before .before in
+    let a = start o in
+    (a .pre .0, (a .pre .1 .0, (o .spot-at .ensures, subst FiniteDouble (sym (o .before .of-key .ensures)) (finite-key a))))
 
 end-key-requires : tie.Need-end-key-requires
 end-key-requires c κs = let a = entry c in end-numbered (set a) (lent a) (sound (a .pre .0)) (samples (a .pre .0)) (a .args .k) (a .args .top) (a .pre .1 .1 .1) (c .piece-at .result .end) (piece c .ends)
@@ -101,8 +136,8 @@ says-requires c κs =
 entry-of-requires : tie.Need-entry-of-requires
 entry-of-requires c κs = search needs
 
-returns : tie.Need-returns
-returns c =
+returns-2 : tie.Need-returns-2
+returns-2 c =
     let x = c .before in
     let l = x .before .before .before in
     let q = l .before .before in
@@ -116,7 +151,7 @@ returns c =
         says = subst (λ (h : ℕ). Agree (a .args .k) h (entryAtKey (set a) (lent a)) (saysOn (a .args .times .now) (a .args .values .now) (a .args .marks .now) (a .args .ends .now) (q .piece-at .result .cell) (entryIs (x .entry-of .result)))) (hi-is l)
             (span-says (a .pre .0) (a .args .k) (a .args .top) (a .pre .1 .1 .1) (q .piece-at .result .cell) (q .piece-at .result .end) (piece q) (entryIs (x .entry-of .result)) (here x));
       };
-      spot = q .before .spot-at .ensures .spot;
+      spot = q .before .before .before .spot-at .ensures .spot;
     }
 
 pub stretch-at-spec : {M : Type 1} → statement M
@@ -125,6 +160,9 @@ stretch-at-spec =
     (tie.spec
     of-key-requires
     spot-at-requires
+    is-plain-requires
+    plain-stretch-requires
+    returns
     piece-at-requires
     end-key-requires
     sub-lesser
@@ -132,4 +170,4 @@ stretch-at-spec =
     read-on-requires
     says-requires
     entry-of-requires
-    returns)
+    returns-2)
