@@ -1,10 +1,11 @@
 -- A run: from a time in a segment of the knots on, the window's times above its lower neighbour are the inverse times of that segment's samples, up to one
 -- of them that lies below the next knot and the next start. So a time of the run holds its value from the lower neighbour, with no jump. Assumes nothing.
-use mathlib.Core.Path.{_≡_, sym, _∙_, subst}
+use mathlib.Core.Path.{_≡_, refl, sym, _∙_, subst}
 use mathlib.Core.Logic.{_⊎_, inl, inr}
 use mathlib.Core.Bool.{Bool, true, false, not, _||_, cond}
 use mathlib.Core.List.{List, [], _∷_, _++_}
 use Prim.Native.Nat.{ℕ, _+_, _-_, _≤_, _<_}
+use native.Mathlib.Nat.{le-of-eq}
 use native.Mathlib.Omega.{arith}
 use native.Mathlib.Decide.{decLe}
 use lib.Dec.{T}
@@ -62,6 +63,7 @@ pub record HeldAt (xs ys cs : List Float) (w : Window) (i : ℕ) (l u : Float) :
   pub upper : IsUpper (windowTimes xs ys cs w) u n
   pub run : IsLower (l ∷ onSegment cs (segmentOf xs ys i)) u m
   pub level : jump (knotsOf xs ys) m n ≡ false
+  pub begun : key (w .start) ≤ key m
   pub from : key (getD xs i nan) ≤ key m
   pub upto : key m < key (getD xs (i + 1) nan)
 
@@ -148,7 +150,7 @@ module _ (xs ys tops cs : List Float) (w : Window) (t : Float) (i : ℕ) (l h : 
       each [] = tt
       each (c ∷ k) = (one c, each k)
 
-  nh : Number h
+  pub nh : Number h
   nh = in-every Number h seg seg-numbers (O .listed)
 
   kh : key t < key h
@@ -199,7 +201,7 @@ module _ (xs ys tops cs : List Float) (w : Window) (t : Float) (i : ℕ) (l h : 
     | inr e ↦ subst (λ (z : Float). key z ≤ key l) (sym e) start-low
   ]
 
-  knot-low : (j : ℕ) → j ≤ i → key (getD xs j nan) ≤ key l
+  pub knot-low : (j : ℕ) → j ≤ i → key (getD xs j nan) ≤ key l
   knot-low j b =
       let j-place : j < length xs = omega (arith, place) in
       let n = here-number j j-place in
@@ -349,14 +351,18 @@ module _ (xs ys tops cs : List Float) (w : Window) (t : Float) (i : ℕ) (l h : 
           (is-false (lt m (getD xs i nan)) (λ b. let k = lt→key m (getD xs i nan) (nm .0) (x .0) (nm .1) (x .1) b in absurd (omega (arith, from-low))))
           place (λ j a b. none-above xs (A .knots) m n (nm .0) (nn .0) j (omega (arith, f)) b)
 
+      run-lower : IsLower (l ∷ onSegment cs (segmentOf xs ys i)) u m
+      run-lower = record { fits = M .fits; listed = run-listed; upto = M .upto; last = (λ _. key→le l m (nl .0) (nm .0) (nl .1) (nm .1) lm, run-last) }
+
       held : HeldAt xs ys cs w i l u
       held = record {
         m = m;
         n = n;
         lower = M;
         upper = N;
-        run = record { fits = M .fits; listed = run-listed; upto = M .upto; last = (λ _. key→le l m (nl .0) (nm .0) (nl .1) (nm .1) lm, run-last) };
+        run = run-lower;
         level = no-jump;
+        begun = omega (arith, start-low, lm);
         from = from-low;
         upto = omega (arith, mu, kx);
       }
@@ -372,3 +378,9 @@ module _ (xs ys tops cs : List Float) (w : Window) (t : Float) (i : ℕ) (l h : 
             absurd (r .3 (key→le (r .0) u (r .2 .0) (nu .0) (r .2 .1) (nu .1) (omega (arith, kl))))
         go (At m) Nothing L U = absurd (of-h (λ (x : Float). T (lt u x) → ⊥) U h-above)
         go (At m) (At n) L U = held m n L U
+
+  -- where it begins, the lower neighbour is l
+  pub run-first : Every Fits (windowTimes xs ys cs w) → IsLower (l ∷ onSegment cs (segmentOf xs ys i)) t l
+  run-first fit =
+      let r = run-held t nt (le-of-eq refl) kh fit in
+      run-lower t nt (le-of-eq refl) kh l (r .n) (O .lower) (r .upper)
