@@ -16,3 +16,4 @@ pub mod Filling
 pub mod Slots
 pub mod Fronts
 pub mod Baking
+pub mod Onsets

@@ -68,10 +68,10 @@ turns-by f g e lo hi t = elim t [
 -- ---- a clip's part
 
 module _ {A : Type 0} (l : List A) (ends : List ℕ) (c : ℕ) where
-  part-length : clipEnd ends c ≤ length l → length (part l ends c) ≡ clipEnd ends c - clipBegin ends c
+  pub part-length : clipEnd ends c ≤ length l → length (part l ends c) ≡ clipEnd ends c - clipBegin ends c
   part-length h = length-take-le (clipEnd ends c - clipBegin ends c) (drop (clipBegin ends c) l) (rw (length-drop (clipBegin ends c) l) (omega arith))
 
-  part-at : (i : ℕ) (d : A) → i < clipEnd ends c - clipBegin ends c → getD l (clipBegin ends c + i) d ≡ getD (part l ends c) i d
+  pub part-at : (i : ℕ) (d : A) → i < clipEnd ends c - clipBegin ends c → getD l (clipBegin ends c + i) d ≡ getD (part l ends c) i d
   part-at i d h = sym (getD-take (clipEnd ends c - clipBegin ends c) (drop (clipBegin ends c) l) i d h ∙ getD-drop (clipBegin ends c) l i d)
 
 -- ---- the stretch of a piece
@@ -99,7 +99,7 @@ module _ {starts : List Float} {clips : List ℕ} {xs ys blocks : List Float} {m
     reads-on (Constant r) j = refl
     reads-on (Reading c line) j = refl
 
-    source-on : (j : ℕ) → k ≤ j → j ≤ hi → sourceAtKey set s j ≡ readOn times ends cell j
+    pub source-on : (j : ℕ) → k ≤ j → j ≤ hi → sourceAtKey set s j ≡ readOn times ends cell j
     source-on j a b =
         cell-source set s (sound R) (samples R) k hi span-keys clear j a b
         ∙ ap (λ (c : Cells.Cell). Cells.readCell s c (ofKey j)) (sym (P .is))

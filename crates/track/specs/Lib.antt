@@ -11,6 +11,8 @@ pub mod Entries
 pub mod Readings
 -- The spot of a walk
 pub mod Spots
+-- Where a run of samples begins
+pub mod Begins
 -- The stretch of keys in one cell
 pub mod Runs
 -- The changes, and the promise of a bake

@@ -10,6 +10,8 @@ pub mod steps;
 pub mod reading;
 // The window that a walk is in.
 pub mod spot;
+// Where a run of samples in one segment begins.
+pub mod onset;
 // The stretches on which one source is read, or one clip along one line.
 pub mod cell;
 // The next change.
