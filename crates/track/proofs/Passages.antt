@@ -150,7 +150,7 @@ module _ (cs : List Float) (a : Ascending cs) (q : Knot × Knot) (s : Segment q)
     lt-yes : (x y : Float) → Number x → Number y → key x < key y → lt x y ≡ true
     lt-yes x y n m h = lt-is x y (n .0) (m .0) (n .1) (m .1) ∙ lt-ltb (key x) (key y) h
 
-    -- ---- a segment that rises
+    -- ---- whether a sample is beyond that place, in a segment that rises
 
     module _ (u : T (lt lo hi)) (i : ℕ) (m : Number (c i)) where
       under-up : key (c i) < key lo → isBeyond t q (c i) ≡ false
@@ -182,6 +182,8 @@ module _ (cs : List Float) (a : Ascending cs) (q : Knot × Knot) (s : Segment q)
         | yes l ↦ (l, λ h. ltb-true k (f i) (sym (past-up l h) ∙ e))
       ]
 
+    -- ---- and in one that falls
+
     module _ (d : T (lt hi lo)) (i : ℕ) (m : Number (c i)) where
       under-down : key (c i) < key hi → isBeyond t q (c i) ≡ false
       unfolding isBeyond
@@ -211,7 +213,8 @@ module _ (cs : List Float) (a : Ascending cs) (q : Knot × Knot) (s : Segment q)
         | yes h ↦ (h, λ l. leb-false (f i) k (sym (past-down l h) ∙ e))
       ]
 
-    -- The place of the inverse times is where the walk begins
+    -- ---- so the walk begins there
+
     pub begins : Passes cs q n k
     begins = record {
       upto = U .upto;
