@@ -7,6 +7,8 @@ pub mod Ways
 pub mod Likeness
 pub mod Halts
 pub mod Readings
+pub mod Passages
+pub mod Between
 pub mod Spans
 pub mod Onward
 pub mod Cuts
