@@ -51,6 +51,7 @@ use Rattle.value.specs.Reads.{partOf, last-short, ready-clip, ready-readable, r
 use Rattle.value.specs.Tops.{segmentOf, segment-here}
 use Rattle.value.specs.Windowed.{samplesIn, windowTimes, windowSource}
 use Rattle.value.specs.Windows.{ifOwn}
+use Rattle.track.specs.declared.line.Line.{Line}
 use Rattle.track.specs.declared.cell.Cell.the-variants.{Constant}
 use Rattle.track.specs.Lines.{lineIs, placeOn}
 use Rattle.track.specs.Pieces.{heldOf, PieceIs}
@@ -65,6 +66,10 @@ use Rattle.track.proofs.Spans.{part-length, part-at, source-on}
 inf-fits : (s : Bool) → Fits (inf s)
 unfolding fits
 inf-fits s = tt
+
+pub place-short : (ts : List Float) (line : Line) (k : ℕ) → 0 < length ts → placeOn ts line k < length ts
+unfolding placeOn
+place-short ts line k h = last-short ts (Knots.along (lineIs line) (ofKey k)) h
 
 -- ---- the last inverse time
 
@@ -115,7 +120,7 @@ last-is-in xs ys cs i max ceil fm nm nx e (At h) b = let r = go (lt max x) refl 
 -- ---- a window
 
 module _ {starts : List Float} {clips : List ℕ} {xs ys blocks : List Float} {m : Manifest} {times values : List Float} {marks ends : List ℕ} (R : Ready starts clips xs ys blocks m times values marks ends) (p : ℕ) (w : Window)
-  (W : WindowIs starts clips xs ys blocks m times values marks ends p w) where
+    (W : WindowIs starts clips xs ys blocks m times values marks ends p w) where
   abbrev set : ClipSet
   set = setOf (length ends) starts clips xs ys blocks m
 

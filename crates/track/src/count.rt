@@ -48,15 +48,7 @@ fn count_cell(
     };
     let a = clip_begin(ends, clip);
     let b = clip_end(ends, clip);
-    count_changes(
-        &times[a..b],
-        &values[a..b],
-        &marks[a..b],
-        line,
-        k,
-        hi,
-        room,
-    )
+    count_changes(&times[a..b], &values[a..b], &marks[a..b], line, k, hi, room)
 }
 
 // The changes above the key k in its stretch.

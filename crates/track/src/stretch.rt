@@ -232,7 +232,24 @@ pub fn stretch_at(
         let found = onset_at(xs, ys, tops, times, w, t, at.knot, at.sample);
         if let Onset::At(i, l, h, n) = found {
             return run_step(
-                starts, clips, xs, ys, blocks, m, times, values, marks, ends, tops, at, i, l, h, n, k, top,
+                starts,
+                clips,
+                xs,
+                ys,
+                blocks,
+                m,
+                times,
+                values,
+                marks,
+                ends,
+                tops,
+                at,
+                i,
+                l,
+                h,
+                n,
+                k,
+                top,
             );
         }
     }

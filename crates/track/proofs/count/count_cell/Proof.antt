@@ -20,7 +20,7 @@ use Rattle.track.proofs.count.count_cell.Statement.{statement}
 use Rattle.track.proofs.count.count_cell.Tie as tie
 
 abbrev entry : tie.After-known-told → tie.Start
-entry c = c .before .before .before .before .before .before .before .before
+entry c = c .before .before .before .before .before .before .before
 
 -- the clip's part can be read
 run : (c : tie.After-known-told) → Run (entry c .args .times .now) (entry c .args .values .now) (entry c .args .marks .now) (entry c .args .ends .now) (c .before .cell .given .0 .0) (c .before .cell .given .0 .1 .0) (entry c .args .k) (entry c .args .hi)
@@ -42,7 +42,7 @@ enum-told c = search needs
 
 returns : tie.Need-returns
 returns c =
-    let b = c .before .before .before .before .before .before .before in
+    let b = c .before .before .before .before .before .before in
     let a = b .args in
     subst (λ (d : Cell). CountIs (changesTo entry-same (saysOn (a .times .now) (a .values .now) (a .marks .now) (a .ends .now) d (entryIs (a .here))) (a .k) (a .hi)) (saysOn (a .times .now) (a .values .now) (a .marks .now) (a .ends .now) d (entryIs (a .here)) (a .hi)) (a .room) true 0 (entryIs (a .here)))
     (sym (c .enum-told .given .1)) (counted-none _ (entryIs (a .here)) (a .room) (none-level (entryIs (a .here)) (a .k) (a .hi) (b .pre .0 .order)))

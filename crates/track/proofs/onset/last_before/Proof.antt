@@ -50,8 +50,7 @@ returns-3 c =
     let i = c .before in
     let sp = i .before .before in
     let a = c .before .before .before .before .before .before .before .before .before .before .before .before .before .args in
-    let k : Knot × Knot = (knot (a .x0) (a .y0), knot (a .x1) (a .y1)) in
-    (
+    let k : Knot × Knot = (knot (a .x0) (a .y0), knot (a .x1) (a .y1)) in (
       subst (λ (h : Float). In h (onSegment (now (a .cs)) k)) (sym (i .inverse .ensures)) (in-segment (now (a .cs)) k _ (sp .before .before .if3 .taken) (holds _ (sym (sp .spans .ensures) ∙ i .before .if4 .taken))),
       holds (lt (i .inverse .result) (a .ceil)) (c .if5 .taken),
     )

@@ -1,6 +1,32 @@
+-- `onset::onset_at` meets its contract: each fact of an onset is one of its tests. Assumes nothing.
+use mathlib.Core.Path.{_≡_, refl, sym, subst}
+use mathlib.Core.Bool.{Bool, true, false, not, false≢true}
+use native.Mathlib.Omega.{arith}
+use lib.Dec.{T}
+use lib.Ieee.{Float, binary64, fits}
+use denote.Ref.{now}
+use Rattle.gf.specs.Key.{le-no-nan, lt→le}
+use Rattle.value.specs.declared.window.Bound.{Bound}
+use Rattle.value.specs.Bounds.{LowerIs}
+use Rattle.value.specs.ClipTimes.{OnSegment}
+use Rattle.value.specs.Windowed.{samplesIn, windowTimes}
+use Rattle.track.specs.Begins.{LastIs}
 use borrow.Author.Needs.{needs}
 use Rattle.track.proofs.onset.onset_at.Statement.{statement}
 use Rattle.track.proofs.onset.onset_at.Tie as tie
+
+passed : (b : Bool) → not b ≡ false → b ≡ true
+passed true e = refl
+passed false e = absurd (false≢true (sym e))
+
+abbrev entry : tie.Else2 → tie.Start
+entry c = c .before .before .before .before .before .before .before .before
+
+fits-max : (a : tie.Start) → T (fits binary64 (a .args .w .max))
+fits-max a = search needs
+
+on : (c : tie.Else2) → OnSegment (now (entry c .args .xs)) (entry c .args .t) (c .before .before .last-at-most-near .result)
+on c = c .before .is-between .ensures (passed (c .before .is-between .result) (c .if2 .left))
 
 returns : tie.Need-returns
 returns c = search needs
@@ -27,7 +53,10 @@ part-last-in-end : tie.Need-part-last-in-end
 part-last-in-end c = search needs
 
 last-in-requires : tie.Need-last-in-requires
-last-in-requires c κs = ?
+last-in-requires c κs =
+    let e = c .before in
+    let a = entry e in
+    (a .pre .0 .knots, (a .pre .0 .paired, (on e .place, le-no-nan (a .args .t) (a .args .w .max) (lt→le (a .args .t) (a .args .w .max) (a .pre .0 .upto)) .1)))
 
 enum-known-h : tie.Need-enum-known-h
 enum-known-h c = search needs
@@ -69,13 +98,37 @@ returns-5 : tie.Need-returns-5
 returns-5 c = search needs
 
 is-past-requires : tie.Need-is-past-requires
-is-past-requires c κs = ?
+is-past-requires c κs =
+    let e = c .before .before .before .before .before .before .before .before .before .before .before .before in
+    omega (arith, on e .place, entry e .pre .0 .reach .long)
 
 returns-6 : tie.Need-returns-6
 returns-6 c = search needs
 
 returns-7 : tie.Need-returns-7
-returns-7 c = ?
+returns-7 c =
+    let e = c .before .before .before .before .before .before .before .before .before .before .before .before .before .before in
+    let a = entry e in
+    let g = c .before .before .before .before .before .before .before .before .before .before .h .given in
+    let l = c .before .before .before .lower .given in
+    let s = samplesIn (now (a .args .times)) (a .args .w) in
+    let last = subst (LastIs (now (a .args .xs)) (now (a .args .ys)) s (e .before .before .last-at-most-near .result) (a .args .w .max)) (g .1) (c .before .before .before .before .before .before .before .before .before .before .before .before .last-in .ensures) in
+    let ahead = c .before .before .before .before .before .before .before .before .is-ahead .ensures (passed (c .before .before .before .before .before .before .before .before .is-ahead .result) (c .before .before .before .before .before .before .before .if3 .left)) in (
+      omega (arith, c .before .before .before .before .before .before .before .before .before .before .before .before .before .before .before .before .before .if1 .left),
+      record {
+        nears = a .pre .0;
+        least = a .pre .1 .1;
+        most = fits-max a;
+        here = on e;
+        begun = ahead .0;
+        lower = subst (LowerIs (windowTimes (now (a .args .xs)) (now (a .args .ys)) s (a .args .w)) (a .args .t)) (l .1) (c .before .before .before .before .before .near-in .ensures .lower);
+        past = c .before .is-past .ensures (passed (c .before .is-past .result) (c .if4 .left));
+        above = ahead .1;
+        listed = last .0;
+        within = last .1;
+        upto = last .2;
+      },
+    )
 
 pub onset-at-spec : {M : Type 1} → statement M
 onset-at-spec =

@@ -75,11 +75,16 @@ of-key-requires c κs = search needs
 piece-at-requires : tie.Need-piece-at-requires
 piece-at-requires c κs =
     let a = c .before .before .before .before .before .before .before .before .before .before .before in
-    let e = sym (c .of-key .ensures) in
-    (a .pre .0, (a .pre .1 .0, (
-      subst (λ (t : Float). SpotAt (a .args .starts .now) (a .args .clips .now) (a .args .xs .now) (a .args .ys .now) (a .args .blocks .now) (a .args .m) (a .args .times .now) (a .args .values .now) (a .args .marks .now) (a .args .ends .now) t (a .args .at .p) (a .args .at .w)) e (a .pre .1 .1 .0),
-      subst FiniteDouble e (finite-key a),
-    )))
+    let e = sym (c .of-key .ensures) in (
+      a .pre .0,
+      (
+        a .pre .1 .0,
+        (
+          subst (λ (t : Float). SpotAt (a .args .starts .now) (a .args .clips .now) (a .args .xs .now) (a .args .ys .now) (a .args .blocks .now) (a .args .m) (a .args .times .now) (a .args .values .now) (a .args .marks .now) (a .args .ends .now) t (a .args .at .p) (a .args .at .w)) e (a .pre .1 .1 .0),
+          subst FiniteDouble e (finite-key a),
+        ),
+      ),
+    )
 
 end-key-requires : tie.Need-end-key-requires
 end-key-requires c κs = let a = entry c in end-numbered (set a) (lent a) (sound (a .pre .0)) (samples (a .pre .0)) (a .args .k) (a .args .top) (a .pre .1 .1 .1) (c .piece-at .result .end) (piece c .ends)
