@@ -168,8 +168,8 @@ fn run_step(
     let y0 = ys[i];
     let x1 = xs[next];
     let y1 = ys[next];
-    let e = gf::key(h);
-    let hi = lesser(top, e - 1);
+    let past = gf::key(h);
+    let hi = lesser(top, past - 1);
     let a = clip_begin(ends, w.clip);
     let b = clip_end(ends, w.clip);
     let line = Line::Segment(x0, y0, x1, y1);
