@@ -8,6 +8,8 @@ pub mod Ways
 pub mod Likeness
 pub mod Halts
 pub mod Readings
+pub mod Passages
+pub mod Between
 pub mod Spans
 pub mod Plains
 pub mod Onward
@@ -18,3 +20,4 @@ pub mod Filling
 pub mod Slots
 pub mod Fronts
 pub mod Baking
+pub mod Onsets

@@ -204,7 +204,7 @@ module _ {starts : List Float} {clips : List ℕ} {xs ys blocks : List Float} {m
     reads-on (Constant r) j = refl
     reads-on (Reading c line) j = refl
 
-    source-on : (j : ℕ) → k ≤ j → j ≤ hi → sourceAtKey set s j ≡ readOn times ends cell j
+    pub source-on : (j : ℕ) → k ≤ j → j ≤ hi → sourceAtKey set s j ≡ readOn times ends cell j
     source-on j a b =
         cell-source set s (sound R) (samples R) k hi span-keys clear j a b
         ∙ ap (λ (c : Cells.Cell). Cells.readCell s c (ofKey j)) (sym (P .is))

@@ -11,8 +11,12 @@ pub mod Stops
 pub mod Entries
 -- A clip's samples read along a line
 pub mod Readings
+-- A run of samples passed in one segment
+pub mod Passages
 -- The spot of a walk
 pub mod Spots
+-- Where a run of samples begins
+pub mod Begins
 -- The stretch of keys in one cell
 pub mod Runs
 -- The changes, and the promise of a bake

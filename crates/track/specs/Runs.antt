@@ -1,4 +1,4 @@
--- A stretch of keys in one cell: what the cell says there, its changes with the one at its beginning, and what the search for it promises. Assumes nothing.
+-- A stretch of keys in one cell or in a run of samples: what is said there, its changes with the one at its beginning, and what the search for it promises. Assumes nothing.
 use mathlib.Core.Path.{_≡_}
 use mathlib.Core.Bool.{cond}
 use mathlib.Core.List.{List, [], _∷_, _++_}
@@ -8,6 +8,8 @@ use lib.Ieee.{Float}
 use Rattle.definitions.specs.declared.Manifest.{Manifest}
 use Rattle.definitions.specs.declared.Source.{Source}
 use Rattle.definitions.specs.declared.Source.the-variants.{Sample}
+use Rattle.definitions.specs.declared.Knot.{Knot}
+use Rattle.definitions.specs.Explicit.{knot}
 use Rattle.definitions.specs.ClipSet.{ClipSet}
 use Rattle.definitions.specs.Samples.{Samples, clipBegin, clipEnd}
 use Rattle.definitions.specs.Track.{Entry, alike}
@@ -19,12 +21,15 @@ use Rattle.cell_laws.specs.Unpacked.{setOf, samplesOf}
 use Rattle.track.specs.declared.line.Line.{Line}
 use Rattle.track.specs.declared.cell.Cell.{Cell}
 use Rattle.track.specs.declared.cell.Cell.the-variants.{Constant, Reading}
+use Rattle.track.specs.declared.stretch.Way.{Way}
+use Rattle.track.specs.declared.stretch.Way.the-variants.{Within, Past}
 use Rattle.track.specs.declared.stretch.Stretch.{Stretch}
 use Rattle.track.specs.declared.stretch.Step.{Step}
 use Rattle.track.specs.Lines.{placeOn}
 use Rattle.track.specs.Entries.{entryIs}
 use Rattle.track.specs.Spots.{SpotIs}
 use Rattle.track.specs.Readings.{Turns, Reads, readingAt}
+use Rattle.track.specs.Passages.{passingAt, Passing}
 
 -- a clip's part of a lent list
 abbrev pub part : {A : Type 0} → List A → List ℕ → ℕ → List A
@@ -54,28 +59,52 @@ abbrev pub saysOn : List Float → List Float → List ℕ → List ℕ → Cell
 saysOn times values marks ends (Constant r) here j = here
 saysOn times values marks ends (Reading c line) here j = readingAt (part times ends c) (part values ends c) (part marks ends c) line j
 
+-- ---- with a run of samples
+
+-- the clip's part can be passed in the segment of q from k to hi, where e is read at k
+pub record PastRun (times values : List Float) (marks ends : List ℕ) (c : ℕ) (q : Knot × Knot) (floor : Float) (e : Entry) (k hi : ℕ) : Type 0 where
+  pub clip : c < length ends
+  pub from : clipBegin ends c ≤ clipEnd ends c
+  pub inside : clipEnd ends c ≤ length times
+  pub valued : length values ≡ length times
+  pub flagged : length marks ≡ length times
+  pub passing : Passing (part times ends c) (part values ends c) (part marks ends c) q floor e k hi
+
+abbrev pub Goes : List Float → List Float → List ℕ → List ℕ → Way → Entry → ℕ → ℕ → Type 0
+Goes times values marks ends (Within c) here k hi = Runs times values marks ends c k hi
+Goes times values marks ends (Past c floor x0 y0 x1 y1 n) here k hi = PastRun times values marks ends c (knot x0 y0, knot x1 y1) floor here k hi
+
+-- what is said at the key j: what the cell says, or what the sample says whose inverse time was passed last
+abbrev pub saysBy : List Float → List Float → List ℕ → List ℕ → Way → Entry → ℕ → Entry
+saysBy times values marks ends (Within c) here j = saysOn times values marks ends c here j
+saysBy times values marks ends (Past c floor x0 y0 x1 y1 n) here j = passingAt (part times ends c) (part values ends c) (part marks ends c) (knot x0 y0, knot x1 y1) floor j
+
 -- the change where a cell begins at k, if there is one: before it the value is last, there it is here
 abbrev pub begun : Entry → Entry → ℕ → List (Change Entry)
 begun last here k = cond (alike here last) [] (record { key = k; value = here } ∷ [])
 
--- the changes in the cell above k, and with the one at k
+-- the changes in a cell above k and up to hi
+abbrev pub changesCell : List Float → List Float → List ℕ → List ℕ → Cell → Entry → ℕ → ℕ → List (Change Entry)
+changesCell times values marks ends c here k hi = changesTo entry-same (saysOn times values marks ends c here) k hi
+
+-- the changes of a stretch above k, and with the one at k
 abbrev pub changesIn : List Float → List Float → List ℕ → List ℕ → Stretch → ℕ → List (Change Entry)
-changesIn times values marks ends s k = changesTo entry-same (saysOn times values marks ends (s .cell) (entryIs (s .here))) k (s .hi)
+changesIn times values marks ends s k = changesTo entry-same (saysBy times values marks ends (s .way) (entryIs (s .here))) k (s .hi)
 
 abbrev pub changesOn : List Float → List Float → List ℕ → List ℕ → Stretch → Entry → ℕ → List (Change Entry)
 changesOn times values marks ends s last k = begun last (entryIs (s .here)) k ++ changesIn times values marks ends s k
 
--- what the cell says at its last key
+-- what is said at the last key
 abbrev pub lastOn : List Float → List Float → List ℕ → List ℕ → Stretch → Entry
-lastOn times values marks ends s = saysOn times values marks ends (s .cell) (entryIs (s .here)) (s .hi)
+lastOn times values marks ends s = saysBy times values marks ends (s .way) (entryIs (s .here)) (s .hi)
 
--- the stretch from k on in the cell of k, up to top: the value there is what the cell says
+-- the stretch from k on, up to top: the value there is what its way says
 pub record StretchIs (set : ClipSet) (s : Samples) (k top : ℕ) (r : Stretch) : Type 0 where
   pub keys : Keys k (r .hi)
   pub within : r .hi ≤ top
   pub here : entryIs (r .here) ≡ entryAtKey set s k
-  pub runs : Runs (s .times) (s .values) (s .marks) (s .ends) (r .cell) k (r .hi)
-  pub says : Agree k (r .hi) (entryAtKey set s) (saysOn (s .times) (s .values) (s .marks) (s .ends) (r .cell) (entryIs (r .here)))
+  pub runs : Goes (s .times) (s .values) (s .marks) (s .ends) (r .way) (entryIs (r .here)) k (r .hi)
+  pub says : Agree k (r .hi) (entryAtKey set s) (saysBy (s .times) (s .values) (s .marks) (s .ends) (r .way) (entryIs (r .here)))
 
 -- the stretch, and the spot of the walk
 pub record StepIs (starts : List Float) (clips : List ℕ) (xs ys blocks : List Float) (m : Manifest) (times values : List Float) (marks ends : List ℕ) (k top : ℕ) (r : Step) : Type 0 where

@@ -13,6 +13,7 @@ use value::tops::tops_of;
 use value::window::Bound;
 use value::windowed::source_in;
 ghost use mathlib.Core.Path.{_≡_};
+ghost use Prim.Native.Nat.{_-_};
 ghost use lib.ListN.{length};
 ghost use Rattle.definitions.specs.Doubles.{FiniteDouble};
 ghost use Rattle.set_laws.specs.Places.{Ascending};
@@ -108,6 +109,16 @@ fn held_from(xs: &[f64], ys: &[f64], near: Near) -> Bound
     Bound::At(l)
 }
 
+// The place before one, if there is one.
+fn place_before(n: usize) -> usize
+    ensures { λ r. ⌜ r ≡ n - 1 ⌝ }
+{
+    if n == 0 {
+        return 0;
+    }
+    n - 1
+}
+
 // The cell of t and its end. One start: direct, up to the next knot. Several: held from the lower
 // neighbour or direct, up to the upper one.
 pub fn piece_at(
@@ -189,7 +200,9 @@ pub fn piece_at(
             sample: found.sample,
         };
     };
-    let held = source_in(xs, ys, times, w, l, found.knot, found.sample);
+    // the lower neighbour is the inverse time of a sample before the turn or at it
+    let hint = place_before(found.sample);
+    let held = source_in(xs, ys, times, w, l, found.knot, hint);
     Piece {
         cell: Cell::Constant(held),
         end: upper,

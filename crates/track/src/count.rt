@@ -2,10 +2,12 @@
 use crate::cell::Cell;
 use crate::entry::Entry;
 use crate::entry::alike;
+use crate::passing::count_passed;
 use crate::reading::Counted;
 use crate::reading::count_changes;
 use crate::spot::no_spot;
 use crate::stretch::Stretch;
+use crate::stretch::Way;
 use crate::stretch::stretch_at;
 use definitions::Manifest;
 use value::direct::clip_begin;
@@ -19,7 +21,35 @@ ghost use Rattle.value.specs.Tops.{TopsOf};
 ghost use Rattle.track.specs.Entries.{entryIs};
 ghost use Rattle.track.specs.Bakes.{changesOf};
 ghost use Rattle.track.specs.Readings.{CountIs};
-ghost use Rattle.track.specs.Runs.{Runs, changesIn, changesOn, lastOn};
+ghost use Rattle.track.specs.Runs.{Runs, Goes, saysOn, changesCell, changesIn, changesOn, lastOn};
+
+// The changes above the key k and up to hi in a cell that says `here` at k.
+fn count_cell(
+    times: &[f64],
+    values: &[f64],
+    marks: &[u8],
+    ends: &[u64],
+    cell: Cell,
+    here: Entry,
+    k: u64,
+    hi: u64,
+    room: usize,
+) -> Counted
+    requires { ⌜ Keys k hi ⌝ }
+    requires { ⌜ Runs (now times) (now values) (now marks) (now ends) cell k hi ⌝ }
+    ensures { λ r. ⌜ CountIs (changesCell (now (times .entry)) (now (values .entry)) (now (marks .entry)) (now (ends .entry)) cell (entryIs here) k hi) (saysOn (now (times .entry)) (now (values .entry)) (now (marks .entry)) (now (ends .entry)) cell (entryIs here) hi) room (r .fits) (r .count) (entryIs (r .last)) ⌝ }
+{
+    let Cell::Reading(clip, line) = cell else {
+        return Counted {
+            fits: true,
+            count: 0,
+            last: here,
+        };
+    };
+    let a = clip_begin(ends, clip);
+    let b = clip_end(ends, clip);
+    count_changes(&times[a..b], &values[a..b], &marks[a..b], line, k, hi, room)
+}
 
 // The changes above the key k in its stretch.
 fn count_in(
@@ -32,29 +62,34 @@ fn count_in(
     room: usize,
 ) -> Counted
     requires { ⌜ Keys k (s .hi) ⌝ }
-    requires { ⌜ Runs (now times) (now values) (now marks) (now ends) (s .cell) k (s .hi) ⌝ }
+    requires { ⌜ Goes (now times) (now values) (now marks) (now ends) (s .way) (entryIs (s .here)) k (s .hi) ⌝ }
     ensures { λ r. ⌜ CountIs (changesIn (now (times .entry)) (now (values .entry)) (now (marks .entry)) (now (ends .entry)) s k) (lastOn (now (times .entry)) (now (values .entry)) (now (marks .entry)) (now (ends .entry)) s) room (r .fits) (r .count) (entryIs (r .last)) ⌝ }
 {
-    let cell = s.cell;
+    let way = s.way;
     let here = s.here;
-    let Cell::Reading(clip, line) = cell else {
-        return Counted {
-            fits: true,
-            count: 0,
-            last: here,
-        };
-    };
-    let a = clip_begin(ends, clip);
-    let b = clip_end(ends, clip);
-    count_changes(
-        &times[a..b],
-        &values[a..b],
-        &marks[a..b],
-        line,
-        k,
-        s.hi,
-        room,
-    )
+    let hi = s.hi;
+    match way {
+        Way::Within(cell) => count_cell(times, values, marks, ends, cell, here, k, hi, room),
+        Way::Past(clip, floor, x0, y0, x1, y1, n) => {
+            let a = clip_begin(ends, clip);
+            let b = clip_end(ends, clip);
+            count_passed(
+                &times[a..b],
+                &values[a..b],
+                &marks[a..b],
+                floor,
+                x0,
+                y0,
+                x1,
+                y1,
+                here,
+                n,
+                k,
+                hi,
+                room,
+            )
+        }
+    }
 }
 
 // The changes from the key k on in its stretch. Before k the value is `last`.
@@ -69,7 +104,7 @@ fn count_on(
     room: usize,
 ) -> Counted
     requires { ⌜ Keys k (s .hi) ⌝ }
-    requires { ⌜ Runs (now times) (now values) (now marks) (now ends) (s .cell) k (s .hi) ⌝ }
+    requires { ⌜ Goes (now times) (now values) (now marks) (now ends) (s .way) (entryIs (s .here)) k (s .hi) ⌝ }
     ensures { λ r. ⌜ CountIs (changesOn (now (times .entry)) (now (values .entry)) (now (marks .entry)) (now (ends .entry)) s (entryIs last) k) (lastOn (now (times .entry)) (now (values .entry)) (now (marks .entry)) (now (ends .entry)) s) room (r .fits) (r .count) (entryIs (r .last)) ⌝ }
 {
     let here = s.here;

@@ -8,8 +8,12 @@ pub mod line;
 pub mod steps;
 // The changes where a clip is read along a line.
 pub mod reading;
+// The changes over a run of samples that are passed in one segment.
+pub mod passing;
 // The window that a walk is in.
 pub mod spot;
+// Where a run of samples in one segment begins.
+pub mod onset;
 // The stretches on which one source is read, or one clip along one line.
 pub mod cell;
 // The cell of a window without knots.

@@ -32,7 +32,7 @@ pub struct Wrote {
 }
 
 // The entry of the sample at a place. The value of a block is 0.0.
-fn entry_of_sample(vs: &[f64], ms: &[u8], place: usize) -> Entry
+pub fn entry_of_sample(vs: &[f64], ms: &[u8], place: usize) -> Entry
     requires { ⌜ place < length (now vs) ⌝ }
     requires { ⌜ place < length (now ms) ⌝ }
     ensures { λ r. ⌜ entryIs r ≡ entryAt (now (vs .entry)) (now (ms .entry)) place ⌝ }

@@ -2,10 +2,12 @@
 use crate::cell::Cell;
 use crate::entry::Entry;
 use crate::entry::alike;
+use crate::passing::write_passed;
 use crate::reading::Wrote;
 use crate::reading::write_changes;
 use crate::spot::no_spot;
 use crate::stretch::Stretch;
+use crate::stretch::Way;
 use crate::stretch::stretch_at;
 use definitions::Manifest;
 use value::direct::clip_begin;
@@ -20,7 +22,7 @@ ghost use Rattle.value.specs.Tops.{TopsOf};
 ghost use Rattle.track.specs.Entries.{entryIs};
 ghost use Rattle.track.specs.Bakes.{changesOf, Room, Written};
 ghost use Rattle.track.specs.Readings.{RoomFrom, WrittenFrom};
-ghost use Rattle.track.specs.Runs.{Runs, begun, changesIn, changesOn, lastOn};
+ghost use Rattle.track.specs.Runs.{Runs, Goes, begun, saysOn, changesCell, changesIn, changesOn, lastOn};
 
 // Writes the change at the key k where the value there is not alike to the one before, to slot n.
 fn write_first(
@@ -45,26 +47,26 @@ fn write_first(
     n + 1
 }
 
-// Writes the changes above the key k in its stretch from slot n on.
-fn write_in(
+// Writes the changes above the key k and up to hi in a cell that says `here` at k, from slot n on.
+fn write_cell(
     times: &[f64],
     values: &[f64],
     marks: &[u8],
     ends: &[u64],
-    s: Stretch,
+    cell: Cell,
+    here: Entry,
     k: u64,
+    hi: u64,
     n: usize,
     outtimes: &mut [f64],
     outvalues: &mut [f64],
     outmarks: &mut [u8],
 ) -> Wrote
-    requires { ⌜ Keys k (s .hi) ⌝ }
-    requires { ⌜ Runs (now times) (now values) (now marks) (now ends) (s .cell) k (s .hi) ⌝ }
-    requires { ⌜ RoomFrom n (changesIn (now times) (now values) (now marks) (now ends) s k) (now outtimes) (now outvalues) (now outmarks) ⌝ }
-    ensures { λ r. ⌜ WrittenFrom n (changesIn (now (times .entry)) (now (values .entry)) (now (marks .entry)) (now (ends .entry)) s k) (lastOn (now (times .entry)) (now (values .entry)) (now (marks .entry)) (now (ends .entry)) s) (now (outtimes .entry)) (now (outvalues .entry)) (now (outmarks .entry)) (now (outtimes .exit)) (now (outvalues .exit)) (now (outmarks .exit)) (r .count) (entryIs (r .last)) ⌝ }
+    requires { ⌜ Keys k hi ⌝ }
+    requires { ⌜ Runs (now times) (now values) (now marks) (now ends) cell k hi ⌝ }
+    requires { ⌜ RoomFrom n (changesCell (now times) (now values) (now marks) (now ends) cell (entryIs here) k hi) (now outtimes) (now outvalues) (now outmarks) ⌝ }
+    ensures { λ r. ⌜ WrittenFrom n (changesCell (now (times .entry)) (now (values .entry)) (now (marks .entry)) (now (ends .entry)) cell (entryIs here) k hi) (saysOn (now (times .entry)) (now (values .entry)) (now (marks .entry)) (now (ends .entry)) cell (entryIs here) hi) (now (outtimes .entry)) (now (outvalues .entry)) (now (outmarks .entry)) (now (outtimes .exit)) (now (outvalues .exit)) (now (outmarks .exit)) (r .count) (entryIs (r .last)) ⌝ }
 {
-    let cell = s.cell;
-    let here = s.here;
     let Cell::Reading(clip, line) = cell else {
         return Wrote {
             count: n,
@@ -79,12 +81,73 @@ fn write_in(
         &marks[a..b],
         line,
         k,
-        s.hi,
+        hi,
         n,
         outtimes,
         outvalues,
         outmarks,
     )
+}
+
+// Writes the changes above the key k in its stretch from slot n on.
+fn write_in(
+    times: &[f64],
+    values: &[f64],
+    marks: &[u8],
+    ends: &[u64],
+    s: Stretch,
+    k: u64,
+    n: usize,
+    outtimes: &mut [f64],
+    outvalues: &mut [f64],
+    outmarks: &mut [u8],
+) -> Wrote
+    requires { ⌜ Keys k (s .hi) ⌝ }
+    requires { ⌜ Goes (now times) (now values) (now marks) (now ends) (s .way) (entryIs (s .here)) k (s .hi) ⌝ }
+    requires { ⌜ RoomFrom n (changesIn (now times) (now values) (now marks) (now ends) s k) (now outtimes) (now outvalues) (now outmarks) ⌝ }
+    ensures { λ r. ⌜ WrittenFrom n (changesIn (now (times .entry)) (now (values .entry)) (now (marks .entry)) (now (ends .entry)) s k) (lastOn (now (times .entry)) (now (values .entry)) (now (marks .entry)) (now (ends .entry)) s) (now (outtimes .entry)) (now (outvalues .entry)) (now (outmarks .entry)) (now (outtimes .exit)) (now (outvalues .exit)) (now (outmarks .exit)) (r .count) (entryIs (r .last)) ⌝ }
+{
+    let way = s.way;
+    let here = s.here;
+    let hi = s.hi;
+    match way {
+        Way::Within(cell) => write_cell(
+            times,
+            values,
+            marks,
+            ends,
+            cell,
+            here,
+            k,
+            hi,
+            n,
+            outtimes,
+            outvalues,
+            outmarks,
+        ),
+        Way::Past(clip, floor, x0, y0, x1, y1, near) => {
+            let a = clip_begin(ends, clip);
+            let b = clip_end(ends, clip);
+            write_passed(
+                &times[a..b],
+                &values[a..b],
+                &marks[a..b],
+                floor,
+                x0,
+                y0,
+                x1,
+                y1,
+                here,
+                near,
+                k,
+                hi,
+                n,
+                outtimes,
+                outvalues,
+                outmarks,
+            )
+        }
+    }
 }
 
 // Writes the changes from the key k on in its stretch from slot n on. Before k the value is `last`.
@@ -102,7 +165,7 @@ fn write_on(
     outmarks: &mut [u8],
 ) -> Wrote
     requires { ⌜ Keys k (s .hi) ⌝ }
-    requires { ⌜ Runs (now times) (now values) (now marks) (now ends) (s .cell) k (s .hi) ⌝ }
+    requires { ⌜ Goes (now times) (now values) (now marks) (now ends) (s .way) (entryIs (s .here)) k (s .hi) ⌝ }
     requires { ⌜ RoomFrom n (changesOn (now times) (now values) (now marks) (now ends) s (entryIs last) k) (now outtimes) (now outvalues) (now outmarks) ⌝ }
     ensures { λ r. ⌜ WrittenFrom n (changesOn (now (times .entry)) (now (values .entry)) (now (marks .entry)) (now (ends .entry)) s (entryIs last) k) (lastOn (now (times .entry)) (now (values .entry)) (now (marks .entry)) (now (ends .entry)) s) (now (outtimes .entry)) (now (outvalues .entry)) (now (outmarks .entry)) (now (outtimes .exit)) (now (outvalues .exit)) (now (outmarks .exit)) (r .count) (entryIs (r .last)) ⌝ }
 {

@@ -8,13 +8,14 @@ use Prim.Native.Nat.{ℕ, _+_, _≤_, _<_}
 use native.Mathlib.Omega.{arith}
 use lib.Dec.{T, ltb, T-not}
 use lib.ListN.{length, getD, drop}
-use lib.Ieee.{Float, lt, le, eq}
+use lib.Ieee.{Float, lt, le, eq, isNan}
 use borrow.Author.Tests.{ltb-true, ltb-false, lt-ltb, le-ltb}
-use Rattle.gf.specs.Key.{lt-not-le}
+use Rattle.gf.specs.Key.{key→le, le-no-nan, lt→le, le-refl, le-both, lt-not-le}
 use Rattle.gf.specs.Doubles.{totalKey}
 use Rattle.gf.specs.declared.interval.Interval.{Interval}
 use Rattle.definitions.specs.Lists.{any, keep}
 use Rattle.set_laws.specs.Every.{Every}
+use Rattle.set_laws.specs.Stored.{total→key}
 use Rattle.cell_laws.specs.Every.{every-map, every-zip, every-append, every-left, every-right, or-l, or-r}
 use Rattle.cell_laws.specs.Places.{Fits}
 use Rattle.cell_laws.specs.Neighbours.{IsLower, IsUpper}
@@ -246,12 +247,42 @@ in-any x (y ∷ l) h (inl e) = or-l (eq y x) (any (λ (z : Float). eq z x) l) (s
 in-any x (y ∷ l) h (inr i) = or-r (eq y x) (any (λ (z : Float). eq z x) l) (in-any x l h i)
 
 module _ (t : Float) (ft : Fits t) (l : List Float) (fit : Every Fits l) where
+  itself : (x : Float) → Fits x → T (not (isNan x)) → T (eq x x)
+  itself x f n = let r = le-refl x f n in le-both x x f f r r
+
+  total-le : (x y : Float) → Fits x → Fits y → T (not (isNan x)) → T (not (isNan y)) → totalKey x ≤ totalKey y → T (le x y)
+  total-le x y f g n m h = key→le x y f g n m (total→key x y f g h)
+
   beyond : (y : Float) → Fits y → T (lt t y) → T (not (le y t))
   beyond y g u = go (le y t) (lt-not-le t y ft g u)
     where
       go : (b : Bool) → (T b → ⊥) → T (not b)
       go true f = f tt
       go false f = tt
+
+  lower-of : (b : Bound) → LowerAmong l t b → Every (λ (x : Float). T (le x t) → LowerPast b x) l → LowerIs l t b
+  lower-of Nothing m k = k
+  lower-of (At x) m k =
+      let f = in-every Fits x l fit (m .0) in
+      let n = le-no-nan x t (m .1) .0 in
+      record {
+        fits = f;
+        listed = in-any x l (itself x f n) (m .0);
+        upto = m .1;
+        last = every-zip Fits (λ (y : Float). T (le y t) → totalKey y ≤ totalKey x) (λ (y : Float). T (le y t) → T (le y x)) (λ y g c u. total-le y x g f (le-no-nan y t u .0) n (c u)) l fit k;
+      }
+
+  upper-of : (b : Bound) → UpperAmong l t b → Every (λ (x : Float). T (not (le x t)) → T (lt t x) → UpperPast b x) l → UpperIs l t b
+  upper-of Nothing m k = every-zip Fits (λ (y : Float). T (not (le y t)) → T (lt t y) → ⊥) (λ (y : Float). T (lt t y) → ⊥) (λ y g c u. c (beyond y g u) u) l fit k
+  upper-of (At x) m k =
+      let f = in-every Fits x l fit (m .0) in
+      let n = le-no-nan t x (lt→le t x (m .1)) .1 in
+      record {
+        fits = f;
+        listed = in-any x l (itself x f n) (m .0);
+        above = m .1;
+        first = every-zip Fits (λ (y : Float). T (not (le y t)) → T (lt t y) → totalKey x ≤ totalKey y) (λ (y : Float). T (lt t y) → T (le x y)) (λ y g c u. total-le x y f g n (le-no-nan t y (lt→le t y u) .1) (c (beyond y g u) u)) l fit k;
+      }
 
   -- the least of the times above t by `total_cmp`
   pub next-of : (r : Bounds) → Scanned t l nothing r → NextIs l t (r .upper)
@@ -264,3 +295,11 @@ module _ (t : Float) (ft : Fits t) (l : List Float) (fit : Every Fits l) where
         m .1,
         every-zip Fits (λ (y : Float). T (not (le y t)) → T (lt t y) → totalKey x ≤ totalKey y) (λ (y : Float). T (lt t y) → totalKey x ≤ totalKey y) (λ y g c u. c (beyond y g u) u) l fit k,
       )
+
+  pub neighbours-of : (r : Bounds) → Scanned t l nothing r → NeighboursAre l t r
+  neighbours-of r S =
+      let a = S .among l (every-in l) (tt, tt) in
+      record {
+        lower = lower-of (r .lower) (a .0) (every-map (Past t r) (λ (x : Float). T (le x t) → LowerPast (r .lower) x) (λ x p. p .0) l (S .known));
+        upper = upper-of (r .upper) (a .1) (every-map (Past t r) (λ (x : Float). T (not (le x t)) → T (lt t x) → UpperPast (r .upper) x) (λ x p. p .1) l (S .known));
+      }

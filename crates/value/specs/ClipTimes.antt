@@ -33,7 +33,7 @@ module _ (xs ys : List Float) (a : Ascending xs) (e : length xs ≡ length ys) (
   next : le (getD xs (i + 1) nan) t ≡ false
   next = is-false (le (getD xs (i + 1) nan) t) (λ h. lt-not-le t (getD xs (i + 1) nan) ft (fits-at (i + 1) (O .place)) (holds (lt t (getD xs (i + 1) nan)) (O .upto)) h)
 
-  found : i ≡ lastAtMost xs t
+  pub found : i ≡ lastAtMost xs t
   found =
       let p = beyond t ft nan xs a i (omega (arith, O .place)) (O .from) in
       let q = up-to t ft nan xs a (i + 1) (O .place) next in
@@ -53,7 +53,7 @@ module _ (xs ys : List Float) (a : Ascending xs) (e : length xs ≡ length ys) (
       (λ h. lt-not-le t (getD xs (i + 1) nan) ft (fits-at (i + 1) (O .place)) (holds (lt t (getD xs (i + 1) nan)) (O .upto))
       (le-trans (getD xs (i + 1) nan) (getD xs (length xs - 1) nan) t (fits-at (i + 1) (O .place)) (fits-at (length xs - 1) l) ft (step-le xs a t t ft ft (i + 1) (length xs - 1) (omega (arith, O .place)) l) h))
 
-  on-segment : onSegment (knot (getD xs i nan) (getD ys i nan)) (knot (getD xs (i + 1) nan) (getD ys (i + 1) nan)) t ≡ mapTime (knotsOf xs ys) t
+  pub on-segment : onSegment (knot (getD xs i nan) (getD ys i nan)) (knot (getD xs (i + 1) nan) (getD ys (i + 1) nan)) t ≡ mapTime (knotsOf xs ys) t
   unfolding mapTime
   on-segment = go xs ys e (length xs - 1) (omega (arith, O .place)) first last found (O .place)
     where

@@ -37,3 +37,5 @@ pub mod Jumps
 pub mod ClipTimes
 -- What is handed on of a window
 pub mod Handed
+-- The neighbours along a run of samples in one segment
+pub mod Passes

@@ -93,7 +93,7 @@ module _ (t : Float) (w : Interval) (xs ys cs : List Float) where
   }
 
   -- what a segment's inverse times are, one by one
-  segment-times : (j : ℕ) (P : Float → Type 0) → ((c : Float) → T (spans (getD ys j nan) (getD ys (j + 1) nan) c) → T (inside w (inverse (segmentOf xs ys j .0) (segmentOf xs ys j .1) c)) → P (inverse (segmentOf xs ys j .0) (segmentOf xs ys j .1) c))
+  pub segment-times : (j : ℕ) (P : Float → Type 0) → ((c : Float) → T (spans (getD ys j nan) (getD ys (j + 1) nan) c) → T (inside w (inverse (segmentOf xs ys j .0) (segmentOf xs ys j .1) c)) → P (inverse (segmentOf xs ys j .0) (segmentOf xs ys j .1) c))
       → Every P (timesOf w xs ys cs j)
   unfolding onSegment
   segment-times j P f =
@@ -116,7 +116,7 @@ module _ (t : Float) (w : Interval) (xs ys cs : List Float) where
     inv j c = inverse (segmentOf xs ys j .0) (segmentOf xs ys j .1) c
 
     -- an inverse time is a number, from the segment's first knot on
-    inverse-number : (j : ℕ) → j + 1 < length xs → (c : Float) → T (spans (getD ys j nan) (getD ys (j + 1) nan) c) → Number (inv j c) × (key (getD xs j nan) ≤ key (inv j c))
+    pub inverse-number : (j : ℕ) → j + 1 < length xs → (c : Float) → T (spans (getD ys j nan) (getD ys (j + 1) nan) c) → Number (inv j c) × (key (getD xs j nan) ≤ key (inv j c))
     inverse-number j h c s =
         let r = range (segmentOf xs ys j) (segment-here xs ys e S j h) c s in
         let n = le-no-nan (getD xs j nan) (inv j c) (r .0) in
@@ -162,7 +162,7 @@ module _ (t : Float) (w : Interval) (xs ys cs : List Float) where
 
     -- by places and as they are gathered
     module _ (P : Float → Type 0) where
-      to-places : Every P (keep (inside w) (inversesOf (knotsOf xs ys) cs)) → (j : ℕ) → j + 1 < length xs → Every P (timesOf w xs ys cs j)
+      pub to-places : Every P (keep (inside w) (inversesOf (knotsOf xs ys) cs)) → (j : ℕ) → j + 1 < length xs → Every P (timesOf w xs ys cs j)
       to-places = go (knotsOf xs ys) (knots-long xs ys e) (λ j h. knots-at xs ys e j nan nan (knot nan nan) h)
         where
           go : (k : List Knot) → length k ≡ length xs → ((j : ℕ) → j < length xs → getD k j (knot nan nan) ≡ segmentOf xs ys j .0)
@@ -175,7 +175,7 @@ module _ (t : Float) (w : Interval) (xs ys cs : List Float) where
               let z : getD (pairs (k ∷ rest)) j (d, d) ≡ segmentOf xs ys j = pairs-at (k ∷ rest) j d (omega arith) ∙ ap₂ (λ (u v : Knot). (u, v)) (f j (omega arith)) (ap (λ (n : ℕ). getD (k ∷ rest) n d) (sym (add-one j)) ∙ f (j + 1) b) in
               every-if P (inside w) (onSegment cs (segmentOf xs ys j)) (subst (λ (q : Knot × Knot). Every (λ (x : Float). T (inside w x) → P x) (onSegment cs q)) z here)
 
-      from-places : ((j : ℕ) → j + 1 < length xs → Every P (timesOf w xs ys cs j)) → Every P (keep (inside w) (inversesOf (knotsOf xs ys) cs))
+      pub from-places : ((j : ℕ) → j + 1 < length xs → Every P (timesOf w xs ys cs j)) → Every P (keep (inside w) (inversesOf (knotsOf xs ys) cs))
       from-places = go (knotsOf xs ys) (knots-long xs ys e) (λ j h. knots-at xs ys e j nan nan (knot nan nan) h)
         where
           go : (k : List Knot) → length k ≡ length xs → ((j : ℕ) → j < length xs → getD k j (knot nan nan) ≡ segmentOf xs ys j .0)

@@ -102,7 +102,7 @@ pub fn window_of(
 }
 
 // Whether `t` lies in the segment from the knot at the place `knot` to the next.
-fn is_between(xs: &[f64], t: f64, knot: usize) -> bool
+pub fn is_between(xs: &[f64], t: f64, knot: usize) -> bool
     ensures { λ r. ⌜ ((r ≡ true) → OnSegment (now (xs .entry)) t knot) ⌝ }
 {
     if knot < xs.len() {

@@ -73,20 +73,23 @@ returns-2 c =
     near-direct (a .pre .0) (a .args .t) (a .pre .1 .1 .1) s (a .args .spot .p) (a .pre .1 .1 .0 .place (omega arith)) (a .args .spot .w) (window e) (n .near-in .result) (n .near-in .ensures) (c .direct-cell2 .result)
     (sym (c .before .before .before .held-from .ensures) ∙ c .before .enum-told .given .1) (c .direct-cell2 .ensures)
 
+place-before-requires : tie.Need-place-before-requires
+place-before-requires c κs = tt
+
 source-in-requires : tie.Need-source-in-requires
 source-in-requires c κs =
-    let e = c .before .before .before .before .before .before .before in
+    let e = c .before .before .before .before .before .before .before .before in
     let a = entry e in
     (ready-readable (a .pre .0) .knots, (a .pre .0 .knots-paired, window-lent (a .pre .0) (a .args .spot .p) (a .args .spot .w) (window e)))
 
 returns-3 : tie.Need-returns-3
 returns-3 c =
-    let n = c .before .before .before .before .before in
+    let n = c .before .before .before .before .before .before in
     let e = n .before .before .before in
     let a = entry e in
     let s = several e in
-    near-held (a .pre .0) (a .args .t) (a .pre .1 .1 .1) s (a .args .spot .p) (a .pre .1 .1 .0 .place (omega arith)) (a .args .spot .w) (window e) (n .near-in .result) (n .near-in .ensures) (c .before .before .l .given .0 .0) (c .source-in .result)
-    (sym (c .before .before .before .before .held-from .ensures) ∙ c .before .before .l .given .1) (c .source-in .ensures)
+    near-held (a .pre .0) (a .args .t) (a .pre .1 .1 .1) s (a .args .spot .p) (a .pre .1 .1 .0 .place (omega arith)) (a .args .spot .w) (window e) (n .near-in .result) (n .near-in .ensures) (c .before .before .before .l .given .0 .0) (c .source-in .result)
+    (sym (c .before .before .before .before .before .held-from .ensures) ∙ c .before .before .before .l .given .1) (c .source-in .ensures)
 
 pub piece-at-spec : {M : Type 1} → statement M
 piece-at-spec =
@@ -105,5 +108,6 @@ piece-at-spec =
     enum-told
     direct-cell-requires-2
     returns-2
+    place-before-requires
     source-in-requires
     returns-3)

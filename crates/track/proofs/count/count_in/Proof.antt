@@ -1,51 +1,64 @@
 -- `count::count_in` meets its contract. Assumes nothing.
 use mathlib.Core.Path.{_≡_, sym, subst}
-use mathlib.Core.Bool.{true}
 use mathlib.Core.List.{List}
-use Prim.Native.Nat.{_≤_}
+use Prim.Native.Nat.{ℕ, _≤_}
 use native.Mathlib.Omega.{arith}
 use lib.ListN.{length}
 use lib.Ieee.{Float}
+use Rattle.definitions.specs.declared.Knot.{Knot}
+use Rattle.definitions.specs.Explicit.{knot}
 use Rattle.track_laws.specs.Track.{changesTo}
 use Rattle.cell_laws.specs.Tracks.{entry-same}
-use Rattle.track.specs.declared.cell.Cell.{Cell}
+use Rattle.track.specs.declared.stretch.Way.{Way}
 use Rattle.track.specs.Entries.{entryIs}
-use Rattle.track.specs.Readings.{readingAt, changesRead, CountIs}
-use Rattle.track.specs.Runs.{Run, Runs, saysOn}
-use Rattle.track.proofs.Cuts.{uncut, cut-reads, cut-turns, cut-inside}
-use Rattle.track.proofs.Counting.{counted-none}
-use Rattle.track.proofs.Onward.{none-level}
+use Rattle.track.specs.Readings.{CountIs}
+use Rattle.track.specs.Passages.{passingAt, changesPassing, Passing}
+use Rattle.track.specs.Runs.{PastRun, Goes, saysBy}
+use Rattle.track.proofs.Cuts.{uncut, recut}
 use borrow.Author.Needs.{needs}
 use Rattle.track.proofs.count.count_in.Statement.{statement}
 use Rattle.track.proofs.count.count_in.Tie as tie
 
-abbrev entry : tie.After-known-told → tie.Start
+abbrev entry : tie.After-known-told2 → tie.Start
 entry c = c .before .before .before .before .before .before .before .before
 
--- the clip's part can be read
-run : (c : tie.After-known-told) → Run (entry c .args .times .now) (entry c .args .values .now) (entry c .args .marks .now) (entry c .args .ends .now) (c .before .cell .given .0 .0) (c .before .cell .given .0 .1 .0) (entry c .args .k) (entry c .args .s .hi)
+-- the segment, the lower neighbour
+abbrev clip : (c : tie.After-known-told2) → ℕ
+clip c = c .before .way2 .given .0 .0
+
+abbrev floor : (c : tie.After-known-told2) → Float
+floor c = c .before .way2 .given .0 .1 .0
+
+abbrev pair : (c : tie.After-known-told2) → Knot × Knot
+pair c = (knot (c .before .way2 .given .0 .1 .1 .0) (c .before .way2 .given .0 .1 .1 .1 .0), knot (c .before .way2 .given .0 .1 .1 .1 .1 .0) (c .before .way2 .given .0 .1 .1 .1 .1 .1 .0))
+
+run : (c : tie.After-known-told2) → PastRun (entry c .args .times .now) (entry c .args .values .now) (entry c .args .marks .now) (entry c .args .ends .now) (clip c) (pair c) (floor c) (entryIs (entry c .args .s .here)) (entry c .args .k) (entry c .args .s .hi)
 run c =
     let a = entry c .args in
-    subst (λ (d : Cell). Runs (a .times .now) (a .values .now) (a .marks .now) (a .ends .now) d (a .k) (a .s .hi)) (c .before .cell .given .1) (entry c .pre .1)
+    subst (λ (d : Way). Goes (a .times .now) (a .values .now) (a .marks .now) (a .ends .now) d (entryIs (a .s .here)) (a .k) (a .s .hi)) (c .before .way2 .given .1) (entry c .pre .1)
 
 inside : (c : tie.After-clip-end) → (c .before .clip-begin .result ≤ c .clip-end .result) × (c .clip-end .result ≤ length (entry (c .before .before) .args .times .now)) × (c .clip-end .result ≤ length (entry (c .before .before) .args .values .now)) × (c .clip-end .result ≤ length (entry (c .before .before) .args .marks .now))
 inside c =
-    let t = c .before .before in
-    let a = entry t .args in
-    cut-inside (a .times .now) (a .values .now) (a .marks .now) (a .ends .now) (t .before .cell .given .0 .0) (c .before .clip-begin .result) (c .clip-end .result) (c .before .clip-begin .ensures) (c .clip-end .ensures) (t .before .cell .given .0 .1 .0) (a .k) (a .s .hi) (run t)
+    let R = run (c .before .before) in
+    let b = c .before .clip-begin .ensures in
+    let e = c .clip-end .ensures in
+    let f = R .from in
+    let i = R .inside in
+    let v = R .valued in
+    let m = R .flagged in
+    (omega arith, omega arith, omega arith, omega arith)
 
-enum-known-cell : tie.Need-enum-known-cell
-enum-known-cell c = search needs
+enum-known-way : tie.Need-enum-known-way
+enum-known-way c = search needs
 
-enum-told : tie.Need-enum-told
-enum-told c = search needs
+count-cell-requires : tie.Need-count-cell-requires
+count-cell-requires c κs =
+    let s = c .before .before .before .before .before .before .before .before in
+    let a = s .args in
+    (s .pre .0, subst (λ (d : Way). Goes (a .times .now) (a .values .now) (a .marks .now) (a .ends .now) d (entryIs (a .s .here)) (a .k) (a .s .hi)) (c .before .way .given .1) (s .pre .1))
 
-returns : tie.Need-returns
-returns c =
-    let b = c .before .before .before .before .before .before .before in
-    let a = b .args in
-    subst (λ (d : Cell). CountIs (changesTo entry-same (saysOn (a .times .now) (a .values .now) (a .marks .now) (a .ends .now) d (entryIs (a .s .here))) (a .k) (a .s .hi)) (saysOn (a .times .now) (a .values .now) (a .marks .now) (a .ends .now) d (entryIs (a .s .here)) (a .s .hi)) (a .room) true 0 (entryIs (a .s .here)))
-    (sym (c .enum-told .given .1)) (counted-none _ (entryIs (a .s .here)) (a .room) (none-level (entryIs (a .s .here)) (a .k) (a .s .hi) (b .pre .0 .order)))
+enum-known-way-2 : tie.Need-enum-known-way-2
+enum-known-way-2 c = search needs
 
 clip-begin-requires : tie.Need-clip-begin-requires
 clip-begin-requires c κs = run c .clip
@@ -53,81 +66,86 @@ clip-begin-requires c κs = run c .clip
 clip-end-requires : tie.Need-clip-end-requires
 clip-end-requires c κs = run (c .before) .clip
 
-mul-count-changes : tie.Need-mul-count-changes
-mul-count-changes c = let h = inside c in omega (arith, entry (c .before .before) .good)
+mul-count-passed : tie.Need-mul-count-passed
+mul-count-passed c = let h = inside c in omega (arith, entry (c .before .before) .good)
 
-sub-count-changes : tie.Need-sub-count-changes
-sub-count-changes c = inside c .0
+sub-count-passed : tie.Need-sub-count-passed
+sub-count-passed c = inside c .0
 
-part-count-changes-start : tie.Need-part-count-changes-start
-part-count-changes-start c = inside c .0
+part-count-passed-start : tie.Need-part-count-passed-start
+part-count-passed-start c = inside c .0
 
-part-count-changes-end : tie.Need-part-count-changes-end
-part-count-changes-end c = let h = inside c in search needs
+part-count-passed-end : tie.Need-part-count-passed-end
+part-count-passed-end c = let h = inside c in search needs
 
-mul-count-changes-2 : tie.Need-mul-count-changes-2
-mul-count-changes-2 c = let h = inside (c .before) in omega (arith, entry (c .before .before .before) .good)
+mul-count-passed-2 : tie.Need-mul-count-passed-2
+mul-count-passed-2 c = let h = inside (c .before) in omega (arith, entry (c .before .before .before) .good)
 
-sub-count-changes-2 : tie.Need-sub-count-changes-2
-sub-count-changes-2 c = inside (c .before) .0
+sub-count-passed-2 : tie.Need-sub-count-passed-2
+sub-count-passed-2 c = inside (c .before) .0
 
-part-count-changes-start-2 : tie.Need-part-count-changes-start-2
-part-count-changes-start-2 c = inside (c .before) .0
+part-count-passed-start-2 : tie.Need-part-count-passed-start-2
+part-count-passed-start-2 c = inside (c .before) .0
 
-part-count-changes-end-2 : tie.Need-part-count-changes-end-2
-part-count-changes-end-2 c = let h = inside (c .before) in search needs
+part-count-passed-end-2 : tie.Need-part-count-passed-end-2
+part-count-passed-end-2 c = let h = inside (c .before) in search needs
 
-sub-count-changes-3 : tie.Need-sub-count-changes-3
-sub-count-changes-3 c = inside (c .before .before) .0
+sub-count-passed-3 : tie.Need-sub-count-passed-3
+sub-count-passed-3 c = inside (c .before .before) .0
 
-part-count-changes-start-3 : tie.Need-part-count-changes-start-3
-part-count-changes-start-3 c = inside (c .before .before) .0
+part-count-passed-start-3 : tie.Need-part-count-passed-start-3
+part-count-passed-start-3 c = inside (c .before .before) .0
 
-part-count-changes-end-3 : tie.Need-part-count-changes-end-3
-part-count-changes-end-3 c = let h = inside (c .before .before) in search needs
+part-count-passed-end-3 : tie.Need-part-count-passed-end-3
+part-count-passed-end-3 c = let h = inside (c .before .before) in search needs
 
-count-changes-requires : tie.Need-count-changes-requires
-count-changes-requires c κs =
+count-passed-requires : tie.Need-count-passed-requires
+count-passed-requires c κs =
     let e = c .before .before .before in
     let t = e .before .before in
     let a = entry t .args in
-    let g = t .before .cell .given .0 in (
-      cut-reads (a .times .now) (a .values .now) (a .marks .now) (a .ends .now) (g .0) (e .before .clip-begin .result) (e .clip-end .result) (e .before .clip-begin .ensures) (e .clip-end .ensures) (g .1 .0) (a .k) (a .s .hi) (run t),
-      (entry t .pre .0, cut-turns (a .times .now) (a .values .now) (a .marks .now) (a .ends .now) (g .0) (e .before .clip-begin .result) (e .clip-end .result) (e .before .clip-begin .ensures) (e .clip-end .ensures) (g .1 .0) (a .k) (a .s .hi) (run t)),
-    )
+    recut (a .times .now) (a .values .now) (a .marks .now) (a .ends .now) (clip t) (e .before .clip-begin .result) (e .clip-end .result) (e .before .clip-begin .ensures) (e .clip-end .ensures)
+    (λ (ts vs : List Float) (ms : List ℕ). Passing ts vs ms (pair t) (floor t) (entryIs (a .s .here)) (a .k) (a .s .hi)) (run t .passing)
+
+returns : tie.Need-returns
+returns c =
+    let a = c .before .before .before .before .before .before .before .before .before .args in
+    let r = c .count-cell .result in
+    subst (λ (d : Way). CountIs (changesTo entry-same (saysBy (a .times .now) (a .values .now) (a .marks .now) (a .ends .now) d (entryIs (a .s .here))) (a .k) (a .s .hi)) (saysBy (a .times .now) (a .values .now) (a .marks .now) (a .ends .now) d (entryIs (a .s .here)) (a .s .hi)) (a .room) (r .fits) (r .count) (entryIs (r .last)))
+    (sym (c .before .before .way .given .1)) (c .count-cell .ensures)
 
 returns-2 : tie.Need-returns-2
 returns-2 c =
     let e = c .before .before .before .before in
     let t = e .before .before in
     let a = entry t .args in
-    let g = t .before .cell .given in
-    let r = c .count-changes .result in
-    subst (λ (d : Cell). CountIs (changesTo entry-same (saysOn (a .times .now) (a .values .now) (a .marks .now) (a .ends .now) d (entryIs (a .s .here))) (a .k) (a .s .hi)) (saysOn (a .times .now) (a .values .now) (a .marks .now) (a .ends .now) d (entryIs (a .s .here)) (a .s .hi)) (a .room) (r .fits) (r .count) (entryIs (r .last)))
-    (sym (g .1))
-    (uncut (a .times .now) (a .values .now) (a .marks .now) (a .ends .now) (g .0 .0) (e .before .clip-begin .result) (e .clip-end .result) (e .before .clip-begin .ensures) (e .clip-end .ensures)
-    (λ (ts vs : List Float) (ms : List _). CountIs (changesRead ts vs ms (g .0 .1 .0) (a .k) (a .s .hi)) (readingAt ts vs ms (g .0 .1 .0) (a .s .hi)) (a .room) (r .fits) (r .count) (entryIs (r .last)))
-    (c .count-changes .ensures))
+    let r = c .count-passed .result in
+    subst (λ (d : Way). CountIs (changesTo entry-same (saysBy (a .times .now) (a .values .now) (a .marks .now) (a .ends .now) d (entryIs (a .s .here))) (a .k) (a .s .hi)) (saysBy (a .times .now) (a .values .now) (a .marks .now) (a .ends .now) d (entryIs (a .s .here)) (a .s .hi)) (a .room) (r .fits) (r .count) (entryIs (r .last)))
+    (sym (t .before .way2 .given .1))
+    (uncut (a .times .now) (a .values .now) (a .marks .now) (a .ends .now) (clip t) (e .before .clip-begin .result) (e .clip-end .result) (e .before .clip-begin .ensures) (e .clip-end .ensures)
+    (λ (ts vs : List Float) (ms : List ℕ). CountIs (changesPassing ts vs ms (pair t) (floor t) (a .k) (a .s .hi)) (passingAt ts vs ms (pair t) (floor t) (a .s .hi)) (a .room) (r .fits) (r .count) (entryIs (r .last)))
+    (c .count-passed .ensures))
 
 pub count-in-spec : {M : Type 1} → statement M
 count-in-spec =
     tie.close
     (tie.spec
-    enum-known-cell
-    enum-told
-    returns
+    enum-known-way
+    count-cell-requires
+    enum-known-way-2
     clip-begin-requires
     clip-end-requires
-    mul-count-changes
-    sub-count-changes
-    part-count-changes-start
-    part-count-changes-end
-    mul-count-changes-2
-    sub-count-changes-2
-    part-count-changes-start-2
-    part-count-changes-end-2
-    sub-count-changes-3
-    part-count-changes-start-3
-    part-count-changes-end-3
-    count-changes-requires
+    mul-count-passed
+    sub-count-passed
+    part-count-passed-start
+    part-count-passed-end
+    mul-count-passed-2
+    sub-count-passed-2
+    part-count-passed-start-2
+    part-count-passed-end-2
+    sub-count-passed-3
+    part-count-passed-start-3
+    part-count-passed-end-3
+    count-passed-requires
+    returns
     returns-2)

@@ -1,87 +1,36 @@
--- `stretch::stretch_at` meets its contract: the cell of k up to its end, and what it reads at k is the value. Assumes nothing.
-use mathlib.Core.Path.{_≡_, refl, sym, ap, _∙_, subst}
+-- `stretch::stretch_at` meets its contract: in the window of k a run, or else the cell. Assumes nothing.
+use mathlib.Core.Path.{sym, subst, _∙_}
 use mathlib.Core.Bool.{_&&_}
-use Prim.Native.Nat.{ℕ, _-_, min}
 use native.Mathlib.Omega.{arith}
 use lib.Dec.{eqb, ltb}
 use lib.ListN.{length}
 use lib.Ieee.{Float}
 use borrow.Author.Tests.{eqb-true, ltb-true}
 use Rattle.gf.specs.Key.{ofKey, ofKey-fits, ofKey-finite}
-use Rattle.definitions.specs.declared.Source.{Source}
 use Rattle.definitions.specs.Doubles.{FiniteDouble}
-use Rattle.definitions.specs.ClipSet.{ClipSet}
-use Rattle.definitions.specs.Samples.{Samples}
-use Rattle.definitions.specs.Track.{entryOf}
 use Rattle.set_laws.specs.Tests.{holds, is-true}
-use Rattle.track_laws.specs.Laws.{Agree}
 use Rattle.cell_laws.specs.Every.{both-l, both-r}
-use Rattle.cell_laws.specs.Keys.{Keys, entryAtKey}
-use Rattle.cell_laws.specs.Unpacked.{setOf, samplesOf}
-use Rattle.value.specs.Says.{saysIn, Sayable, ready-marks}
-use Rattle.track.specs.Entries.{entryIs}
-use Rattle.track.specs.Stops.{endKey}
-use Rattle.track.specs.Pieces.{PieceIs}
+use Rattle.value.specs.Handed.{WindowIs, window-lent, window-nears}
+use Rattle.track.specs.declared.onset.Onset.{Onset}
+use Rattle.track.specs.Begins.{OnsetIs}
 use Rattle.track.specs.Spots.{SpotAt}
-use Rattle.track.specs.Runs.{Runs, readOn, saysOn}
-use Rattle.track.proofs.Lent.{sound, samples}
-use Rattle.track.proofs.Halts.{end-numbered, end-later}
-use Rattle.track.proofs.Spans.{span-keys, span-sayable, span-here, span-runs, span-says}
+use Rattle.track.proofs.Lent.{spot-window}
+use Rattle.track.proofs.Onsets.{window-least}
 use borrow.Author.Needs.{needs}
 use Rattle.track.proofs.stretch.stretch_at.Statement.{statement}
 use Rattle.track.proofs.stretch.stretch_at.Tie as tie
 
--- the set and the samples that are lent
-abbrev set : tie.Start → ClipSet
-set a = setOf (length (a .args .ends .now)) (a .args .starts .now) (a .args .clips .now) (a .args .xs .now) (a .args .ys .now) (a .args .blocks .now) (a .args .m)
+abbrev entry : tie.After-spot-at → tie.Start
+entry c = c .before .before .before .before .before .before .before .before .before .before .before .before
 
-abbrev lent : tie.Start → Samples
-lent a = samplesOf (a .args .times .now) (a .args .values .now) (a .args .marks .now) (a .args .ends .now)
-
-abbrev entry : tie.After-piece-at → tie.Start
-entry c = c .before .before .before .before .before .before .before .before .before .before .before .before .before .before .before
-
-abbrev start : tie.After-spot-at → tie.Start
-start c = c .before .before .before .before .before .before .before .before .before .before .before .before
-
--- the spot at the key
-spot : (c : tie.After-spot-at) → SpotAt (start c .args .starts .now) (start c .args .clips .now) (start c .args .xs .now) (start c .args .ys .now) (start c .args .blocks .now) (start c .args .m) (start c .args .times .now) (start c .args .values .now) (start c .args .marks .now) (start c .args .ends .now) (ofKey (start c .args .k)) (c .spot-at .result .p) (c .spot-at .result .w)
-spot c =
-    let a = start c .args in
-    subst (λ (t : Float). SpotAt (a .starts .now) (a .clips .now) (a .xs .now) (a .ys .now) (a .blocks .now) (a .m) (a .times .now) (a .values .now) (a .marks .now) (a .ends .now) t (c .spot-at .result .p) (c .spot-at .result .w)) (c .before .of-key .ensures) (c .spot-at .ensures)
-
--- k is the key of a finite double
 finite-key : (a : tie.Start) → FiniteDouble (ofKey (a .args .k))
 finite-key a = let K = a .pre .1 .1 .1 in record { fitting = ofKey-fits (a .args .k); finitely = ofKey-finite (a .args .k) (K .low) (omega (arith, K .order, K .high)) }
 
-piece : (c : tie.After-piece-at) → PieceIs (set (entry c)) (lent (entry c)) (ofKey (entry c .args .k)) (c .piece-at .result .cell) (c .piece-at .result .end)
-piece c = subst (λ (t : Float). PieceIs (set (entry c)) (lent (entry c)) t (c .piece-at .result .cell) (c .piece-at .result .end)) (c .before .before .before .before .of-key .ensures) (c .piece-at .ensures)
-
--- the last key
-hi-is : (c : tie.After-lesser) → min (entry (c .before .before) .args .top) (endKey (c .before .before .piece-at .result .end) - 1) ≡ c .lesser .result
-hi-is c = sym (c .lesser .ensures ∙ ap (λ (e : ℕ). min (entry (c .before .before) .args .top) (e - 1)) (c .before .end-key .ensures))
-
-keys : (c : tie.After-lesser) → Keys (entry (c .before .before) .args .k) (c .lesser .result)
-keys c =
-    let q = c .before .before in
-    let a = entry q in
-    subst (Keys (a .args .k)) (hi-is c) (span-keys (a .pre .0) (a .args .k) (a .args .top) (a .pre .1 .1 .1) (q .piece-at .result .cell) (q .piece-at .result .end) (piece q))
-
-runs : (c : tie.After-lesser) → Runs (entry (c .before .before) .args .times .now) (entry (c .before .before) .args .values .now) (entry (c .before .before) .args .marks .now) (entry (c .before .before) .args .ends .now) (c .before .before .piece-at .result .cell) (entry (c .before .before) .args .k) (c .lesser .result)
-runs c =
-    let q = c .before .before in
-    let a = entry q in
-    subst (Runs (a .args .times .now) (a .args .values .now) (a .args .marks .now) (a .args .ends .now) (q .piece-at .result .cell) (a .args .k)) (hi-is c)
-    (span-runs (a .pre .0) (a .args .k) (a .args .top) (a .pre .1 .1 .1) (q .piece-at .result .cell) (q .piece-at .result .end) (piece q))
-
--- what is said at k
-here : (c : tie.After-entry-of) → entryIs (c .entry-of .result) ≡ entryAtKey (set (entry (c .before .before .before .before .before))) (lent (entry (c .before .before .before .before .before))) (entry (c .before .before .before .before .before) .args .k)
-here c =
-    let q = c .before .before .before .before .before in
-    let a = entry q in
-    c .entry-of .ensures
-    ∙ ap entryOf (c .before .says .ensures ∙ ap (saysIn (a .args .m) (a .args .values .now) (a .args .marks .now) (a .args .ends .now)) (c .before .before .read-on .ensures))
-    ∙ span-here (a .pre .0) (a .args .k) (a .args .top) (a .pre .1 .1 .1) (q .piece-at .result .cell) (q .piece-at .result .end) (piece q)
+-- the spot is that of k
+spot : (c : tie.After-spot-at) → SpotAt (entry c .args .starts .now) (entry c .args .clips .now) (entry c .args .xs .now) (entry c .args .ys .now) (entry c .args .blocks .now) (entry c .args .m) (entry c .args .times .now) (entry c .args .values .now) (entry c .args .marks .now) (entry c .args .ends .now) (ofKey (entry c .args .k)) (c .spot-at .result .p) (c .spot-at .result .w)
+spot c =
+    let a = entry c .args in
+    subst (λ (t : Float). SpotAt (a .starts .now) (a .clips .now) (a .xs .now) (a .ys .now) (a .blocks .now) (a .m) (a .times .now) (a .values .now) (a .marks .now) (a .ends .now) t (c .spot-at .result .p) (c .spot-at .result .w)) (c .before .of-key .ensures) (c .spot-at .ensures)
 
 of-key-requires : tie.Need-of-key-requires
 of-key-requires c κs = search needs
@@ -92,67 +41,53 @@ spot-at-requires c κs = let a = c .before .before .before .before .before .befo
 is-plain-requires : tie.Need-is-plain-requires
 is-plain-requires c κs = search needs
 
--- there are several starts, and no knots
-plain-stretch-requires : tie.Need-plain-stretch-requires
-plain-stretch-requires c κs =
-    let o = c .before .before in
-    let a = start o in
-    let e = sym (c .before .is-plain .ensures) ∙ c .if1 .taken in
-    let h = holds (ltb 1 (length (a .args .starts .now)) && eqb (length (a .args .xs .now)) 0) e in
-    let n = is-true (ltb 1 (length (a .args .starts .now))) (both-l (ltb 1 (length (a .args .starts .now))) (eqb (length (a .args .xs .now)) 0) h) in
-    let z = is-true (eqb (length (a .args .xs .now)) 0) (both-r (ltb 1 (length (a .args .starts .now))) (eqb (length (a .args .xs .now)) 0) h) in
-    (a .pre .0, (spot o, (a .pre .1 .1 .1, (eqb-true (length (a .args .xs .now)) 0 z, ltb-true 1 (length (a .args .starts .now)) n))))
+plain-step-requires : tie.Need-plain-step-requires
+plain-step-requires c κs =
+    let q = c .before .before in
+    let a = entry q in
+    let b = holds (ltb 1 (length (a .args .starts .now)) && eqb (length (a .args .xs .now)) 0) (sym (c .before .is-plain .ensures) ∙ c .if1 .taken) in
+    let m = both-l (ltb 1 (length (a .args .starts .now))) (eqb (length (a .args .xs .now)) 0) b in
+    let e = both-r (ltb 1 (length (a .args .starts .now))) (eqb (length (a .args .xs .now)) 0) b in
+    (a .pre .0, (spot q, (a .pre .1 .1 .1, (eqb-true _ 0 (is-true _ e), ltb-true 1 _ (is-true _ m)))))
 
 returns : tie.Need-returns
-returns c = record { stretch = c .plain-stretch .ensures; spot = c .before .before .before .spot-at .ensures .spot }
+returns c = search needs
 
-piece-at-requires : tie.Need-piece-at-requires
-piece-at-requires c κs =
-    let o = c .before .before in
-    let a = start o in
-    (a .pre .0, (a .pre .1 .0, (o .spot-at .ensures, subst FiniteDouble (sym (o .before .of-key .ensures)) (finite-key a))))
-
-end-key-requires : tie.Need-end-key-requires
-end-key-requires c κs = let a = entry c in end-numbered (set a) (lent a) (sound (a .pre .0)) (samples (a .pre .0)) (a .args .k) (a .args .top) (a .pre .1 .1 .1) (c .piece-at .result .end) (piece c .ends)
-
-sub-lesser : tie.Need-sub-lesser
-sub-lesser c =
-    let q = c .before in
+onset-at-requires : tie.Need-onset-at-requires
+onset-at-requires c κs =
+    let q = c .before .before .before .before in
     let a = entry q in
-    omega (arith, end-later (set a) (lent a) (sound (a .pre .0)) (samples (a .pre .0)) (a .args .k) (a .args .top) (a .pre .1 .1 .1) (q .piece-at .result .end) (piece q .ends), c .end-key .ensures)
+    let n = c .before .if2 .taken in
+    let f = subst FiniteDouble (sym (q .before .of-key .ensures)) (finite-key a) in
+    let W = spot-window (a .pre .0) (q .before .of-key .result) f (q .spot-at .result .p) (q .spot-at .result .w) (q .spot-at .ensures) (omega arith) in (
+      window-nears (a .pre .0) (q .spot-at .result .p) (q .spot-at .result .w) W (q .before .of-key .result) (q .spot-at .ensures .place (omega arith)) f (a .args .tops .now) (a .pre .1 .0),
+      (window-lent (a .pre .0) (q .spot-at .result .p) (q .spot-at .result .w) W, window-least (a .pre .0) (q .spot-at .result .p) (q .spot-at .result .w) W),
+    )
 
-lesser-requires : tie.Need-lesser-requires
-lesser-requires c κs = search needs
+enum-known-found : tie.Need-enum-known-found
+enum-known-found c = search needs
 
-read-on-requires : tie.Need-read-on-requires
-read-on-requires c κs = (keys c, runs c)
-
-says-requires : tie.Need-says-requires
-says-requires c κs =
-    let q = c .before .before .before in
+run-step-requires : tie.Need-run-step-requires
+run-step-requires c κs =
+    let o = c .before .before .before in
+    let q = o .before .before .before .before .before in
     let a = entry q in
-    (subst (Sayable (length (a .args .values .now)) (a .args .ends .now)) (sym (c .read-on .ensures)) (span-sayable (a .pre .0) (a .args .k) (a .args .top) (a .pre .1 .1 .1) (q .piece-at .result .cell) (q .piece-at .result .end) (piece q)), ready-marks (a .pre .0))
-
-entry-of-requires : tie.Need-entry-of-requires
-entry-of-requires c κs = search needs
+    let g = c .before .found .given in
+    let x = subst (λ (t : Float). OnsetIs (a .args .xs .now) (a .args .ys .now) (a .args .tops .now) (a .args .times .now) (q .spot-at .result .w) t (o .onset-at .result)) (q .before .of-key .ensures) (o .onset-at .ensures) in
+    let y = subst (OnsetIs (a .args .xs .now) (a .args .ys .now) (a .args .tops .now) (a .args .times .now) (q .spot-at .result .w) (ofKey (a .args .k))) (g .1) x in
+    (a .pre .0, (spot q, (o .before .before .if2 .taken, (y .0, (y .1, a .pre .1 .1 .1)))))
 
 returns-2 : tie.Need-returns-2
-returns-2 c =
-    let x = c .before in
-    let l = x .before .before .before in
-    let q = l .before .before in
-    let a = entry q in
-    record {
-      stretch = record {
-        keys = keys l;
-        within = let e = hi-is l in omega arith;
-        here = here x;
-        runs = runs l;
-        says = subst (λ (h : ℕ). Agree (a .args .k) h (entryAtKey (set a) (lent a)) (saysOn (a .args .times .now) (a .args .values .now) (a .args .marks .now) (a .args .ends .now) (q .piece-at .result .cell) (entryIs (x .entry-of .result)))) (hi-is l)
-            (span-says (a .pre .0) (a .args .k) (a .args .top) (a .pre .1 .1 .1) (q .piece-at .result .cell) (q .piece-at .result .end) (piece q) (entryIs (x .entry-of .result)) (here x));
-      };
-      spot = q .before .before .before .spot-at .ensures .spot;
-    }
+returns-2 c = search needs
+
+enum-told : tie.Need-enum-told
+enum-told c = search needs
+
+cell-step-requires : tie.Need-cell-step-requires
+cell-step-requires c κs = let q = c .before .before .before in let a = entry q in (a .pre .0, (a .pre .1 .0, (spot q, a .pre .1 .1 .1)))
+
+returns-3 : tie.Need-returns-3
+returns-3 c = search needs
 
 pub stretch-at-spec : {M : Type 1} → statement M
 stretch-at-spec =
@@ -161,13 +96,12 @@ stretch-at-spec =
     of-key-requires
     spot-at-requires
     is-plain-requires
-    plain-stretch-requires
+    plain-step-requires
     returns
-    piece-at-requires
-    end-key-requires
-    sub-lesser
-    lesser-requires
-    read-on-requires
-    says-requires
-    entry-of-requires
-    returns-2)
+    onset-at-requires
+    enum-known-found
+    run-step-requires
+    returns-2
+    enum-told
+    cell-step-requires
+    returns-3)
