@@ -28,12 +28,12 @@ use Rattle.set_laws.specs.SoundPlaces.{starts-rise}
 use Rattle.cell_laws.specs.Every.{every-map, every-zip, every-append, every-left, every-right, every-gather, both-l, both-r}
 use Rattle.cell_laws.specs.Places.{Fits}
 use Rattle.cell_laws.specs.Unpacked.{setOf, samplesOf, active-times, zip-length, Ready}
-use Rattle.value.specs.declared.window.Bound.{Bound}
-use Rattle.value.specs.declared.window.Bounds.{Bounds}
-use Rattle.value.specs.Reads.{ready-starts, ready-clip, ready-readable}
-use Rattle.value.specs.Bounds.{In, every-in, nothing, Scanned, scanned-none, scanned-then, next-of, UpperIs}
-use Rattle.value.specs.Windows.{minOf, maxOf}
-use Rattle.value.specs.Beside.{climb}
+use Rattle.window.specs.declared.Bound.{Bound}
+use Rattle.window.specs.declared.Bounds.{Bounds}
+use Rattle.window.specs.Parts.{ready-starts, ready-clip, ready-readable}
+use Rattle.window.specs.Bounds.{In, every-in, nothing, Scanned, scanned-none, scanned-then, next-of, UpperIs}
+use Rattle.window.specs.Windows.{minOf, maxOf}
+use Rattle.beside.specs.Beside.{climb}
 use Rattle.stage.specs.Whole.{wholeTimes, nextStart, Windows}
 use Rattle.stage.specs.Times.{NextTime, every-below, every-part, part-each, part-first, part-finite, parts-finite, next-time}
 use Rattle.stage.specs.First.{FirstIs, Before, Told, first-of-all, upper-first, first-next, total-first, first-total}

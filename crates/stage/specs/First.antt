@@ -15,9 +15,9 @@ use Rattle.definitions.specs.Doubles.{FiniteDouble}
 use Rattle.set_laws.specs.Every.{Every}
 use Rattle.set_laws.specs.Stored.{total→key}
 use Rattle.cell_laws.specs.Every.{any-with, every-map, every-zip}
-use Rattle.value.specs.declared.window.Bound.{Bound}
-use Rattle.value.specs.declared.window.Bound.the-variants.{At, Nothing}
-use Rattle.value.specs.Bounds.{In, in-every, every-in, UpperIs, NextIs}
+use Rattle.window.specs.declared.Bound.{Bound}
+use Rattle.window.specs.declared.Bound.the-variants.{At, Nothing}
+use Rattle.window.specs.Bounds.{In, in-every, every-in, UpperIs, NextIs}
 
 -- the first of the times above t in the order of K, or none is above it
 abbrev pub FirstIs : (Float → ℕ) → List Float → Float → Bound → Type 0

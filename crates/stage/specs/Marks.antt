@@ -20,7 +20,8 @@ use Rattle.definitions.specs.Value.{sampleOf}
 use Rattle.definitions.specs.StageSamples.{StageSample, readMark, markIn, suppliedAt, stageSampleTimes, stageSamples}
 use Rattle.cell_laws.specs.Unpacked.{start, activeOf, knotsOf, setOf, samplesOf, zip-here, Ready}
 use Rattle.lists.specs.Fronts.{front, no-front}
-use Rattle.value.specs.Reads.{partOf, readPart, last-short, ready-active, ready-position, ready-clip}
+use Rattle.window.specs.Parts.{partOf, last-short, ready-active, ready-position, ready-clip}
+use Rattle.direct.specs.Reads.{readPart}
 
 abbrev pub gapMarkOf : ℕ → ℕ
 gapMarkOf mark = cond (eqb mark markValue) markValue markBlock

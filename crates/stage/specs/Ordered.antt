@@ -21,8 +21,8 @@ use Rattle.set_laws.specs.Stored.{total→key}
 use Rattle.set_laws.specs.Sorting.{every-sort, sort-every, sort-sorted}
 use Rattle.cell_laws.specs.Every.{every-map, every-zip, every-keep}
 use Rattle.cell_laws.specs.Places.{Fits}
-use Rattle.value.specs.declared.window.Bound.the-variants.{At, Nothing}
-use Rattle.value.specs.Bounds.{In, every-in, in-every, NextIs}
+use Rattle.window.specs.declared.Bound.the-variants.{At, Nothing}
+use Rattle.window.specs.Bounds.{In, every-in, in-every, NextIs}
 
 -- ---- lists
 

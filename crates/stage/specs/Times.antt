@@ -26,13 +26,13 @@ use Rattle.cell_laws.specs.Every.{every-map, every-append, every-left, every-ri
 use Rattle.cell_laws.specs.Places.{Fits}
 use Rattle.cell_laws.specs.Inverse.{inverse-fin-up, inverse-fin-down}
 use Rattle.cell_laws.specs.Unpacked.{start, activeOf, knotsOf, setOf, samplesOf, zip-here, zip-length, Ready}
-use Rattle.value.specs.declared.window.Bound.{Bound}
-use Rattle.value.specs.declared.window.Bound.the-variants.{At, Nothing}
-use Rattle.value.specs.Reads.{partOf, ready-starts, ready-clip, ready-readable}
-use Rattle.value.specs.Near.{Segment}
-use Rattle.value.specs.Bounds.{inside, in-every, NextIs}
-use Rattle.value.specs.Inverses.{inversesOf, every-if}
-use Rattle.value.specs.Windows.{windowOf, windowPart, window-times}
+use Rattle.window.specs.declared.Bound.{Bound}
+use Rattle.window.specs.declared.Bound.the-variants.{At, Nothing}
+use Rattle.window.specs.Parts.{partOf, ready-starts, ready-clip, ready-readable}
+use Rattle.window.specs.Near.{Segment}
+use Rattle.window.specs.Bounds.{inside, in-every, NextIs}
+use Rattle.window.specs.Inverses.{inversesOf, every-if}
+use Rattle.window.specs.Windows.{windowOf, windowPart, window-times}
 use Rattle.stage.specs.Whole.{wholeTimes}
 use Rattle.stage.specs.Ordered.{after, after-all, after-none, after-next}
 

@@ -19,15 +19,15 @@ use Rattle.set_laws.specs.Every.{every-at}
 use Rattle.set_laws.specs.Places.{Ascending}
 use Rattle.cell_laws.specs.Window.{inf-below, inf-above}
 use Rattle.cell_laws.specs.Unpacked.{knotsOf}
-use Rattle.value.specs.declared.window.Bounds.{Bounds}
-use Rattle.value.specs.declared.windowed.Window.{Window}
-use Rattle.value.specs.Reads.{partOf, Readable}
-use Rattle.value.specs.Bounds.{inside, UpperIs, NeighboursAre}
-use Rattle.value.specs.Inverses.{inversesOf}
-use Rattle.value.specs.Windows.{minOf, maxOf, windowPart}
-use Rattle.value.specs.Beside.{finite-number, number-at, next-above, last-reached}
-use Rattle.value.specs.Tops.{TopsOf}
-use Rattle.value.specs.Windowed.{samplesIn, nextOf, windowTimes, Nearing}
+use Rattle.window.specs.declared.Bounds.{Bounds}
+use Rattle.window.specs.Parts.{partOf, Readable}
+use Rattle.window.specs.Bounds.{inside, UpperIs, NeighboursAre}
+use Rattle.window.specs.Inverses.{inversesOf}
+use Rattle.window.specs.Windows.{minOf, maxOf, windowPart}
+use Rattle.beside.specs.Beside.{finite-number, number-at, next-above, last-reached}
+use Rattle.near.specs.declared.Window.{Window}
+use Rattle.near.specs.Tops.{TopsOf}
+use Rattle.near.specs.Windowed.{samplesIn, nextOf, windowTimes, Nearing}
 
 -- the times of the window at the place p
 abbrev pub wholeTimes : List Float → List ℕ → List Float → List Float → List Float → List ℕ → ℕ → List Float

@@ -6,7 +6,7 @@ pub mod walk;
 
 use definitions::Manifest;
 use mark::write_marks;
-use value::tops::tops_of;
+use near::tops::tops_of;
 use walk::fits;
 use walk::write_times;
 ghost use mathlib.Core.Path.{_≡_};

@@ -1,9 +1,9 @@
 // The marks of the stage samples.
 
 use definitions::Manifest;
-use value::direct::Reading;
-use value::direct::clip_begin;
-use value::direct::read_clip;
+use direct::Reading;
+use direct::read_clip;
+use window::part::clip_begin;
 ghost use mathlib.Core.Path.{_≡_};
 ghost use Prim.Native.Nat.{_≤_};
 ghost use lib.ListN.{length};

@@ -2,7 +2,7 @@
 
 use super::next::next_time;
 use definitions::Manifest;
-use value::window::Bound;
+use window::Bound;
 ghost use mathlib.Core.Path.{_≡_};
 ghost use Prim.Native.Nat.{_≤_};
 ghost use lib.Dec.{leb};
@@ -10,7 +10,7 @@ ghost use lib.ListN.{length};
 ghost use Rattle.definitions.specs.Lists.{writtenOver};
 ghost use Rattle.definitions.specs.StageSamples.{stageSampleTimes};
 ghost use Rattle.cell_laws.specs.Unpacked.{setOf, samplesOf, Ready};
-ghost use Rattle.value.specs.Tops.{TopsOf};
+ghost use Rattle.near.specs.Tops.{TopsOf};
 
 // Whether there are at most `room` stage sample times.
 pub fn fits(

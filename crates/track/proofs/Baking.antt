@@ -15,7 +15,8 @@ use Rattle.definitions.specs.Track.{Entry, Change, Outputs, slots, writeTrack}
 use Rattle.track_laws.specs.Track as steps
 use Rattle.cell_laws.specs.Keys.{entryAtKey}
 use Rattle.cell_laws.specs.Tracks.{writtenChange}
-use Rattle.track.specs.Bakes.{changesOf, Written, outputs, trackOf, BakeIs}
+use Rattle.stretch.specs.Changes.{changesOf, Written}
+use Rattle.track.specs.Bakes.{outputs, trackOf, BakeIs}
 
 written-length : (cs : List (steps.Change Entry)) → length (map writtenChange cs) ≡ length cs
 written-length [] = refl

@@ -1,9 +1,9 @@
 // The bake: the head and the changes of the value, counted first and then written.
 use crate::count::has_room;
-use crate::entry::entry_at;
 use crate::write::write;
 use definitions::Manifest;
-use value::tops::tops_of;
+use near::tops::tops_of;
+use stop::entry::entry_at;
 ghost use mathlib.Core.Path.{_≡_};
 ghost use Prim.Native.Nat.{min};
 ghost use lib.ListN.{length};

@@ -2,8 +2,8 @@
 use clip::ClipSet;
 use definitions::Manifest;
 use lines::reply;
-use track::entry::Entry;
-use track::entry::entry_at;
+use steps::entry::Entry;
+use stop::entry::entry_at;
 use track_laws::Next;
 ghost use Rattle.gf.specs.Key as Key;
 ghost use Rattle.cell_laws.specs.Unpacked.{Ready};
@@ -70,7 +70,7 @@ fn walk(
     let mut count: u64 = 0;
     let mut hash: u64 = 0xcbf2_9ce4_8422_2325;
     loop {
-        let Next::At(change) = track::change::next_change(
+        let Next::At(change) = stop::next_change(
             starts,
             clips,
             xs,

@@ -17,7 +17,7 @@ use Rattle.set_laws.specs.ClipTime.{last-knot-is}
 use Rattle.set_laws.specs.Places.{Ascending, beyond, up-to, last-is}
 use Rattle.cell_laws.specs.Places.{Fits}
 use Rattle.cell_laws.specs.Unpacked.{knotsOf, knot-times, zip-length}
-use Rattle.value.specs.Beside.{number-at}
+use Rattle.beside.specs.Beside.{number-at}
 use Rattle.value.specs.Jumps.{step-le}
 
 -- t lies from the knot at i on and below the next

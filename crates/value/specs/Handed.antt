@@ -26,15 +26,16 @@ use Rattle.cell_laws.specs.Places.{Fits, Clear, place-same}
 use Rattle.cell_laws.specs.Window.{inf-below, inf-above}
 use Rattle.cell_laws.specs.Neighbours.{IsLower}
 use Rattle.cell_laws.specs.Unpacked.{activeOf, knotsOf, setOf, samplesOf, Ready}
-use Rattle.value.specs.declared.windowed.Window.{Window}
-use Rattle.value.specs.Bounds.{inside}
-use Rattle.value.specs.Inverses.{inversesOf}
-use Rattle.value.specs.Reads.{partOf, read-none, read-some, ready-starts, ready-clip, ready-readable}
-use Rattle.value.specs.Sources.{standIn, reads-own, reads-empty, reads-out}
-use Rattle.value.specs.Windows.{minOf, maxOf, windowOf, windowPart, ifOwn, next-is, next-none, gathered-is}
-use Rattle.value.specs.Beside.{finite-number, number-at, climb, next-above, last-reached}
-use Rattle.value.specs.Tops.{TopsOf}
-use Rattle.value.specs.Windowed.{intervalOf, samplesIn, nextOf, windowTimes, windowSource, Lent, Nearing}
+use Rattle.window.specs.Bounds.{inside}
+use Rattle.window.specs.Inverses.{inversesOf}
+use Rattle.window.specs.Parts.{partOf, ready-starts, ready-clip, ready-readable}
+use Rattle.window.specs.Windows.{minOf, maxOf, windowOf, windowPart, ifOwn, next-is, next-none, gathered-is}
+use Rattle.beside.specs.Beside.{finite-number, number-at, climb, next-above, last-reached}
+use Rattle.direct.specs.Reads.{read-none, read-some}
+use Rattle.direct.specs.Sources.{standIn, reads-own, reads-empty, reads-out}
+use Rattle.near.specs.declared.Window.{Window}
+use Rattle.near.specs.Tops.{TopsOf}
+use Rattle.near.specs.Windowed.{intervalOf, samplesIn, nextOf, windowTimes, windowSource, Lent, Nearing}
 
 no-more : lt (inf false) (inf false) ≡ false
 unfolding lt

@@ -16,8 +16,8 @@ use Rattle.set_laws.specs.Places.{Ascending, atMost, at-most-length, at-most-is
 use Rattle.cell_laws.specs.Every.{both, both-l, both-r}
 use Rattle.cell_laws.specs.Places.{Fits}
 use borrow.Author.Tests.{lt-ltb}
-use Rattle.value.specs.Pairs.{jumpsAt}
-use Rattle.value.specs.Beside.{number-at, climb}
+use Rattle.window.specs.Pairs.{jumpsAt}
+use Rattle.beside.specs.Beside.{number-at, climb}
 
 -- ---- a test of the pairs, by places
 

@@ -27,19 +27,19 @@ use Rattle.cell_laws.specs.Places.{Fits}
 use Rattle.cell_laws.specs.Window.{inf-below}
 use Rattle.cell_laws.specs.Neighbours.{IsLower, IsUpper}
 use Rattle.cell_laws.specs.Unpacked.{knotsOf}
-use Rattle.value.specs.declared.window.Bound.{Bound}
-use Rattle.value.specs.declared.window.Bound.the-variants.{At, Nothing}
-use Rattle.value.specs.declared.window.Bounds.{Bounds}
-use Rattle.value.specs.declared.windowed.Window.{Window}
-use Rattle.value.specs.Bounds.{In, in-every, every-in, inside, nothing, withTime, Scanned, scanned-none, scanned-then, scanned-one, neighbours-of, LowerIs, UpperIs, NeighboursAre}
-use Rattle.value.specs.Inverses.{onSegment, inversesOf, every-of, every-if}
-use Rattle.value.specs.Beside.{Facing, finite-number, number-at, climb}
-use Rattle.value.specs.Tops.{segmentOf}
-use Rattle.value.specs.Pairs.{jump-by-x}
+use Rattle.window.specs.declared.Bound.{Bound}
+use Rattle.window.specs.declared.Bound.the-variants.{At, Nothing}
+use Rattle.window.specs.declared.Bounds.{Bounds}
+use Rattle.window.specs.Bounds.{In, in-every, every-in, inside, nothing, withTime, Scanned, scanned-none, scanned-then, scanned-one, neighbours-of, LowerIs, UpperIs, NeighboursAre}
+use Rattle.window.specs.Inverses.{onSegment, inversesOf, every-of, every-if}
+use Rattle.window.specs.Pairs.{jump-by-x}
+use Rattle.beside.specs.Beside.{Facing, finite-number, number-at, climb}
+use Rattle.near.specs.declared.Window.{Window}
+use Rattle.near.specs.Tops.{segmentOf}
+use Rattle.near.specs.Reaches.{segment-times, inverse-number, to-places, from-places}
+use Rattle.near.specs.Windowed.{intervalOf, nextOf, windowTimes, Nearing, near-faces}
 use Rattle.value.specs.Jumps.{none-all, none-above}
 use Rattle.value.specs.ClipTimes.{OnSegment, found}
-use Rattle.value.specs.Reaches.{segment-times, inverse-number, to-places, from-places}
-use Rattle.value.specs.Windowed.{intervalOf, nextOf, windowTimes, Nearing, near-faces}
 
 -- what is known where a run begins at t: its segment is that from the knot at i, the lower neighbour there is l, and h is the inverse time up to which it goes
 pub record Onset (xs ys tops cs : List Float) (w : Window) (t : Float) (i : ℕ) (l h : Float) : Type 0 where

@@ -25,7 +25,7 @@ use Rattle.definitions.specs.Samples.{Samples, clipBegin, clipEnd, clipTimes, h
 use Rattle.definitions.specs.Value.{_orElse_, marked, says, contributes, sampleOf, readClip, blockedAt, firstReading, interpolateMissingValue, manifestDefault, gapSource, readingTime, sourceAt, directSource, valueSource}
 use Rattle.set_laws.specs.Every.{Every, every-drop, every-take}
 use Rattle.cell_laws.specs.Unpacked.{setOf, samplesOf, Ready}
-use Rattle.value.specs.Reads.{last-short}
+use Rattle.window.specs.Parts.{last-short}
 
 -- what a source says: a sample's mark and value stand at its clip's beginning and its place
 unfoldable pub saysIn : Manifest → List Float → List ℕ → List ℕ → Source → Answer

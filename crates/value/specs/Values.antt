@@ -30,14 +30,14 @@ use Rattle.cell_laws.specs.Window.{gathered-fit}
 use Rattle.cell_laws.specs.Stretches.{boundaries, heldBetween, heldFrom, readAs, boundaries-fit, value-by, held-many, held-few}
 use Rattle.cell_laws.specs.Neighbours.{IsLower, IsUpper, lower-found, lower-none, upper-found, upper-none, jump-alike}
 use Rattle.cell_laws.specs.Unpacked.{activeOf, knotsOf, setOf, samplesOf, sound-set, sound-samples, Ready}
-use Rattle.value.specs.declared.window.Bound.{Bound}
-use Rattle.value.specs.declared.window.Bound.the-variants.{At, Nothing}
-use Rattle.value.specs.declared.window.Bounds.{Bounds}
-use Rattle.value.specs.declared.windowed.Window.{Window}
-use Rattle.value.specs.Bounds.{LowerIs, UpperIs, NeighboursAre}
-use Rattle.value.specs.Reads.{ready-active, ready-position, ready-readable}
-use Rattle.value.specs.Tops.{TopsOf}
-use Rattle.value.specs.Windowed.{samplesIn, windowTimes, windowSource, Lent, Nearing}
+use Rattle.window.specs.declared.Bound.{Bound}
+use Rattle.window.specs.declared.Bound.the-variants.{At, Nothing}
+use Rattle.window.specs.declared.Bounds.{Bounds}
+use Rattle.window.specs.Bounds.{LowerIs, UpperIs, NeighboursAre}
+use Rattle.window.specs.Parts.{ready-active, ready-position, ready-readable}
+use Rattle.near.specs.declared.Window.{Window}
+use Rattle.near.specs.Tops.{TopsOf}
+use Rattle.near.specs.Windowed.{samplesIn, windowTimes, windowSource, Lent, Nearing}
 use Rattle.value.specs.Handed.{WindowIs, window-gathered, window-lent, window-nears, window-held}
 
 -- ---- the value in a window

@@ -1,15 +1,15 @@
 // The value at a stage time. With several starts it is held from the lower neighbour among the window's gathered times, unless there is a jump between.
 
-use super::direct::clip_begin;
 use super::jump::is_jump;
-use super::near::near_in;
-use super::window::Bound;
-use super::windowed::Window;
 use super::windowed::source_in;
 use super::windowed::window_of;
 use definitions::Answer;
 use definitions::Manifest;
 use definitions::Source;
+use near::Window;
+use near::near_in;
+use window::Bound;
+use window::part::clip_begin;
 ghost use mathlib.Core.Path.{_≡_};
 ghost use lib.Dec.{T};
 ghost use lib.ListN.{length};

@@ -1,13 +1,14 @@
 // A window handed on: what the times between two starts are read from.
 
-use super::direct::clip_begin;
-use super::direct::clip_end;
-use super::direct::contributes;
-use super::direct::gap_source;
-use super::window::window_max;
-use super::window::window_min;
 use definitions::Manifest;
 use definitions::Source;
+use direct::contributes;
+use direct::gap_source;
+use near::Window;
+use window::part::clip_begin;
+use window::part::clip_end;
+use window::window_max;
+use window::window_min;
 ghost use mathlib.Core.Path.{_≡_};
 ghost use mathlib.Core.Bool.{true, not, _&&_};
 ghost use Prim.Native.Nat.{_+_, _<_};
@@ -18,20 +19,9 @@ ghost use Rattle.definitions.specs.Lists.{any};
 ghost use Rattle.definitions.specs.Timing.{mapTime};
 ghost use Rattle.set_laws.specs.Places.{Ascending};
 ghost use Rattle.cell_laws.specs.Unpacked.{knotsOf, Ready};
-ghost use Rattle.value.specs.Windowed.{Lent, windowSource};
+ghost use Rattle.near.specs.Windowed.{Lent, windowSource};
 ghost use Rattle.value.specs.Handed.{WindowIs};
 ghost use Rattle.value.specs.ClipTimes.{OnSegment};
-
-// The window of a start: its time, its ends, its clip, the clip's samples `begin..end` if they contribute, and what stands in where there are none.
-pub struct Window {
-    pub start: f64,
-    pub min: f64,
-    pub max: f64,
-    pub clip: u64,
-    pub begin: usize,
-    pub end: usize,
-    pub gap: Source,
-}
 
 // There are samples from `begin` to `end`, and their clip contributes them from this start.
 fn has_samples(blocks: &[f64], m: Manifest, start: f64, begin: usize, end: usize) -> bool

@@ -9,7 +9,7 @@ use borrow.Author.Tests.{leb-true, leb-false}
 use borrow.Author.Needs.{needs}
 use Rattle.definitions.specs.StageSamples.{stageSampleTimes}
 use Rattle.cell_laws.specs.Unpacked.{setOf, samplesOf}
-use Rattle.value.specs.Reads.{ready-readable}
+use Rattle.window.specs.Parts.{ready-readable}
 use Rattle.stage.specs.Around.{ready-few}
 use Rattle.stage.proofs.stage_sample_times.Statement.{statement}
 use Rattle.stage.proofs.stage_sample_times.Tie as tie

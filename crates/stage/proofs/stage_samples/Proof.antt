@@ -14,7 +14,7 @@ use Rattle.definitions.specs.ClipSet.{ClipSet}
 use Rattle.definitions.specs.Samples.{Samples}
 use Rattle.definitions.specs.StageSamples.{stageSampleTimes}
 use Rattle.cell_laws.specs.Unpacked.{setOf, samplesOf}
-use Rattle.value.specs.Reads.{ready-readable}
+use Rattle.window.specs.Parts.{ready-readable}
 use Rattle.stage.specs.Around.{ready-few}
 use Rattle.stage.specs.Writing.{length-written}
 use Rattle.stage.specs.Samples.{samples-written, samples-none}

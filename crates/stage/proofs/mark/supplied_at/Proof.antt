@@ -7,7 +7,8 @@ use lib.ListN.{length, getD}
 use denote.Ref.{now}
 use Rattle.definitions.specs.declared.Source.the-variants.{Sample as sample}
 use Rattle.definitions.specs.Samples.{clipBegin}
-use Rattle.value.specs.Reads.{readingIs, readPart, last-short, ready-starts, ready-clip, ready-readable}
+use Rattle.window.specs.Parts.{last-short, ready-starts, ready-clip, ready-readable}
+use Rattle.direct.specs.Reads.{readingIs, readPart}
 use Rattle.stage.specs.Marks.{mark-none, mark-read, mark-place, mark-gap}
 use borrow.Author.Needs.{needs}
 use Rattle.stage.proofs.mark.supplied_at.Statement.{statement}

@@ -8,7 +8,7 @@ use lib.Ieee.{binary64, fits}
 use lib.Ieee.Scale.{finite}
 use denote.Ref.{now}
 use Rattle.set_laws.specs.Tests.{holds}
-use Rattle.value.specs.Reads.{last-short, ready-starts}
+use Rattle.window.specs.Parts.{last-short, ready-starts}
 use Rattle.stage.specs.Times.{next-none}
 use Rattle.stage.specs.Around.{ready-windows, next-searched, next-passed}
 use borrow.Author.Needs.{needs}

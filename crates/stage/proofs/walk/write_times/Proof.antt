@@ -9,7 +9,7 @@ use denote.Ref.{now}
 use Rattle.definitions.specs.StageSamples.{stageSampleTimes}
 use Rattle.cell_laws.specs.Places.{Fits}
 use Rattle.cell_laws.specs.Unpacked.{setOf, samplesOf}
-use Rattle.value.specs.declared.window.Bound.{Bound}
+use Rattle.window.specs.declared.Bound.{Bound}
 use Rattle.stage.specs.Times.{stageAfter, NextTime, times-all}
 use Rattle.stage.specs.Writing.{Wrote, wrote-start, wrote-room, wrote-on, wrote-end, wrote-rest}
 use borrow.Author.Needs.{needs}

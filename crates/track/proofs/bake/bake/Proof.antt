@@ -9,9 +9,9 @@ use Rattle.gf.specs.Key.{least, most}
 use Rattle.definitions.specs.ClipSet.{ClipSet}
 use Rattle.definitions.specs.Samples.{Samples}
 use Rattle.cell_laws.specs.Unpacked.{setOf, samplesOf}
-use Rattle.value.specs.Reads.{ready-readable}
-use Rattle.track.specs.Bakes.{changesOf}
-use Rattle.track.proofs.Lent.{few-knots}
+use Rattle.window.specs.Parts.{ready-readable}
+use Rattle.cell.proofs.Lent.{few-knots}
+use Rattle.stretch.specs.Changes.{changesOf}
 use Rattle.track.proofs.Baking.{bake-refused, bake-done}
 use borrow.Author.Needs.{needs}
 use Rattle.track.proofs.bake.bake.Statement.{statement}

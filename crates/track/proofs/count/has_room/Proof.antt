@@ -14,13 +14,13 @@ use Rattle.track_laws.specs.Laws.{changes-none}
 use Rattle.cell_laws.specs.Keys.{entryAtKey}
 use Rattle.cell_laws.specs.Tracks.{entry-same}
 use Rattle.cell_laws.specs.Unpacked.{setOf, samplesOf}
-use Rattle.track.specs.Entries.{entryIs}
-use Rattle.track.specs.Bakes.{changesOf}
-use Rattle.track.specs.Spots.{SpotIs}
-use Rattle.track.specs.Runs.{changesOn}
-use Rattle.track.proofs.Lent.{sound, samples, numbers, no-spot-is}
-use Rattle.track.proofs.Counting.{counted-few, counted-many}
-use Rattle.track.proofs.Onward.{before, onward, onward-length, onward-most, onward-last, onward-next}
+use Rattle.steps.specs.Entries.{entryIs}
+use Rattle.cell.specs.Spots.{SpotIs}
+use Rattle.cell.proofs.Lent.{sound, samples, numbers, no-spot-is}
+use Rattle.stretch.specs.Changes.{changesOf}
+use Rattle.stretch.specs.Runs.{changesOn}
+use Rattle.stretch.proofs.Counting.{counted-few, counted-many}
+use Rattle.stretch.proofs.Onward.{before, onward, onward-length, onward-most, onward-last, onward-next}
 use Rattle.track.proofs.count.has_room.Statement.{statement}
 use Rattle.track.proofs.count.has_room.Tie as tie
 

@@ -13,14 +13,14 @@ use Rattle.track_laws.specs.Laws.{changes-none}
 use Rattle.cell_laws.specs.Keys.{entryAtKey}
 use Rattle.cell_laws.specs.Tracks.{entry-same}
 use Rattle.cell_laws.specs.Unpacked.{setOf, samplesOf}
-use Rattle.track.specs.Entries.{entryIs}
-use Rattle.track.specs.Bakes.{changesOf}
-use Rattle.track.specs.Readings.{RoomFrom, WrittenFrom}
-use Rattle.track.specs.Spots.{SpotIs}
-use Rattle.track.specs.Runs.{changesOn, lastOn}
-use Rattle.track.proofs.Lent.{sound, samples, numbers, no-spot-is}
-use Rattle.track.proofs.Slots.{written-none, lengths-kept, room-next, written-join, written-all}
-use Rattle.track.proofs.Onward.{before, onward, onward-most, onward-last, onward-next}
+use Rattle.steps.specs.Entries.{entryIs}
+use Rattle.reading.specs.Readings.{RoomFrom, WrittenFrom}
+use Rattle.cell.specs.Spots.{SpotIs}
+use Rattle.cell.proofs.Lent.{sound, samples, numbers, no-spot-is}
+use Rattle.stretch.specs.Changes.{changesOf}
+use Rattle.stretch.specs.Runs.{changesOn, lastOn}
+use Rattle.stretch.proofs.Slots.{written-none, lengths-kept, room-next, written-join, written-all}
+use Rattle.stretch.proofs.Onward.{before, onward, onward-most, onward-last, onward-next}
 use Rattle.track.proofs.write.write.Statement.{statement}
 use Rattle.track.proofs.write.write.Tie as tie
 

@@ -6,8 +6,8 @@ use lib.Dec.{T}
 use lib.ListN.{length}
 use lib.Ieee.{binary64, fits}
 use denote.Ref.{now}
-use Rattle.value.specs.Reads.{last-short, ready-starts, ready-readable}
-use Rattle.value.specs.Sources.{reads-absent}
+use Rattle.window.specs.Parts.{last-short, ready-starts, ready-readable}
+use Rattle.direct.specs.Sources.{reads-absent}
 use Rattle.value.specs.Handed.{window-lent}
 use Rattle.value.specs.Values.{value-few, value-asks, value-in}
 use Rattle.value.proofs.value.value_source.Statement.{statement}

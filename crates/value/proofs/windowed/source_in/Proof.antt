@@ -4,7 +4,7 @@ use denote.Ref.{now}
 use borrow.Author.Tests.{lt-ltb, le-ltb}
 use Rattle.definitions.specs.declared.Source.the-variants.{Sample as sample}
 use Rattle.definitions.specs.Timing.{lastAtMost}
-use Rattle.value.specs.Windowed.{samplesIn, windowSource}
+use Rattle.near.specs.Windowed.{samplesIn, windowSource}
 use borrow.Author.Needs.{needs}
 use Rattle.value.proofs.windowed.source_in.Statement.{statement}
 use Rattle.value.proofs.windowed.source_in.Tie as tie

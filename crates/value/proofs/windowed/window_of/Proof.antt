@@ -9,7 +9,7 @@ use denote.Ref.{now}
 use Rattle.definitions.specs.Lists.{any}
 use Rattle.set_laws.specs.Tests.{holds, is-true}
 use Rattle.cell_laws.specs.Every.{both-l, both-r}
-use Rattle.value.specs.Reads.{ready-clip}
+use Rattle.window.specs.Parts.{ready-clip}
 use Rattle.value.specs.Handed.{window-samples, window-gap}
 use borrow.Author.Needs.{needs}
 use Rattle.value.proofs.windowed.window_of.Statement.{statement}

@@ -1,0 +1,7 @@
+-- What the contracts of this crate cite, and the laws that its proofs share.
+-- The neighbours of a time by candidates
+pub mod Nearest
+-- The times of an ascending list on either side of a time
+pub mod Beside
+-- The samples of a segment on either side of a time
+pub mod Turns

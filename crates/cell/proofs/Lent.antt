@@ -1,0 +1,69 @@
+-- What holds of lent lists that are ready: the premises of the laws of cells, and the active start. Assumes nothing.
+use mathlib.Core.Path.{_≡_, ap}
+use mathlib.Core.List.{List}
+use mathlib.Core.Option.{some}
+use Prim.Native.Nat.{ℕ, _≤_, _<_}
+use native.Mathlib.Omega.{arith}
+use lib.Dec.{ltb}
+use lib.ListN.{length, getD, getElem?}
+use lib.Ieee.{Float, nan}
+use Rattle.definitions.specs.declared.Manifest.{Manifest}
+use Rattle.definitions.specs.Doubles.{FiniteDouble}
+use Rattle.definitions.specs.Explicit.{knot}
+use Rattle.definitions.specs.ClipSet.{ClipSet, maxKnots, stage}
+use Rattle.definitions.specs.Timing.{lastAtMost, activePosition}
+use Rattle.definitions.specs.Samples.{Samples}
+use Rattle.set_laws.specs.Places.{last-inside}
+use Rattle.cell_laws.specs.Direct.{SoundSet, SoundSamples}
+use Rattle.cell_laws.specs.Stretches.{severalStarts}
+use Rattle.cell_laws.specs.Tracks.{SoundValues}
+use Rattle.cell_laws.specs.Unpacked.{Ready, setOf, samplesOf, start, active-times, zip-length, zip-here, sound-set, sound-samples}
+use Rattle.window.specs.Parts.{ready-starts}
+use Rattle.near.specs.declared.Window.{Window}
+use Rattle.value.specs.Handed.{WindowIs}
+use Rattle.cell.specs.Spots.{SpotIs, SpotAt}
+
+module _ {starts : List Float} {clips : List ℕ} {xs ys blocks : List Float} {m : Manifest} {times values : List Float} {marks ends : List ℕ} (R : Ready starts clips xs ys blocks m times values marks ends) where
+  abbrev set : ClipSet
+  set = setOf (length ends) starts clips xs ys blocks m
+
+  abbrev s : Samples
+  s = samplesOf times values marks ends
+
+  -- ---- the laws' premises
+
+  pub sound : SoundSet (setOf (length ends) starts clips xs ys blocks m)
+  sound = sound-set set (R .sound)
+
+  pub samples : SoundSamples (samplesOf times values marks ends)
+  samples = sound-samples set s (R .accepted)
+
+  pub numbers : SoundValues (setOf (length ends) starts clips xs ys blocks m) (samplesOf times values marks ends)
+  numbers = record { values = R .numbers; default = R .sound .default .fitting }
+
+  -- ---- the active start
+
+  pub several : severalStarts (setOf (length ends) starts clips xs ys blocks m) ≡ ltb 1 (length starts)
+  unfolding setOf
+  several = ap (ltb 1) (zip-length start starts clips (R .starts-paired))
+
+  pub position : (t : Float) → activePosition (setOf (length ends) starts clips xs ys blocks m .active) (stage t) ≡ lastAtMost starts t
+  unfolding setOf activePosition
+  position t = ap (λ (l : List Float). lastAtMost l t) (active-times starts clips (R .starts-paired))
+
+  pub start-at : (p : ℕ) → p < length starts → getElem? (setOf (length ends) starts clips xs ys blocks m .active) p ≡ some (start (getD starts p nan) (getD clips p 0))
+  unfolding setOf
+  start-at p h = zip-here start starts clips p nan 0 (R .starts-paired) h
+
+  -- ---- the window of the active start
+
+  pub spot-window : (t : Float) → FiniteDouble t → (p : ℕ) (w : Window) → SpotAt starts clips xs ys blocks m times values marks ends t p w → 0 < length starts → WindowIs starts clips xs ys blocks m times values marks ends p w
+  spot-window t ft p w A h = A .spot .window (let e = A .place h in let l = last-inside t (ft .fitting) starts (ready-starts R) h in omega arith)
+
+  -- a walk that has not begun is in no window
+  pub no-spot-is : (p : ℕ) (w : Window) → p ≡ length starts → SpotIs starts clips xs ys blocks m times values marks ends p w
+  no-spot-is p w e = record { window = λ h. absurd (omega arith); gap = λ h. absurd (omega arith) }
+
+  pub few-knots : length xs ≤ maxKnots
+  unfolding setOf
+  few-knots = let e = zip-length knot xs ys (R .knots-paired) in let l = R .sound .few-knots in omega arith

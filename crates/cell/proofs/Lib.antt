@@ -1,0 +1,5 @@
+-- Laws that the proofs of src/ cite.
+pub mod Firsts
+pub mod Lent
+pub mod Ways
+pub mod Gaps

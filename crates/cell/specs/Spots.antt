@@ -1,0 +1,32 @@
+-- The spot of a walk: the window that it is in. Assumes nothing.
+use mathlib.Core.Path.{_≡_}
+use mathlib.Core.List.{List}
+use mathlib.Core.Bool.{false, not, _&&_}
+use Prim.Native.Nat.{ℕ, _+_, _≤_, _<_}
+use lib.Dec.{ltb}
+use lib.ListN.{length}
+use lib.Ieee.{Float, eq}
+use Rattle.definitions.specs.declared.Manifest.{Manifest}
+use Rattle.definitions.specs.Lists.{any}
+use Rattle.definitions.specs.Timing.{lastAtMost}
+use Rattle.definitions.specs.Samples.{clipBegin, clipEnd}
+use Rattle.cell_laws.specs.Unpacked.{setOf, samplesOf}
+use Rattle.direct.specs.Sources.{standIn}
+use Rattle.near.specs.declared.Window.{Window}
+use Rattle.value.specs.Handed.{WindowIs}
+
+-- w is the window of the start at the place p, if that is a place; without samples its gap is what stands in for them
+pub record SpotIs (starts : List Float) (clips : List ℕ) (xs ys blocks : List Float) (m : Manifest) (times values : List Float) (marks ends : List ℕ) (p : ℕ) (w : Window) : Type 0 where
+  pub window : p < length starts → WindowIs starts clips xs ys blocks m times values marks ends p w
+  pub gap : p < length starts → w .end ≤ w .begin → w .gap ≡ standIn (setOf (length ends) starts clips xs ys blocks m) (samplesOf times values marks ends) p
+
+-- and, if there are starts, p is the place of the one that is active at t
+pub record SpotAt (starts : List Float) (clips : List ℕ) (xs ys blocks : List Float) (m : Manifest) (times values : List Float) (marks ends : List ℕ) (t : Float) (p : ℕ) (w : Window) : Type 0 where
+  pub spot : SpotIs starts clips xs ys blocks m times values marks ends p w
+  pub place : 0 < length starts → p ≡ lastAtMost starts t
+
+-- the start at p comes after the spot's, neither of the two has samples that it contributes
+pub record Follows (blocks : List Float) (m : Manifest) (ends : List ℕ) (start : Float) (clip q : ℕ) (w : Window) (p : ℕ) : Type 0 where
+  pub next : p ≡ q + 1
+  pub none-before : w .end ≤ w .begin
+  pub none-here : (not (m .interpolate && any (λ (b : Float). eq b start) blocks) && ltb (clipBegin ends clip) (clipEnd ends clip)) ≡ false

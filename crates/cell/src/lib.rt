@@ -1,0 +1,267 @@
+// A cell: a stretch of stage times on which one source is read, or one clip along one line.
+
+// The window that a walk is in.
+pub mod spot;
+
+use definitions::Manifest;
+use definitions::Source;
+use near::Near;
+use near::near_in;
+use near::tops::tops_of;
+use spot::Spot;
+use spot::no_spot;
+use spot::spot_at;
+use steps::line::Line;
+use steps::line::line_of;
+use value::jump::is_jump;
+use value::windowed::source_in;
+use window::Bound;
+ghost use mathlib.Core.Path.{_≡_};
+ghost use Prim.Native.Nat.{_-_};
+ghost use lib.ListN.{length};
+ghost use Rattle.definitions.specs.Doubles.{FiniteDouble};
+ghost use Rattle.set_laws.specs.Places.{Ascending};
+ghost use Rattle.cell_laws.specs.Unpacked.{knotsOf, setOf, samplesOf, Ready};
+ghost use Rattle.window.specs.Bounds.{UpperIs};
+ghost use Rattle.near.specs.Tops.{TopsOf};
+ghost use Rattle.cell.specs.Pieces.{heldOf, DirectIs, PieceIs};
+ghost use Rattle.cell.specs.Spots.{SpotAt};
+
+// What is read from a stage time on: one source, or a clip's samples held along a line.
+pub enum Cell {
+    Constant(Source),
+    Reading(u64, Line),
+}
+
+// The cell of a stage time, and the least boundary above it, up to which the cell says the value; and a
+// knot and a sample near it.
+pub struct Piece {
+    pub cell: Cell,
+    pub end: Bound,
+    pub knot: usize,
+    pub sample: usize,
+}
+
+// The least of ascending times that is above t.
+fn first_above(xs: &[f64], t: f64) -> Bound
+    requires { ⌜ Ascending (now xs) ⌝ }
+    requires { ⌜ FiniteDouble t ⌝ }
+    ensures { λ r. ⌜ UpperIs (now (xs .entry)) t r ⌝ }
+{
+    if xs.len() == 0 {
+        return Bound::Nothing;
+    }
+    if t < xs[0] {
+        return Bound::At(xs[0]);
+    }
+    let next = lists::last_at_most(xs, t) + 1;
+    if next < xs.len() {
+        return Bound::At(xs[next]);
+    }
+    Bound::Nothing
+}
+
+// The cell of the direct reading at t, by its window.
+fn direct_cell(
+    starts: &[f64],
+    clips: &[u64],
+    xs: &[f64],
+    ys: &[f64],
+    blocks: &[f64],
+    m: Manifest,
+    times: &[f64],
+    values: &[f64],
+    marks: &[u8],
+    ends: &[u64],
+    spot: Spot,
+    t: f64,
+) -> Cell
+    requires { ⌜ Ready (now starts) (now clips) (now xs) (now ys) (now blocks) m (now times) (now values) (now marks) (now ends) ⌝ }
+    requires { ⌜ SpotAt (now starts) (now clips) (now xs) (now ys) (now blocks) m (now times) (now values) (now marks) (now ends) t (spot .p) (spot .w) ⌝ }
+    requires { ⌜ FiniteDouble t ⌝ }
+    ensures { λ r. ⌜ DirectIs (setOf (length (now (ends .entry))) (now (starts .entry)) (now (clips .entry)) (now (xs .entry)) (now (ys .entry)) (now (blocks .entry)) m) (samplesOf (now (times .entry)) (now (values .entry)) (now (marks .entry)) (now (ends .entry))) t r ⌝ }
+{
+    if starts.len() == 0 {
+        return Cell::Constant(Source::Absent);
+    }
+    let w = spot.w;
+    if w.begin < w.end {
+        return Cell::Reading(w.clip, line_of(xs, ys, t));
+    }
+    let gap = w.gap;
+    Cell::Constant(gap)
+}
+
+// The time whose direct value is held between two neighbours: the lower one, unless one of them is
+// missing or two knots share an x between them.
+fn held_from(xs: &[f64], ys: &[f64], near: Near) -> Bound
+    requires { ⌜ Ascending (now xs) ⌝ }
+    requires { ⌜ length (now xs) ≡ length (now ys) ⌝ }
+    ensures { λ r. ⌜ r ≡ heldOf (knotsOf (now (xs .entry)) (now (ys .entry))) (near .lower) (near .upper) ⌝ }
+{
+    let lower = near.lower;
+    let upper = near.upper;
+    let Bound::At(l) = lower else {
+        return Bound::Nothing;
+    };
+    let Bound::At(h) = upper else {
+        return Bound::Nothing;
+    };
+    if is_jump(xs, ys, l, h, near.knot) {
+        return Bound::Nothing;
+    }
+    Bound::At(l)
+}
+
+// The place before one, if there is one.
+fn place_before(n: usize) -> usize
+    ensures { λ r. ⌜ r ≡ n - 1 ⌝ }
+{
+    if n == 0 {
+        return 0;
+    }
+    n - 1
+}
+
+// The cell of t and its end. One start: direct, up to the next knot. Several: held from the lower
+// neighbour or direct, up to the upper one.
+pub fn piece_at(
+    starts: &[f64],
+    clips: &[u64],
+    xs: &[f64],
+    ys: &[f64],
+    blocks: &[f64],
+    m: Manifest,
+    times: &[f64],
+    values: &[f64],
+    marks: &[u8],
+    ends: &[u64],
+    tops: &[f64],
+    spot: Spot,
+    t: f64,
+) -> Piece
+    requires { ⌜ Ready (now starts) (now clips) (now xs) (now ys) (now blocks) m (now times) (now values) (now marks) (now ends) ⌝ }
+    requires { ⌜ TopsOf (now xs) (now ys) (now tops) ⌝ }
+    requires { ⌜ SpotAt (now starts) (now clips) (now xs) (now ys) (now blocks) m (now times) (now values) (now marks) (now ends) t (spot .p) (spot .w) ⌝ }
+    requires { ⌜ FiniteDouble t ⌝ }
+    ensures { λ r. ⌜ PieceIs (setOf (length (now (ends .entry))) (now (starts .entry)) (now (clips .entry)) (now (xs .entry)) (now (ys .entry)) (now (blocks .entry)) m) (samplesOf (now (times .entry)) (now (values .entry)) (now (marks .entry)) (now (ends .entry))) t (r .cell) (r .end) ⌝ }
+{
+    if starts.len() < 2 {
+        let cell = direct_cell(
+            starts,
+            clips,
+            xs,
+            ys,
+            blocks,
+            m,
+            times,
+            values,
+            marks,
+            ends,
+            spot,
+            t,
+        );
+        return Piece {
+            cell,
+            end: first_above(xs, t),
+            knot: spot.knot,
+            sample: spot.sample,
+        };
+    }
+    let w = spot.w;
+    let begin = w.begin;
+    let end = w.end;
+    let found = near_in(
+        xs,
+        ys,
+        tops,
+        &times[begin..end],
+        w,
+        t,
+        spot.knot,
+        spot.sample,
+    );
+    let upper = found.upper;
+    let Bound::At(l) = held_from(xs, ys, found) else {
+        let cell = direct_cell(
+            starts,
+            clips,
+            xs,
+            ys,
+            blocks,
+            m,
+            times,
+            values,
+            marks,
+            ends,
+            spot,
+            t,
+        );
+        return Piece {
+            cell,
+            end: upper,
+            knot: found.knot,
+            sample: found.sample,
+        };
+    };
+    // the lower neighbour is the inverse time of a sample before the turn or at it
+    let hint = place_before(found.sample);
+    let held = source_in(xs, ys, times, w, l, found.knot, hint);
+    Piece {
+        cell: Cell::Constant(held),
+        end: upper,
+        knot: found.knot,
+        sample: found.sample,
+    }
+}
+
+// The cell of t and its end, from nothing.
+pub fn piece_of(
+    starts: &[f64],
+    clips: &[u64],
+    xs: &[f64],
+    ys: &[f64],
+    blocks: &[f64],
+    m: Manifest,
+    times: &[f64],
+    values: &[f64],
+    marks: &[u8],
+    ends: &[u64],
+    t: f64,
+) -> Piece
+    requires { ⌜ Ready (now starts) (now clips) (now xs) (now ys) (now blocks) m (now times) (now values) (now marks) (now ends) ⌝ }
+    requires { ⌜ FiniteDouble t ⌝ }
+    ensures { λ r. ⌜ PieceIs (setOf (length (now (ends .entry))) (now (starts .entry)) (now (clips .entry)) (now (xs .entry)) (now (ys .entry)) (now (blocks .entry)) m) (samplesOf (now (times .entry)) (now (values .entry)) (now (marks .entry)) (now (ends .entry))) t (r .cell) (r .end) ⌝ }
+{
+    let tops = tops_of(xs, ys);
+    let none = no_spot(starts);
+    let spot = spot_at(
+        starts,
+        clips,
+        xs,
+        ys,
+        blocks,
+        m,
+        times,
+        values,
+        marks,
+        ends,
+        none,
+        t,
+    );
+    piece_at(
+        starts,
+        clips,
+        xs,
+        ys,
+        blocks,
+        m,
+        times,
+        values,
+        marks,
+        ends,
+        &tops.items,
+        spot,
+        t,
+    )
+}

@@ -1,0 +1,71 @@
+-- `direct::nearest_from` meets its contract. Assumes nothing.
+use mathlib.Core.Path.{_≡_, refl, sym, ap, _∙_}
+use Prim.Native.Nat.{_-_, _≤_}
+use native.Mathlib.Omega.{arith}
+use lib.ListN.{length, drop}
+use Rattle.definitions.specs.declared.Source.the-variants.{Sample as sample}
+use Rattle.definitions.specs.Value.{firstReading}
+use Rattle.cell_laws.specs.Unpacked.{activeOf, setOf, samplesOf}
+use Rattle.direct.specs.Reads.{readingIs, from-found, from-on, from-end}
+use borrow.Author.Needs.{needs}
+use Rattle.direct.proofs.nearest_from.Statement.{statement}
+use Rattle.direct.proofs.nearest_from.Tie as tie
+
+abbrev Inv-loop : tie.InvT-loop
+Inv-loop starts clips xs ys blocks m times values marks ends p i₀ i = (i ≤ length starts) × (firstReading (setOf (length ends) starts clips xs ys blocks m) (samplesOf times values marks ends) (drop p (activeOf starts clips)) ≡ firstReading (setOf (length ends) starts clips xs ys blocks m) (samplesOf times values marks ends) (drop i (activeOf starts clips)))
+
+abbrev μ-loop : tie.MeasureT-loop
+μ-loop starts clips xs ys blocks m times values marks ends p i₀ i = length starts - i
+
+abbrev entry : tie.At-loop Inv-loop μ-loop → tie.Start Inv-loop μ-loop
+entry k = k .before .before .before .before .before .before .before .before .before .before
+
+loop-holds : tie.Need-loop-holds Inv-loop μ-loop
+loop-holds c = (omega arith, refl)
+
+read-start-requires : tie.Need-read-start-requires Inv-loop μ-loop
+read-start-requires c κs = (entry (c .before) .pre .0, omega arith)
+
+enum-known-found : tie.Need-enum-known-found Inv-loop μ-loop
+enum-known-found c = search needs
+
+returns : tie.Need-returns Inv-loop μ-loop
+returns c =
+    let g = c .before .found .given in
+    let k = c .before .before .before .before .before in
+    sym (k .loop .inv .1 ∙ from-found (entry k .pre .0) (k .loop .i) (omega arith) (sample (g .0 .0) (g .0 .1 .0)) (sym (ap readingIs (g .1)) ∙ c .before .before .before .read-start .ensures))
+
+enum-told : tie.Need-enum-told Inv-loop μ-loop
+enum-told c = search needs
+
+add-i : tie.Need-add-i Inv-loop μ-loop
+add-i c = omega arith
+
+loop-less : tie.Need-loop-less Inv-loop μ-loop
+loop-less c = omega arith
+
+loop-again : tie.Need-loop-again Inv-loop μ-loop
+loop-again c =
+    let k = c .before .before .before .before in
+    (omega arith, k .loop .inv .1 ∙ from-on (entry k .pre .0) (k .loop .i) (omega arith) (sym (ap readingIs (c .enum-told .given .1)) ∙ c .before .before .read-start .ensures))
+
+returns-2 : tie.Need-returns-2 Inv-loop μ-loop
+returns-2 c =
+    let k = c .before in
+    sym (k .loop .inv .1 ∙ from-end (entry k .pre .0) (k .loop .i) (omega arith))
+
+pub nearest-from-spec : {M : Type 1} → statement M
+nearest-from-spec =
+    tie.close
+    (tie.spec
+    Inv-loop
+    μ-loop
+    loop-holds
+    read-start-requires
+    enum-known-found
+    returns
+    enum-told
+    add-i
+    loop-less
+    loop-again
+    returns-2)

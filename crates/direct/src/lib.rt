@@ -1,0 +1,235 @@
+// The direct value: the active clip's held reading at the clip time, or what stands in for it.
+
+use definitions::Manifest;
+use definitions::Source;
+use window::part::clip_begin;
+use window::part::clip_end;
+ghost use mathlib.Core.Path.{_≡_};
+ghost use mathlib.Core.Bool.{not, _&&_, cond};
+ghost use mathlib.Core.List.{reverse};
+ghost use Prim.Native.Nat.{_<_, _≤_};
+ghost use lib.ListN.{length, getD, take, drop};
+ghost use lib.Ieee.{Float, nan, eq};
+ghost use Rattle.definitions.specs.Lists.{any};
+ghost use Rattle.definitions.specs.Value.{_orElse_, firstReading, manifestDefault, gapSource};
+ghost use Rattle.cell_laws.specs.Unpacked.{start, activeOf, setOf, samplesOf, Ready};
+ghost use Rattle.window.specs.Parts.{Readable};
+ghost use Rattle.direct.specs.Reads.{readingIs, readPart, readStart};
+
+// A sample that is read: its clip, and its place counted from the clip's first.
+pub enum Reading {
+    Of(u64, u64),
+    Nothing,
+}
+
+// 1 where a block equals the start, else 0.
+fn equal_found(block: f64, start: f64) -> u64
+    ensures { λ r. ⌜ r ≡ cond (eq block start) 1 0 ⌝ }
+{
+    if block == start {
+        return 1;
+    }
+    0
+}
+
+// A manifest block equals this start. They are counted, and no count ends the loop, so that several are tested at once.
+pub fn blocked_at(blocks: &[f64], start: f64) -> bool
+    ensures { λ r. ⌜ r ≡ any (λ (b : Float). eq b start) (now (blocks .entry)) ⌝ }
+{
+    let mut found: u64 = 0;
+    let mut i: usize = 0;
+    while i < blocks.len() {
+        found += equal_found(blocks[i], start);
+        i += 1;
+    }
+    0 < found
+}
+
+// The clip of this start contributes its samples: blocks count only where the missing flag is on.
+pub fn contributes(blocks: &[f64], m: Manifest, start: f64) -> bool
+    ensures { λ r. ⌜ r ≡ not (m .interpolate && any (λ (b : Float). eq b start) (now (blocks .entry))) ⌝ }
+{
+    if m.interpolate {
+        return !blocked_at(blocks, start);
+    }
+    true
+}
+
+// The held reading of a clip at the clip time of `t`, nothing for a clip without samples.
+pub fn read_clip(xs: &[f64], ys: &[f64], times: &[f64], ends: &[u64], clip: u64, t: f64) -> Reading
+    requires { ⌜ Readable (now xs) (now ys) (now times) (now ends) ⌝ ∗ ⌜ clip < length (now ends) ⌝ }
+    ensures { λ r. ⌜ readingIs r ≡ readPart (now (xs .entry)) (now (ys .entry)) (now (times .entry)) (now (ends .entry)) clip t ⌝ }
+{
+    let begin = clip_begin(ends, clip);
+    let end = clip_end(ends, clip);
+    if begin == end {
+        return Reading::Nothing;
+    }
+    let c = lists::map_time(xs, ys, t);
+    let place = lists::last_at_most(&times[begin..end], c);
+    Reading::Of(clip, place as u64)
+}
+
+// What a start gives to the search: the reading of its clip at its own clip time, unless a block equals the start.
+fn read_start(
+    starts: &[f64],
+    clips: &[u64],
+    xs: &[f64],
+    ys: &[f64],
+    blocks: &[f64],
+    m: Manifest,
+    times: &[f64],
+    values: &[f64],
+    marks: &[u8],
+    ends: &[u64],
+    i: usize,
+) -> Reading
+    requires { ⌜ Ready (now starts) (now clips) (now xs) (now ys) (now blocks) m (now times) (now values) (now marks) (now ends) ⌝ ∗ ⌜ i < length (now starts) ⌝ }
+    ensures { λ r. ⌜ readingIs r ≡ readStart (setOf (length (now (ends .entry))) (now (starts .entry)) (now (clips .entry)) (now (xs .entry)) (now (ys .entry)) (now (blocks .entry)) m) (samplesOf (now (times .entry)) (now (values .entry)) (now (marks .entry)) (now (ends .entry))) (start (getD (now (starts .entry)) i nan) (getD (now (clips .entry)) i 0)) ⌝ }
+{
+    let time = starts[i];
+    if blocked_at(blocks, time) {
+        return Reading::Nothing;
+    }
+    read_clip(xs, ys, times, ends, clips[i], time)
+}
+
+// The nearest reading of a start before the place `p`.
+fn nearest_before(
+    starts: &[f64],
+    clips: &[u64],
+    xs: &[f64],
+    ys: &[f64],
+    blocks: &[f64],
+    m: Manifest,
+    times: &[f64],
+    values: &[f64],
+    marks: &[u8],
+    ends: &[u64],
+    p: usize,
+) -> Reading
+    requires { ⌜ Ready (now starts) (now clips) (now xs) (now ys) (now blocks) m (now times) (now values) (now marks) (now ends) ⌝ ∗ ⌜ p ≤ length (now starts) ⌝ }
+    ensures { λ r. ⌜ readingIs r ≡ firstReading (setOf (length (now (ends .entry))) (now (starts .entry)) (now (clips .entry)) (now (xs .entry)) (now (ys .entry)) (now (blocks .entry)) m) (samplesOf (now (times .entry)) (now (values .entry)) (now (marks .entry)) (now (ends .entry))) (reverse (take p (activeOf (now (starts .entry)) (now (clips .entry))))) ⌝ }
+{
+    let mut left = p;
+    while left > 0 {
+        left -= 1;
+        let found = read_start(
+            starts,
+            clips,
+            xs,
+            ys,
+            blocks,
+            m,
+            times,
+            values,
+            marks,
+            ends,
+            left,
+        );
+        if let Reading::Of(clip, place) = found {
+            return Reading::Of(clip, place);
+        }
+    }
+    Reading::Nothing
+}
+
+// The nearest reading of a start from the place `p` on.
+fn nearest_from(
+    starts: &[f64],
+    clips: &[u64],
+    xs: &[f64],
+    ys: &[f64],
+    blocks: &[f64],
+    m: Manifest,
+    times: &[f64],
+    values: &[f64],
+    marks: &[u8],
+    ends: &[u64],
+    p: usize,
+) -> Reading
+    requires { ⌜ Ready (now starts) (now clips) (now xs) (now ys) (now blocks) m (now times) (now values) (now marks) (now ends) ⌝ ∗ ⌜ p ≤ length (now starts) ⌝ }
+    ensures { λ r. ⌜ readingIs r ≡ firstReading (setOf (length (now (ends .entry))) (now (starts .entry)) (now (clips .entry)) (now (xs .entry)) (now (ys .entry)) (now (blocks .entry)) m) (samplesOf (now (times .entry)) (now (values .entry)) (now (marks .entry)) (now (ends .entry))) (drop p (activeOf (now (starts .entry)) (now (clips .entry)))) ⌝ }
+{
+    let mut i = p;
+    while i < starts.len() {
+        let found = read_start(
+            starts,
+            clips,
+            xs,
+            ys,
+            blocks,
+            m,
+            times,
+            values,
+            marks,
+            ends,
+            i,
+        );
+        if let Reading::Of(clip, place) = found {
+            return Reading::Of(clip, place);
+        }
+        i += 1;
+    }
+    Reading::Nothing
+}
+
+// What stands in for the reading of the start at the place `p`: the manifest default, then a value of the starts before it, then of those after it.
+pub fn gap_source(
+    starts: &[f64],
+    clips: &[u64],
+    xs: &[f64],
+    ys: &[f64],
+    blocks: &[f64],
+    m: Manifest,
+    times: &[f64],
+    values: &[f64],
+    marks: &[u8],
+    ends: &[u64],
+    p: usize,
+) -> Source
+    requires { ⌜ Ready (now starts) (now clips) (now xs) (now ys) (now blocks) m (now times) (now values) (now marks) (now ends) ⌝ ∗ ⌜ p < length (now starts) ⌝ }
+    ensures { λ r. ⌜ r ≡ (manifestDefault (setOf (length (now (ends .entry))) (now (starts .entry)) (now (clips .entry)) (now (xs .entry)) (now (ys .entry)) (now (blocks .entry)) m) orElse gapSource (setOf (length (now (ends .entry))) (now (starts .entry)) (now (clips .entry)) (now (xs .entry)) (now (ys .entry)) (now (blocks .entry)) m) (samplesOf (now (times .entry)) (now (values .entry)) (now (marks .entry)) (now (ends .entry))) p) ⌝ }
+{
+    let default = m.default;
+    if default.mark == 0 {
+        return Source::Default;
+    }
+    if !m.interpolate {
+        return Source::Blocked;
+    }
+    let back = nearest_before(
+        starts,
+        clips,
+        xs,
+        ys,
+        blocks,
+        m,
+        times,
+        values,
+        marks,
+        ends,
+        p,
+    );
+    if let Reading::Of(clip, place) = back {
+        return Source::Sample(clip, place);
+    }
+    let next = p + 1;
+    let on = nearest_from(
+        starts,
+        clips,
+        xs,
+        ys,
+        blocks,
+        m,
+        times,
+        values,
+        marks,
+        ends,
+        next,
+    );
+    if let Reading::Of(clip, place) = on {
+        return Source::Sample(clip, place);
+    }
+    Source::Blocked
+}

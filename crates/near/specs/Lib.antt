@@ -1,0 +1,7 @@
+-- What the contracts of this crate cite, and the laws that its proofs share.
+-- How far the inverse times of the segments reach
+pub mod Tops
+-- The inverse times of all segments by those near a time
+pub mod Reaches
+-- A window as it is handed on
+pub mod Windowed

@@ -1,0 +1,6 @@
+-- Laws that the proofs of src/ cite.
+pub mod Readings
+pub mod Passages
+pub mod Between
+pub mod Writing
+pub mod Filling

@@ -1,0 +1,186 @@
+// The changes over a run of samples that are passed in one segment of knots, where the value is held from the inverse time that was passed last.
+// Only the clip's slices are handed on, so that a pass over them stays in registers.
+use crate::Counted;
+use crate::Wrote;
+use beside::turn::turn;
+use lists::near::last_at_most_near;
+use steps::entry::Entry;
+use steps::entry::alike;
+use steps::line::Line;
+use steps::line::along;
+ghost use mathlib.Core.Path.{_≡_};
+ghost use Prim.Native.Nat.{_≤_, _<_};
+ghost use lib.ListN.{length};
+ghost use Rattle.gf.specs.Key as Key;
+ghost use Rattle.definitions.specs.Explicit.{knot};
+ghost use Rattle.set_laws.specs.Places.{Ascending};
+ghost use Rattle.window.specs.Near.{Segment};
+ghost use Rattle.steps.specs.Entries.{entryIs};
+ghost use Rattle.reading.specs.Readings.{Reads, readingAt, CountIs, RoomFrom, WrittenFrom};
+ghost use Rattle.reading.specs.Passages.{spanned, passingAt, changesPassing, Passing, Passes, SampleIs, NextPassed};
+
+// The key of the next inverse time, the place of its sample, and the place behind it; or none.
+pub enum Ahead {
+    At(u64, usize, usize),
+    Nothing,
+}
+
+// The entry that is read along the line at the key k. Its place is beside the hint.
+fn entry_along(cs: &[f64], vs: &[f64], ms: &[u8], line: Line, k: u64, hint: usize) -> Entry
+    requires { ⌜ Reads (now cs) (now vs) (now ms) ⌝ }
+    requires { ⌜ (Key.least ≤ k) × (k ≤ Key.most) ⌝ }
+    ensures { λ r. ⌜ entryIs r ≡ readingAt (now (cs .entry)) (now (vs .entry)) (now (ms .entry)) line k ⌝ }
+{
+    let place = last_at_most_near(cs, along(line, gf::of_key(k)), hint);
+    if ms[place] == 0 {
+        return Entry {
+            value: vs[place],
+            mark: 0,
+        };
+    }
+    Entry {
+        value: 0.0,
+        mark: 1,
+    }
+}
+
+// The inverse time of the sample at i, where it is not above hi; p is the place behind it.
+fn sample_ahead(
+    cs: &[f64],
+    x0: f64,
+    y0: f64,
+    x1: f64,
+    y1: f64,
+    i: usize,
+    p: usize,
+    hi: u64,
+) -> Ahead
+    requires { ⌜ Segment (knot x0 y0, knot x1 y1) ⌝ ∗ ⌜ Ascending (now cs) ⌝ }
+    requires { ⌜ i < length (now cs) ⌝ ∗ ⌜ spanned (now cs) (knot x0 y0, knot x1 y1) i ⌝ }
+    ensures { λ r. ⌜ SampleIs (now (cs .entry)) (knot x0 y0, knot x1 y1) i p hi r ⌝ }
+{
+    let m = gf::key(gf::segment::inverse(x0, x1, y0, y1, cs[i]));
+    if hi < m {
+        return Ahead::Nothing;
+    }
+    Ahead::At(m, i, p)
+}
+
+// The next inverse time from the key k on, whose place among the samples is n: they are passed upwards where the segment rises, downwards where it falls.
+fn next_passed(cs: &[f64], x0: f64, y0: f64, x1: f64, y1: f64, n: usize, k: u64, hi: u64) -> Ahead
+    requires { ⌜ Segment (knot x0 y0, knot x1 y1) ⌝ ∗ ⌜ Ascending (now cs) ⌝ }
+    requires { ⌜ Passes (now cs) (knot x0 y0, knot x1 y1) n k ⌝ }
+    ensures { λ r. ⌜ NextPassed (now (cs .entry)) (knot x0 y0, knot x1 y1) n k hi r ⌝ }
+{
+    if y0 < y1 {
+        if n < cs.len() {
+            if cs[n] <= y1 {
+                return sample_ahead(cs, x0, y0, x1, y1, n, n + 1, hi);
+            }
+        }
+        return Ahead::Nothing;
+    }
+    if y1 < y0 {
+        if 0 < n {
+            let before = n - 1;
+            if y1 <= cs[before] {
+                return sample_ahead(cs, x0, y0, x1, y1, before, before, hi);
+            }
+        }
+    }
+    Ahead::Nothing
+}
+
+// Counts the changes above k and up to hi, where `last` is read at k. It stops at the first one beyond the room. The hint n is for the place of k.
+pub fn count_passed(
+    cs: &[f64],
+    vs: &[f64],
+    ms: &[u8],
+    floor: f64,
+    x0: f64,
+    y0: f64,
+    x1: f64,
+    y1: f64,
+    last: Entry,
+    n: usize,
+    k: u64,
+    hi: u64,
+    room: usize,
+) -> Counted
+    requires { ⌜ Passing (now cs) (now vs) (now ms) (knot x0 y0, knot x1 y1) floor (entryIs last) k hi ⌝ }
+    ensures { λ r. ⌜ CountIs (changesPassing (now (cs .entry)) (now (vs .entry)) (now (ms .entry)) (knot x0 y0, knot x1 y1) floor k hi) (passingAt (now (cs .entry)) (now (vs .entry)) (now (ms .entry)) (knot x0 y0, knot x1 y1) floor hi) room (r .fits) (r .count) (entryIs (r .last)) ⌝ }
+{
+    let line = Line::Segment(x0, y0, x1, y1);
+    let mut at = k;
+    let mut place = turn(cs, x0, x1, y0, y1, gf::of_key(k), n);
+    let mut held = last;
+    let mut count: usize = 0;
+    loop {
+        let Ahead::At(m, i, next) = next_passed(cs, x0, y0, x1, y1, place, at, hi) else {
+            return Counted {
+                fits: true,
+                count,
+                last: held,
+            };
+        };
+        let entry = entry_along(cs, vs, ms, line, m, i);
+        at = m;
+        place = next;
+        if !alike(entry, held) {
+            if count == room {
+                return Counted {
+                    fits: false,
+                    count,
+                    last: held,
+                };
+            }
+            count += 1;
+            held = entry;
+        }
+    }
+}
+
+// Writes the changes above k and up to hi, for which there is room, from slot `slot` on. The rest is as in counting them.
+pub fn write_passed(
+    cs: &[f64],
+    vs: &[f64],
+    ms: &[u8],
+    floor: f64,
+    x0: f64,
+    y0: f64,
+    x1: f64,
+    y1: f64,
+    last: Entry,
+    n: usize,
+    k: u64,
+    hi: u64,
+    slot: usize,
+    outtimes: &mut [f64],
+    outvalues: &mut [f64],
+    outmarks: &mut [u8],
+) -> Wrote
+    requires { ⌜ Passing (now cs) (now vs) (now ms) (knot x0 y0, knot x1 y1) floor (entryIs last) k hi ⌝ }
+    requires { ⌜ RoomFrom slot (changesPassing (now cs) (now vs) (now ms) (knot x0 y0, knot x1 y1) floor k hi) (now outtimes) (now outvalues) (now outmarks) ⌝ }
+    ensures { λ r. ⌜ WrittenFrom slot (changesPassing (now (cs .entry)) (now (vs .entry)) (now (ms .entry)) (knot x0 y0, knot x1 y1) floor k hi) (passingAt (now (cs .entry)) (now (vs .entry)) (now (ms .entry)) (knot x0 y0, knot x1 y1) floor hi) (now (outtimes .entry)) (now (outvalues .entry)) (now (outmarks .entry)) (now (outtimes .exit)) (now (outvalues .exit)) (now (outmarks .exit)) (r .count) (entryIs (r .last)) ⌝ }
+{
+    let line = Line::Segment(x0, y0, x1, y1);
+    let mut at = k;
+    let mut place = turn(cs, x0, x1, y0, y1, gf::of_key(k), n);
+    let mut held = last;
+    let mut count = slot;
+    loop {
+        let Ahead::At(m, i, next) = next_passed(cs, x0, y0, x1, y1, place, at, hi) else {
+            return Wrote { count, last: held };
+        };
+        let entry = entry_along(cs, vs, ms, line, m, i);
+        at = m;
+        place = next;
+        if !alike(entry, held) {
+            outtimes[count] = gf::of_key(m);
+            outvalues[count] = entry.value;
+            outmarks[count] = entry.mark;
+            count += 1;
+            held = entry;
+        }
+    }
+}

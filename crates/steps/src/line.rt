@@ -1,0 +1,86 @@
+// The line that leads from stage times to clip times in a cell, and the first step of the place that is read along it.
+use crate::next_step;
+use track_laws::Next;
+ghost use mathlib.Core.Path.{_≡_};
+ghost use mathlib.Core.Bool.{not};
+ghost use Prim.Native.Nat.{_≤_};
+ghost use lib.Dec.{T};
+ghost use lib.Ieee.{isNan};
+ghost use lib.ListN.{length};
+ghost use Rattle.gf.specs.Key as Key;
+ghost use Rattle.set_laws.specs.Places.{Ascending};
+ghost use Rattle.track_laws.specs.Steps.{Once, FirstStep};
+ghost use Rattle.cell_laws.specs.Knots as Knots;
+ghost use Rattle.cell_laws.specs.Keys.{Keys};
+ghost use Rattle.cell_laws.specs.Unpacked.{knotsOf};
+ghost use Rattle.steps.specs.Lines.{lineIs, placeOn};
+
+// How stage times lead to clip times in a cell: no knots, below the first or from the last on, or
+// between two knots (x0, y0) and (x1, y1).
+pub enum Line {
+    Plain,
+    Flat(f64),
+    Segment(f64, f64, f64, f64),
+}
+
+// The line at the stage time t.
+pub fn line_of(xs: &[f64], ys: &[f64], t: f64) -> Line
+    requires { ⌜ length (now xs) ≡ length (now ys) ⌝ }
+    requires { ⌜ Ascending (now xs) ⌝ }
+    requires { ⌜ T (not (isNan t)) ⌝ }
+    ensures { λ r. ⌜ lineIs r ≡ Knots.lineOf (knotsOf (now (xs .entry)) (now (ys .entry))) t ⌝ }
+{
+    let n = xs.len();
+    if n == 0 {
+        return Line::Plain;
+    }
+    if t < xs[0] {
+        return Line::Flat(ys[0]);
+    }
+    let last = n - 1;
+    if xs[last] <= t {
+        return Line::Flat(ys[last]);
+    }
+    let lo = lists::last_at_most(xs, t);
+    let hi = lo + 1;
+    Line::Segment(xs[lo], ys[lo], xs[hi], ys[hi])
+}
+
+// The clip time that a line gives.
+pub fn along(line: Line, t: f64) -> f64
+    ensures { λ r. ⌜ r ≡ Knots.along (lineIs line) t ⌝ }
+{
+    match line {
+        Line::Plain => t,
+        Line::Flat(y) => y,
+        Line::Segment(x0, y0, x1, y1) => {
+            if t == x0 {
+                return y0;
+            }
+            gf::lerp(x0, x1, y0, y1, t)
+        }
+    }
+}
+
+// The place of the sample that is read at the key k.
+pub fn place_on(times: &[f64], line: Line, k: u64) -> usize
+    requires { ⌜ Ascending (now times) ⌝ }
+    requires { ⌜ (Key.least ≤ k) × (k ≤ Key.most) ⌝ }
+    ensures { λ r. ⌜ r ≡ placeOn (now (times .entry)) line k ⌝ }
+{
+    lists::last_at_most(times, along(line, gf::of_key(k)))
+}
+
+// The least key above lo and up to hi at which another sample is read than at lo.
+pub fn step_in_cell(times: &[f64], line: Line, lo: u64, hi: u64) -> Next
+    requires { ⌜ Ascending (now times) ⌝ }
+    requires { ⌜ Keys lo hi ⌝ }
+    requires { ⌜ Once (placeOn (now times) line) lo hi ⌝ }
+    ensures { λ r. ⌜ FirstStep (placeOn (now (times .entry)) line) lo hi r ⌝ }
+{
+    if times.len() == 0 {
+        return Next::Nothing;
+    }
+    let place = place_on(times, line, lo);
+    next_step(times, line, place, lo, hi)
+}

@@ -1,0 +1,2 @@
+-- Laws that the proofs of src/ cite.
+pub mod Halts

@@ -1,0 +1,45 @@
+// The value at a key, as a track holds it.
+use definitions::Manifest;
+use steps::entry::Entry;
+use steps::entry::entry_of;
+ghost use mathlib.Core.Path.{_≡_};
+ghost use Prim.Native.Nat.{_≤_};
+ghost use lib.ListN.{length};
+ghost use Rattle.gf.specs.Key as Key;
+ghost use Rattle.cell_laws.specs.Keys.{entryAtKey};
+ghost use Rattle.cell_laws.specs.Unpacked.{setOf, samplesOf, Ready};
+ghost use Rattle.steps.specs.Entries.{entryIs};
+
+// The entry at the double with the key k.
+pub fn entry_at(
+    starts: &[f64],
+    clips: &[u64],
+    xs: &[f64],
+    ys: &[f64],
+    blocks: &[f64],
+    m: Manifest,
+    times: &[f64],
+    values: &[f64],
+    marks: &[u8],
+    ends: &[u64],
+    k: u64,
+) -> Entry
+    requires { ⌜ Ready (now starts) (now clips) (now xs) (now ys) (now blocks) m (now times) (now values) (now marks) (now ends) ⌝ }
+    requires { ⌜ (Key.least ≤ k) × (k ≤ Key.most) ⌝ }
+    ensures { λ r. ⌜ entryIs r ≡ entryAtKey (setOf (length (now (ends .entry))) (now (starts .entry)) (now (clips .entry)) (now (xs .entry)) (now (ys .entry)) (now (blocks .entry)) m) (samplesOf (now (times .entry)) (now (values .entry)) (now (marks .entry)) (now (ends .entry))) k ⌝ }
+{
+    let t = gf::of_key(k);
+    entry_of(value::value::value(
+        starts,
+        clips,
+        xs,
+        ys,
+        blocks,
+        m,
+        times,
+        values,
+        marks,
+        ends,
+        t,
+    ))
+}

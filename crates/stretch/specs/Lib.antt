@@ -1,0 +1,7 @@
+-- What the contracts of this crate cite, and the laws that its proofs share.
+-- The stretch of keys in one cell
+pub mod Runs
+-- The cell of a window without knots
+pub mod Plains
+-- The changes of the value, and what writing them promises
+pub mod Changes
