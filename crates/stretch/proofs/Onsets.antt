@@ -2,45 +2,40 @@
 use mathlib.Core.Path.{_≡_, refl, sym, ap, ap₂, _∙_, subst}
 use mathlib.Core.Logic.{_⊎_, inl, inr}
 use mathlib.Core.Bool.{Bool, true, false, not, _&&_, cond}
-use mathlib.Core.List.{List, [], _∷_}
+use mathlib.Core.List.{List}
 use Prim.Native.Nat.{ℕ, _+_, _-_, _≤_, _<_, min}
 use native.Mathlib.Nat.{le-of-eq}
 use native.Mathlib.Omega.{arith}
 use lib.Dec.{T, eqb, ltb}
 use lib.ListN.{length, getD, drop, length-drop}
 use lib.Seq.{length-take-le}
-use lib.Ieee.{Float, nan, inf, isNan, fits, eq, lt, le}
+use lib.Ieee.{Float, nan, inf, fits, eq, lt, le}
 use borrow.Author.Tests.{ltb-true, ltb-false, lt-ltb}
 use Rattle.gf.specs.Doubles.{0·0}
-use Rattle.gf.specs.Key.{key, ofKey, least, most, ofKey-fits, ofKey-no-nan, ofKey-finite, key-ofKey, le→key, lt→key, lt-is, key→le, key→lt, finite→key, key→finite, finite-no-nan, le-no-nan, lt→le, lt-not-le}
+use Rattle.gf.specs.Key.{key, ofKey, least, most, ofKey-fits, ofKey-no-nan, ofKey-finite, key-ofKey, le→key, lt→key, key→le, key→lt, finite→key, key→finite, finite-no-nan, le-no-nan, lt→le, lt-not-le}
 use Rattle.definitions.specs.declared.Manifest.{Manifest}
-use Rattle.definitions.specs.declared.Knot.{Knot}
 use Rattle.definitions.specs.declared.Source.{Source}
 use Rattle.definitions.specs.declared.Source.the-variants.{Sample as sample}
-use Rattle.definitions.specs.Lists.{any, gather}
+use Rattle.definitions.specs.Lists.{any}
 use Rattle.definitions.specs.Doubles.{FiniteDouble}
 use Rattle.definitions.specs.Explicit.{knot}
 use Rattle.definitions.specs.ClipSet.{ClipSet, stage}
-use Rattle.definitions.specs.Timing.{lastAtMost, mapTime, onSegment as onLine}
+use Rattle.definitions.specs.Timing.{lastAtMost}
 use Rattle.definitions.specs.Samples.{Samples, clipBegin, clipEnd}
-use Rattle.definitions.specs.Value.{marked, says, valueInSet, directSource, gathered, jump, spans, inverse, onPair}
+use Rattle.definitions.specs.Value.{marked, says, valueInSet, directSource, gathered, inverse}
 use Rattle.definitions.specs.Track.{Entry, entryOf}
 use Rattle.set_laws.specs.Tests.{is-true, is-false, holds}
 use Rattle.set_laws.specs.Every.{Every, every-at, every-take, every-drop}
 use Rattle.set_laws.specs.Places.{Fits, atMost, at-most-length, beyond, up-to, last-is}
-use Rattle.track_laws.specs.Laws.{Agree}
 use Rattle.cell_laws.specs.Ends.{Number}
 use Rattle.cell_laws.specs.Keys.{Keys, sourceAtKey, entryAtKey}
 use Rattle.cell_laws.specs.Knots as Knots
-use Rattle.cell_laws.specs.Neighbours.{IsLower}
 use Rattle.cell_laws.specs.Window.{gathered-fit}
 use Rattle.cell_laws.specs.Zeros.{zero-direct}
 use Rattle.cell_laws.specs.Unpacked.{Ready, setOf, samplesOf, knotsOf}
-use Rattle.window.specs.declared.Bound.{Bound}
 use Rattle.window.specs.declared.Bound.the-variants.{At, Nothing}
 use Rattle.window.specs.declared.Bounds.{Bounds}
-use Rattle.window.specs.Bounds.{In, in-every, every-in, NeighboursAre}
-use Rattle.window.specs.Inverses.{onSegment, every-each}
+use Rattle.window.specs.Bounds.{NeighboursAre}
 use Rattle.window.specs.Near.{Segment}
 use Rattle.window.specs.Parts.{partOf, last-short, ready-clip, ready-readable, ready-starts}
 use Rattle.window.specs.Windows.{ifOwn}
@@ -51,7 +46,7 @@ use Rattle.near.specs.declared.Window.{Window}
 use Rattle.near.specs.Tops.{segmentOf, segment-here}
 use Rattle.near.specs.Windowed.{samplesIn, windowTimes, windowSource}
 use Rattle.reading.specs.Readings.{Reads, readingAt}
-use Rattle.reading.specs.Passages.{lineOn, passedBy, passingAt, Passing, segment-fits, passing-lower}
+use Rattle.reading.specs.Passages.{lineOn, passedBy, passingAt, Passing, passing-lower}
 use Rattle.value.specs.ClipTimes.{OnSegment, on-segment}
 use Rattle.value.specs.Handed.{WindowIs, window-gathered}
 use Rattle.value.specs.Passes.{Onset, HeldAt, nh, knot-low, run-held, run-first}
@@ -59,7 +54,6 @@ use Rattle.cell.specs.declared.Cell.the-variants.{Constant}
 use Rattle.cell.specs.Pieces.{heldOf, PieceIs}
 use Rattle.cell.proofs.Lent.{sound, samples}
 use Rattle.cell.proofs.Ways.{piece-constant}
-use Rattle.onset.specs.Begins.{BeforeIs, LastIs}
 use Rattle.stretch.specs.Runs.{part}
 use Rattle.stretch.proofs.Spans.{part-length, part-at, source-on}
 
@@ -70,52 +64,6 @@ inf-fits s = tt
 pub place-short : (ts : List Float) (line : Line) (k : ℕ) → 0 < length ts → placeOn ts line k < length ts
 unfolding placeOn
 place-short ts line k h = last-short ts (Knots.along (lineIs line) (ofKey k)) h
-
--- ---- the last inverse time
-
-pub lesser-number : (a b : Float) → T (not (isNan a)) → T (not (isNan b)) → T (not (isNan (cond (lt a b) a b)))
-lesser-number a b n m = go (lt a b)
-  where
-    go : (c : Bool) → T (not (isNan (cond c a b)))
-    go true = n
-    go false = m
-
-pub in-segment : (cs : List Float) (q : Knot × Knot) (i : ℕ) → i < length cs → T (spans (q .0 .y) (q .1 .y) (getD cs i nan)) → In (inverse (q .0) (q .1) (getD cs i nan)) (onSegment cs q)
-unfolding onSegment
-in-segment cs q i h s = one
-  where
-    seg : List Float
-    seg = gather (λ (d : Float). onPair d q) cs
-
-    all : Every (λ (d : Float). Every (λ (x : Float). In x (gather (λ (e : Float). onPair e q) cs)) (onPair d q)) cs
-    all = every-each (λ (x : Float). In x (gather (λ (e : Float). onPair e q) cs)) (λ (d : Float). onPair d q) cs (every-in (gather (λ (e : Float). onPair e q) cs))
-
-    here : Every (λ (x : Float). In x (gather (λ (e : Float). onPair e q) cs)) (onPair (getD cs i nan) q)
-    here = every-at (λ (d : Float). Every (λ (x : Float). In x (gather (λ (e : Float). onPair e q) cs)) (onPair d q)) cs i nan all h
-
-    one : In (inverse (q .0) (q .1) (getD cs i nan)) (gather (λ (e : Float). onPair e q) cs)
-    one = subst (λ (b : Bool). Every (λ (x : Float). In x (gather (λ (e : Float). onPair e q) cs)) (cond b (inverse (q .0) (q .1) (getD cs i nan) ∷ []) [])) (is-true (spans (q .0 .y) (q .1 .y) (getD cs i nan)) s) here .0
-
-pub last-is-in : (xs ys cs : List Float) (i : ℕ) (max ceil : Float) → Fits max → T (not (isNan max)) → Number (getD xs (i + 1) nan) → ceil ≡ cond (lt max (getD xs (i + 1) nan)) max (getD xs (i + 1) nan)
-    → (r : Bound) → BeforeIs cs (segmentOf xs ys i) ceil r → LastIs xs ys cs i max r
-last-is-in xs ys cs i max ceil fm nm nx e Nothing b = tt
-last-is-in xs ys cs i max ceil fm nm nx e (At h) b = let r = go (lt max x) refl (subst (λ (z : Float). T (lt h z)) e (b .1)) in (b .0, r .0, r .1)
-  where
-    x : Float
-    x = getD xs (i + 1) nan
-
-    nh : Number h
-    nh = (in-every Fits h (onSegment cs (segmentOf xs ys i)) (segment-fits cs (segmentOf xs ys i)) (b .0), le-no-nan h ceil (lt→le h ceil (b .1)) .0)
-
-    go : (c : Bool) → lt max (getD xs (i + 1) nan) ≡ c → T (lt h (cond c max (getD xs (i + 1) nan))) → T (lt h max) × T (lt h (getD xs (i + 1) nan))
-    go true q l =
-        let k = lt→key h max (nh .0) fm (nh .1) nm l in
-        let j = lt→key max (getD xs (i + 1) nan) fm (nx .0) nm (nx .1) (holds (lt max (getD xs (i + 1) nan)) q) in
-        (l, key→lt h (getD xs (i + 1) nan) (nh .0) (nx .0) (nh .1) (nx .1) (omega arith))
-    go false q l =
-        let k = lt→key h (getD xs (i + 1) nan) (nh .0) (nx .0) (nh .1) (nx .1) l in
-        let j = ltb-false (key max) (key (getD xs (i + 1) nan)) (sym (lt-is max (getD xs (i + 1) nan) fm (nx .0) nm (nx .1)) ∙ q) in
-        (key→lt h max (nh .0) fm (nh .1) nm (omega arith), l)
 
 -- ---- a window
 

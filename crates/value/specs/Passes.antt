@@ -2,7 +2,7 @@
 -- of them that lies below the next knot and the next start. So a time of the run holds its value from the lower neighbour, with no jump. Assumes nothing.
 use mathlib.Core.Path.{_≡_, refl, sym, _∙_, subst}
 use mathlib.Core.Logic.{_⊎_, inl, inr}
-use mathlib.Core.Bool.{Bool, true, false, not, _||_, cond}
+use mathlib.Core.Bool.{Bool, true, false, cond}
 use mathlib.Core.List.{List, [], _∷_, _++_}
 use Prim.Native.Nat.{ℕ, _+_, _-_, _≤_, _<_}
 use native.Mathlib.Nat.{le-of-eq}
@@ -11,16 +11,14 @@ use native.Mathlib.Decide.{decLe}
 use lib.Dec.{T}
 use lib.ListN.{length, getD}
 use lib.Ieee.{Float, nan, inf, fits, eq, lt, le}
-use Rattle.gf.specs.Key.{key, le→key, lt→key, key→le, key→lt, eq→key, key→eq, le-trans, le-no-nan, lt→le, le-is, lt-is}
+use Rattle.gf.specs.Key.{key, le→key, lt→key, key→le, key→lt, eq→key, key→eq, le-trans, le-no-nan, lt→le}
 use Rattle.gf.specs.declared.interval.Interval.{Interval}
 use Rattle.definitions.specs.declared.Knot.{Knot}
-use Rattle.definitions.specs.Lists.{any, keep, gather}
-use Rattle.definitions.specs.Doubles.{FiniteDouble}
+use Rattle.definitions.specs.Lists.{any, keep}
 use Rattle.definitions.specs.Timing.{lastAtMost}
 use Rattle.definitions.specs.Value.{spans, inverse, onPair, jump}
 use Rattle.set_laws.specs.Tests.{is-true, is-false, holds}
 use Rattle.set_laws.specs.Every.{Every, every-at}
-use Rattle.set_laws.specs.Places.{Ascending}
 use Rattle.cell_laws.specs.Every.{any-with, every-by, every-zip, every-keep, every-kept, every-append, every-left, every-right, both, or-l, or-r}
 use Rattle.cell_laws.specs.Ends.{Number}
 use Rattle.cell_laws.specs.Places.{Fits}
@@ -30,7 +28,7 @@ use Rattle.cell_laws.specs.Unpacked.{knotsOf}
 use Rattle.window.specs.declared.Bound.{Bound}
 use Rattle.window.specs.declared.Bound.the-variants.{At, Nothing}
 use Rattle.window.specs.declared.Bounds.{Bounds}
-use Rattle.window.specs.Bounds.{In, in-every, every-in, inside, nothing, withTime, Scanned, scanned-none, scanned-then, scanned-one, neighbours-of, LowerIs, UpperIs, NeighboursAre}
+use Rattle.window.specs.Bounds.{In, in-every, every-in, inside, nothing, withTime, Scanned, scanned-none, scanned-then, scanned-one, neighbours-of, LowerIs, UpperIs}
 use Rattle.window.specs.Inverses.{onSegment, inversesOf, every-of, every-if}
 use Rattle.window.specs.Pairs.{jump-by-x}
 use Rattle.beside.specs.Beside.{Facing, finite-number, number-at, climb}

@@ -7,7 +7,7 @@ use Rattle.definitions.specs.Explicit.{knot}
 use Rattle.set_laws.specs.Tests.{holds}
 use Rattle.window.specs.Bounds.{In}
 use Rattle.window.specs.Inverses.{onSegment}
-use Rattle.stretch.proofs.Onsets.{in-segment}
+use Rattle.onset.proofs.Ahead.{in-segment}
 use borrow.Author.Needs.{needs}
 use Rattle.onset.proofs.last_before.Statement.{statement}
 use Rattle.onset.proofs.last_before.Tie as tie

@@ -8,7 +8,7 @@ use lib.Ieee.{Float, nan, isNan, binary64, fits}
 use denote.Ref.{now}
 use Rattle.cell_laws.specs.Ends.{Number}
 use Rattle.beside.specs.Beside.{number-at}
-use Rattle.stretch.proofs.Onsets.{lesser-number, last-is-in}
+use Rattle.onset.proofs.Ahead.{lesser-number, last-is-in}
 use borrow.Author.Needs.{needs}
 use Rattle.onset.proofs.last_in.Statement.{statement}
 use Rattle.onset.proofs.last_in.Tie as tie
