@@ -7,10 +7,7 @@ use definitions::Manifest;
 use definitions::Source;
 use near::Near;
 use near::near_in;
-use near::tops::tops_of;
 use spot::Spot;
-use spot::no_spot;
-use spot::spot_at;
 use steps::line::Line;
 use steps::line::line_of;
 use value::jump::is_jump;
@@ -213,55 +210,4 @@ pub fn piece_at(
         knot: found.knot,
         sample: found.sample,
     }
-}
-
-// The cell of t and its end, from nothing.
-pub fn piece_of(
-    starts: &[f64],
-    clips: &[u64],
-    xs: &[f64],
-    ys: &[f64],
-    blocks: &[f64],
-    m: Manifest,
-    times: &[f64],
-    values: &[f64],
-    marks: &[u8],
-    ends: &[u64],
-    t: f64,
-) -> Piece
-    requires { ⌜ Ready (now starts) (now clips) (now xs) (now ys) (now blocks) m (now times) (now values) (now marks) (now ends) ⌝ }
-    requires { ⌜ FiniteDouble t ⌝ }
-    ensures { λ r. ⌜ PieceIs (setOf (length (now (ends .entry))) (now (starts .entry)) (now (clips .entry)) (now (xs .entry)) (now (ys .entry)) (now (blocks .entry)) m) (samplesOf (now (times .entry)) (now (values .entry)) (now (marks .entry)) (now (ends .entry))) t (r .cell) (r .end) ⌝ }
-{
-    let tops = tops_of(xs, ys);
-    let none = no_spot(starts);
-    let spot = spot_at(
-        starts,
-        clips,
-        xs,
-        ys,
-        blocks,
-        m,
-        times,
-        values,
-        marks,
-        ends,
-        none,
-        t,
-    );
-    piece_at(
-        starts,
-        clips,
-        xs,
-        ys,
-        blocks,
-        m,
-        times,
-        values,
-        marks,
-        ends,
-        &tops.items,
-        spot,
-        t,
-    )
 }

@@ -1,5 +1,4 @@
--- A run of samples that are passed in one segment: between two inverse times what is read stays, at each it is what the line gives there. So from one to the next the
--- changes are found. Assumes nothing.
+-- A run of samples that are passed in one segment: between two inverse times what is read stays, at each it is what the line gives there. Assumes nothing.
 use mathlib.Core.Path.{_≡_, refl, sym, ap, _∙_, subst}
 use mathlib.Core.Bool.{Bool, true, false, cond}
 use mathlib.Core.List.{List, [], _∷_, _++_}
@@ -16,23 +15,22 @@ use Rattle.definitions.specs.declared.Knot.{Knot}
 use Rattle.definitions.specs.Lists.{any, gather}
 use Rattle.definitions.specs.Value.{spans, inverse, onPair, greatest}
 use Rattle.definitions.specs.Track.{Entry, entryOf, alike}
-use Rattle.set_laws.specs.Tests.{holds, is-true}
+use Rattle.set_laws.specs.Tests.{is-true}
 use Rattle.set_laws.specs.Every.{Every, every-map}
 use Rattle.set_laws.specs.Places.{Fits}
-use Rattle.track_laws.specs.Track.{Still, ChangeAt}
-use Rattle.track_laws.specs.Laws.{changes-still, changes-none}
-use Rattle.track_laws.specs.Steps.{Level, StopAt, change-stop, still-stop, still-level}
+use Rattle.track_laws.specs.Steps.{Level}
 use Rattle.cell_laws.specs.Every.{every-getD, or-l, or-r}
 use Rattle.cell_laws.specs.Ends.{Number}
 use Rattle.cell_laws.specs.Keys.{none-passed}
 use Rattle.cell_laws.specs.Neighbours.{IsLower}
 use Rattle.cell_laws.specs.Places.{keep-le-same}
-use Rattle.cell_laws.specs.Tracks.{entry-same, alike-refl, alike-same}
+use Rattle.cell_laws.specs.Tracks.{alike-same}
 use Rattle.window.specs.Inverses.{onSegment}
 use Rattle.steps.specs.Lines.{placeOn}
 use Rattle.reading.specs.Readings.{Reads, entryAt, readingAt}
-use Rattle.reading.specs.Passages.{lineOn, passedBy, passingAt, changesPassing, Passing, spanned, inverseKey, PassedAt, segment-fits, passing-lower}
+use Rattle.reading.specs.Passages.{lineOn, passedBy, passingAt, Passing, spanned, inverseKey, PassedAt, segment-fits, passing-lower}
 use Rattle.reading.proofs.Passages.{span-number}
+use Rattle.reading.proofs.Walking.{Reaches}
 
 -- ---- a sample's inverse time is one of the segment's
 
@@ -122,49 +120,21 @@ module _ {cs vs : List Float} {ms : List ℕ} {q : Knot × Knot} {floor : Float}
         last = (up floor (R .ground .fitting), every-map Fits (λ (y : Float). T (le y (ofKey m)) → T (le y x)) up (onSegment cs q) (segment-fits cs q));
       }
 
-  -- ---- no further one
-
-  module _ {at : ℕ} (l : k ≤ at) (h : at ≤ hi) (n : Every (λ (x : Float). key x ≤ hi → key x ≤ at) (onSegment cs q)) where
-    pub stays-same : passingAt cs vs ms q floor hi ≡ passingAt cs vs ms q floor at
-    stays-same = stays at hi l (omega arith) n hi h (omega arith)
-
-    pub stays-all : changesPassing cs vs ms q floor k hi ≡ changesPassing cs vs ms q floor k at
-    stays-all = changes-still entry-same v k at hi h (still-level at at hi (omega arith) (λ j p r. absurd (omega arith)) (stays at hi l (omega arith) n))
-
-  pub none-yet : changesPassing cs vs ms q floor k k ≡ []
-  none-yet = changes-none entry-same v k k (omega arith)
-
   -- ---- the next one
 
   module _ {n at m i p : ℕ} (l : k ≤ at) (S : PassedAt cs q n at hi m i p) where
     pub passed-reads : passingAt cs vs ms q floor m ≡ readingAt cs vs ms (lineOn q) m
     passed-reads = reached m i (omega (arith, S .from)) (S .within) (S .inside) (S .between) (S .here)
 
-    stop : at < m → StopAt v at hi m
-    stop h = record {
-      above = h;
-      within = S .within;
-      level = stays at (m - 1) l (omega (arith, S .within)) (every-map (λ (x : Float). key x < m → key x ≤ at) (λ (x : Float). key x ≤ m - 1 → key x ≤ at) (λ x c w. c (omega arith)) (onSegment cs q) (S .clear));
+    pub passed-reaches : Reaches (passingAt cs vs ms q floor) at m
+    passed-reaches = record {
+      from = S .from;
+      level = stays at (m - 1) l (omega (arith, S .within)) (every-map (λ (x : Float). key x < m → key x ≤ at) (λ (x : Float). key x ≤ m - 1 → key x ≤ at) before (onSegment cs q) (S .clear));
+      sure = entry-alike (R .reads) (placeOn cs (lineOn q) (key (passedBy cs q floor (ofKey m)))) (placeOn cs (lineOn q) (key (passedBy cs q floor (ofKey at))));
     }
-
-    pub passed-changes : alike (passingAt cs vs ms q floor m) (passingAt cs vs ms q floor at) ≡ false → ChangeAt (passingAt cs vs ms q floor) at hi m
-    passed-changes d = elim (decLe m at) [
-      | yes h ↦ let z : m ≡ at = omega (arith, S .from) in absurd (unlike (ap v z))
-      | no h ↦ change-stop (omega arith) (λ j x y. absurd (omega arith)) (stop (omega arith)) unlike
-    ]
       where
-        unlike : v m ≡ v at → ⊥
-        unlike w = subst T (sym (ap (λ (x : Entry). alike x (v at)) w) ∙ d) (alike-refl (v at))
-
-    module _ (d : alike (passingAt cs vs ms q floor m) (passingAt cs vs ms q floor at) ≡ true) where
-      pub passed-same : passingAt cs vs ms q floor m ≡ passingAt cs vs ms q floor at
-      passed-same = entry-alike (R .reads) (placeOn cs (lineOn q) (key (passedBy cs q floor (ofKey m)))) (placeOn cs (lineOn q) (key (passedBy cs q floor (ofKey at)))) (holds _ d)
-
-      pub passed-on : changesPassing cs vs ms q floor k m ≡ changesPassing cs vs ms q floor k at
-      passed-on = changes-still entry-same v k at m (S .from) still
-        where
-          still : Still v at m
-          still = elim (decLe m at) [
-            | yes h ↦ λ j x y. absurd (omega arith)
-            | no h ↦ still-stop (omega arith) (λ j x y. absurd (omega arith)) (stop (omega arith)) passed-same
-          ]
+        before : (x : Float) → (key x < m → key x ≤ at) → key x ≤ m - 1 → key x ≤ at
+        before x c w = elim (decLe m 0) [
+          | yes h ↦ omega (arith, S .from)
+          | no h ↦ c (omega arith)
+        ]

@@ -2,5 +2,5 @@
 pub mod Readings
 pub mod Passages
 pub mod Between
-pub mod Writing
 pub mod Filling
+pub mod Walking

@@ -1,9 +1,9 @@
--- A clip's samples that are read along a line: the entry at a place, and what a step of the place tells of the changes. Assumes nothing.
-use mathlib.Core.Path.{_≡_, refl, sym, ap, _∙_, subst}
+-- A clip's samples that are read along a line: the entry at a place, and what a step of the place tells of what is read. Assumes nothing.
+use mathlib.Core.Path.{_≡_, refl, sym, ap, _∙_}
 use mathlib.Core.Logic.{inl, inr}
 use mathlib.Core.Bool.{Bool, true, false, cond}
 use mathlib.Core.List.{List, [], _∷_}
-use Prim.Native.Nat.{ℕ, zero, suc, _-_, _≤_, _<_}
+use Prim.Native.Nat.{ℕ, zero, suc, _≤_, _<_}
 use native.Mathlib.Omega.{arith}
 use borrow.Author.Tests.{eq-eqb, ne-eqb}
 use lib.Dec.{T, eqb}
@@ -13,18 +13,16 @@ use Rattle.gf.specs.Key.{ofKey}
 use Rattle.gf.specs.Doubles.{0·0}
 use Rattle.definitions.specs.declared.Answer.the-variants.{Value, Blocked}
 use Rattle.definitions.specs.Track.{Entry, entryOf, alike}
-use Rattle.set_laws.specs.Tests.{holds}
 use Rattle.set_laws.specs.Places.{Fits}
-use Rattle.track_laws.specs.Track.{Still, ChangeAt}
-use Rattle.track_laws.specs.Laws.{changes-still, changes-none}
-use Rattle.track_laws.specs.Steps.{Once, Level, Through, StepAt, StopAt, grows-once, falls-once, level-through, step-stop, change-stop, still-stop, still-level}
+use Rattle.track_laws.specs.Steps.{Once, Level, Through, StepAt, grows-once, falls-once, level-through}
 use Rattle.cell_laws.specs.Every.{every-getD}
 use Rattle.cell_laws.specs.Knots as Knots
-use Rattle.cell_laws.specs.Tracks.{entry-same, alike-refl, alike-same}
+use Rattle.cell_laws.specs.Tracks.{alike-same}
 use Rattle.window.specs.Parts.{last-short}
 use Rattle.steps.specs.declared.line.Line.{Line}
 use Rattle.steps.specs.Lines.{lineIs, placeOn}
-use Rattle.reading.specs.Readings.{Reads, Turns, entryAt, readingAt, changesRead}
+use Rattle.reading.specs.Readings.{Reads, Turns, entryAt, readingAt}
+use Rattle.reading.proofs.Walking.{Reaches}
 
 -- ---- the entry at a place
 
@@ -89,38 +87,9 @@ module _ {ts vs : List Float} {ms : List ℕ} (R : Reads ts vs ms) (line : Line)
   through : Through f w
   through j k e = ap (entryAt vs ms) e
 
-  -- no step: no change
-  pub ends-still : {at hi : ℕ} → at ≤ hi → Level (placeOn ts line) at hi → Still (readingAt ts vs ms line) at hi
-  ends-still {at} {hi} h l = still-level at at hi (omega arith) (λ j p q. absurd (omega arith)) (level-through through at hi l)
+  -- no step: it stays
+  pub read-level : {at hi : ℕ} → Level (placeOn ts line) at hi → Level (readingAt ts vs ms line) at hi
+  read-level {at} {hi} l = level-through through at hi l
 
-  pub ends-same : {at hi : ℕ} → at ≤ hi → Level (placeOn ts line) at hi → readingAt ts vs ms line hi ≡ readingAt ts vs ms line at
-  ends-same {at} {hi} h l = through hi at (l hi h (omega arith))
-
-  module _ {at hi m : ℕ} (s : StepAt (placeOn ts line) at hi m) where
-    stop : StopAt w at hi m
-    stop = step-stop through s
-
-    -- unlike there: the next change
-    pub step-changes : alike (readingAt ts vs ms line m) (readingAt ts vs ms line at) ≡ false → ChangeAt (readingAt ts vs ms line) at hi m
-    step-changes n = change-stop (omega arith) (λ j p q. absurd (omega arith)) stop (λ e. subst T (sym (ap (λ (x : Entry). alike x (w at)) e) ∙ n) (alike-refl (w at)))
-
-    -- alike there: none up to there, and the entry is the same
-    pub step-same : alike (readingAt ts vs ms line m) (readingAt ts vs ms line at) ≡ true → readingAt ts vs ms line m ≡ readingAt ts vs ms line at
-    step-same e = read-alike m at (holds _ e)
-
-    pub step-still : alike (readingAt ts vs ms line m) (readingAt ts vs ms line at) ≡ true → Still (readingAt ts vs ms line) at m
-    step-still e = still-stop (omega arith) (λ j p q. absurd (omega arith)) stop (step-same e)
-
-  -- ---- the changes above lo
-
-  module _ (lo : ℕ) where
-    pub read-none : changesRead ts vs ms line lo lo ≡ []
-    read-none = changes-none entry-same w lo lo (omega arith)
-
-    module _ {at hi : ℕ} (l : lo ≤ at) (h : at ≤ hi) where
-      pub read-all : Level (placeOn ts line) at hi → changesRead ts vs ms line lo hi ≡ changesRead ts vs ms line lo at
-      read-all e = changes-still entry-same w lo at hi h (ends-still h e)
-
-      module _ {m : ℕ} (s : StepAt (placeOn ts line) at hi m) where
-        pub read-on : alike (readingAt ts vs ms line m) (readingAt ts vs ms line at) ≡ true → changesRead ts vs ms line lo m ≡ changesRead ts vs ms line lo at
-        read-on e = let a = s .above in changes-still entry-same w lo at m (omega arith) (step-still s e)
+  pub read-reaches : {at hi m : ℕ} → StepAt (placeOn ts line) at hi m → Reaches (readingAt ts vs ms line) at m
+  read-reaches {at} {m = m} s = let l = s .above in record { from = omega arith; level = read-level (s .level); sure = read-alike m at }

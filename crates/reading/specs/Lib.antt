@@ -3,3 +3,5 @@
 pub mod Readings
 -- A run of samples passed in one segment
 pub mod Passages
+-- A walk that writes changes while there are slots
+pub mod Walks

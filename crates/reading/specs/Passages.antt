@@ -17,12 +17,10 @@ use Rattle.definitions.specs.Value.{spans, inverse, greatest, maximum, lowerNei
 use Rattle.definitions.specs.Track.{Entry}
 use Rattle.set_laws.specs.Tests.{is-true}
 use Rattle.set_laws.specs.Every.{Every}
-use Rattle.track_laws.specs.Track as steps
 use Rattle.cell_laws.specs.Every.{every-keep}
 use Rattle.cell_laws.specs.Keys.{Keys}
 use Rattle.cell_laws.specs.Neighbours.{IsLower, lower-found}
 use Rattle.cell_laws.specs.Places.{Fits}
-use Rattle.cell_laws.specs.Tracks.{entry-same}
 use Rattle.window.specs.Inverses.{onSegment}
 use Rattle.window.specs.Near.{Segment, inverse-fits}
 use Rattle.steps.specs.declared.line.Line.{Line}
@@ -44,10 +42,6 @@ passedBy cs q floor t = greatest floor (keep (λ (x : Float). le x t) (onSegment
 -- the entry that is read at the key k: the one at the time passed last
 abbrev pub passingAt : List Float → List Float → List ℕ → Knot × Knot → Float → ℕ → Entry
 passingAt cs vs ms q floor k = readingAt cs vs ms (lineOn q) (key (passedBy cs q floor (ofKey k)))
-
--- its changes above k and up to hi
-abbrev pub changesPassing : List Float → List Float → List ℕ → Knot × Knot → Float → ℕ → ℕ → List (steps.Change Entry)
-changesPassing cs vs ms q floor k hi = steps.changesTo entry-same (passingAt cs vs ms q floor) k hi
 
 -- what a run from k to hi asks: at k the entry e is read
 pub record Passing (cs vs : List Float) (ms : List ℕ) (q : Knot × Knot) (floor : Float) (e : Entry) (k hi : ℕ) : Type 0 where

@@ -1,11 +1,10 @@
 // The changes over a run of samples that are passed in one segment of knots, where the value is held from the inverse time that was passed last.
 // Only the clip's slices are handed on, so that a pass over them stays in registers.
-use crate::Counted;
-use crate::Wrote;
+use crate::walk::Went;
+use crate::walk::offer;
 use beside::turn::turn;
 use lists::near::last_at_most_near;
 use steps::entry::Entry;
-use steps::entry::alike;
 use steps::line::Line;
 use steps::line::along;
 ghost use mathlib.Core.Path.{_≡_};
@@ -16,8 +15,9 @@ ghost use Rattle.definitions.specs.Explicit.{knot};
 ghost use Rattle.set_laws.specs.Places.{Ascending};
 ghost use Rattle.window.specs.Near.{Segment};
 ghost use Rattle.steps.specs.Entries.{entryIs};
-ghost use Rattle.reading.specs.Readings.{Reads, readingAt, CountIs, RoomFrom, WrittenFrom};
-ghost use Rattle.reading.specs.Passages.{spanned, passingAt, changesPassing, Passing, Passes, SampleIs, NextPassed};
+ghost use Rattle.reading.specs.Readings.{Reads, readingAt};
+ghost use Rattle.reading.specs.Passages.{spanned, passingAt, Passing, Passes, SampleIs, NextPassed};
+ghost use Rattle.reading.specs.Walks.{outputs, Room, Walked};
 
 // The key of the next inverse time, the place of its sample, and the place behind it; or none.
 pub enum Ahead {
@@ -91,8 +91,8 @@ fn next_passed(cs: &[f64], x0: f64, y0: f64, x1: f64, y1: f64, n: usize, k: u64,
     Ahead::Nothing
 }
 
-// Counts the changes above k and up to hi, where `last` is read at k. It stops at the first one beyond the room. The hint n is for the place of k.
-pub fn count_passed(
+// Writes the changes above k and up to hi from slot `slot` on, while there is room, where `last` is read at k. The hint n is for the place of k.
+pub fn fill_passed(
     cs: &[f64],
     vs: &[f64],
     ms: &[u8],
@@ -106,62 +106,14 @@ pub fn count_passed(
     k: u64,
     hi: u64,
     room: usize,
-) -> Counted
-    requires { ⌜ Passing (now cs) (now vs) (now ms) (knot x0 y0, knot x1 y1) floor (entryIs last) k hi ⌝ }
-    ensures { λ r. ⌜ CountIs (changesPassing (now (cs .entry)) (now (vs .entry)) (now (ms .entry)) (knot x0 y0, knot x1 y1) floor k hi) (passingAt (now (cs .entry)) (now (vs .entry)) (now (ms .entry)) (knot x0 y0, knot x1 y1) floor hi) room (r .fits) (r .count) (entryIs (r .last)) ⌝ }
-{
-    let line = Line::Segment(x0, y0, x1, y1);
-    let mut at = k;
-    let mut place = turn(cs, x0, x1, y0, y1, gf::of_key(k), n);
-    let mut held = last;
-    let mut count: usize = 0;
-    loop {
-        let Ahead::At(m, i, next) = next_passed(cs, x0, y0, x1, y1, place, at, hi) else {
-            return Counted {
-                fits: true,
-                count,
-                last: held,
-            };
-        };
-        let entry = entry_along(cs, vs, ms, line, m, i);
-        at = m;
-        place = next;
-        if !alike(entry, held) {
-            if count == room {
-                return Counted {
-                    fits: false,
-                    count,
-                    last: held,
-                };
-            }
-            count += 1;
-            held = entry;
-        }
-    }
-}
-
-// Writes the changes above k and up to hi, for which there is room, from slot `slot` on. The rest is as in counting them.
-pub fn write_passed(
-    cs: &[f64],
-    vs: &[f64],
-    ms: &[u8],
-    floor: f64,
-    x0: f64,
-    y0: f64,
-    x1: f64,
-    y1: f64,
-    last: Entry,
-    n: usize,
-    k: u64,
-    hi: u64,
     slot: usize,
     outtimes: &mut [f64],
     outvalues: &mut [f64],
     outmarks: &mut [u8],
-) -> Wrote
+) -> Went
     requires { ⌜ Passing (now cs) (now vs) (now ms) (knot x0 y0, knot x1 y1) floor (entryIs last) k hi ⌝ }
-    requires { ⌜ RoomFrom slot (changesPassing (now cs) (now vs) (now ms) (knot x0 y0, knot x1 y1) floor k hi) (now outtimes) (now outvalues) (now outmarks) ⌝ }
-    ensures { λ r. ⌜ WrittenFrom slot (changesPassing (now (cs .entry)) (now (vs .entry)) (now (ms .entry)) (knot x0 y0, knot x1 y1) floor k hi) (passingAt (now (cs .entry)) (now (vs .entry)) (now (ms .entry)) (knot x0 y0, knot x1 y1) floor hi) (now (outtimes .entry)) (now (outvalues .entry)) (now (outmarks .entry)) (now (outtimes .exit)) (now (outvalues .exit)) (now (outmarks .exit)) (r .count) (entryIs (r .last)) ⌝ }
+    requires { ⌜ Room room slot (outputs (now outtimes) (now outvalues) (now outmarks)) ⌝ }
+    ensures { λ r. ⌜ Walked (passingAt (now (cs .entry)) (now (vs .entry)) (now (ms .entry)) (knot x0 y0, knot x1 y1) floor) k hi room slot (outputs (now (outtimes .entry)) (now (outvalues .entry)) (now (outmarks .entry))) (outputs (now (outtimes .exit)) (now (outvalues .exit)) (now (outmarks .exit))) r ⌝ }
 {
     let line = Line::Segment(x0, y0, x1, y1);
     let mut at = k;
@@ -170,17 +122,26 @@ pub fn write_passed(
     let mut count = slot;
     loop {
         let Ahead::At(m, i, next) = next_passed(cs, x0, y0, x1, y1, place, at, hi) else {
-            return Wrote { count, last: held };
+            return Went {
+                key: hi,
+                last: held,
+                count,
+                done: true,
+            };
         };
         let entry = entry_along(cs, vs, ms, line, m, i);
+        let behind = offer(entry, held, m, room, count, outtimes, outvalues, outmarks);
+        if room < behind {
+            return Went {
+                key: at,
+                last: held,
+                count,
+                done: false,
+            };
+        }
         at = m;
         place = next;
-        if !alike(entry, held) {
-            outtimes[count] = gf::of_key(m);
-            outvalues[count] = entry.value;
-            outmarks[count] = entry.mark;
-            count += 1;
-            held = entry;
-        }
+        held = entry;
+        count = behind;
     }
 }

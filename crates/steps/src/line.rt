@@ -1,6 +1,4 @@
-// The line that leads from stage times to clip times in a cell, and the first step of the place that is read along it.
-use crate::next_step;
-use track_laws::Next;
+// The line that leads from stage times to clip times in a cell, and the place that is read along it.
 ghost use mathlib.Core.Path.{_≡_};
 ghost use mathlib.Core.Bool.{not};
 ghost use Prim.Native.Nat.{_≤_};
@@ -9,9 +7,7 @@ ghost use lib.Ieee.{isNan};
 ghost use lib.ListN.{length};
 ghost use Rattle.gf.specs.Key as Key;
 ghost use Rattle.set_laws.specs.Places.{Ascending};
-ghost use Rattle.track_laws.specs.Steps.{Once, FirstStep};
 ghost use Rattle.cell_laws.specs.Knots as Knots;
-ghost use Rattle.cell_laws.specs.Keys.{Keys};
 ghost use Rattle.cell_laws.specs.Unpacked.{knotsOf};
 ghost use Rattle.steps.specs.Lines.{lineIs, placeOn};
 
@@ -69,18 +65,4 @@ pub fn place_on(times: &[f64], line: Line, k: u64) -> usize
     ensures { λ r. ⌜ r ≡ placeOn (now (times .entry)) line k ⌝ }
 {
     lists::last_at_most(times, along(line, gf::of_key(k)))
-}
-
-// The least key above lo and up to hi at which another sample is read than at lo.
-pub fn step_in_cell(times: &[f64], line: Line, lo: u64, hi: u64) -> Next
-    requires { ⌜ Ascending (now times) ⌝ }
-    requires { ⌜ Keys lo hi ⌝ }
-    requires { ⌜ Once (placeOn (now times) line) lo hi ⌝ }
-    ensures { λ r. ⌜ FirstStep (placeOn (now (times .entry)) line) lo hi r ⌝ }
-{
-    if times.len() == 0 {
-        return Next::Nothing;
-    }
-    let place = place_on(times, line, lo);
-    next_step(times, line, place, lo, hi)
 }

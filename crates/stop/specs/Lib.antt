@@ -1,3 +1,3 @@
 -- What the contracts of this crate cite, and the laws that its proofs share.
--- The end of a cell as a stop
+-- The end of a cell by its key
 pub mod Stops

@@ -3,5 +3,5 @@
 pub mod Runs
 -- The cell of a window without knots
 pub mod Plains
--- The changes of the value, and what writing them promises
+-- The changes of the value
 pub mod Changes

@@ -1,7 +1,6 @@
--- A stretch of keys in one cell or in a run of samples: what is said there, its changes with the one at its beginning, and what the search for it promises. Assumes nothing.
+-- A stretch of keys in one cell or in a run of samples: what is said there, and what the search for it promises. Assumes nothing.
 use mathlib.Core.Path.{_≡_}
-use mathlib.Core.Bool.{cond}
-use mathlib.Core.List.{List, [], _∷_, _++_}
+use mathlib.Core.List.{List}
 use Prim.Native.Nat.{ℕ, _-_, _≤_, _<_}
 use lib.ListN.{length, take, drop}
 use lib.Ieee.{Float}
@@ -12,11 +11,9 @@ use Rattle.definitions.specs.declared.Knot.{Knot}
 use Rattle.definitions.specs.Explicit.{knot}
 use Rattle.definitions.specs.ClipSet.{ClipSet}
 use Rattle.definitions.specs.Samples.{Samples, clipBegin, clipEnd}
-use Rattle.definitions.specs.Track.{Entry, alike}
-use Rattle.track_laws.specs.Track.{Change, changesTo}
+use Rattle.definitions.specs.Track.{Entry}
 use Rattle.track_laws.specs.Laws.{Agree}
 use Rattle.cell_laws.specs.Keys.{Keys, entryAtKey}
-use Rattle.cell_laws.specs.Tracks.{entry-same}
 use Rattle.cell_laws.specs.Unpacked.{setOf, samplesOf}
 use Rattle.steps.specs.declared.line.Line.{Line}
 use Rattle.steps.specs.Lines.{placeOn}
@@ -78,25 +75,6 @@ Goes times values marks ends (Past c floor x0 y0 x1 y1 n) here k hi = PastRun ti
 abbrev pub saysBy : List Float → List Float → List ℕ → List ℕ → Way → Entry → ℕ → Entry
 saysBy times values marks ends (Within c) here j = saysOn times values marks ends c here j
 saysBy times values marks ends (Past c floor x0 y0 x1 y1 n) here j = passingAt (part times ends c) (part values ends c) (part marks ends c) (knot x0 y0, knot x1 y1) floor j
-
--- the change where a cell begins at k, if there is one: before it the value is last, there it is here
-abbrev pub begun : Entry → Entry → ℕ → List (Change Entry)
-begun last here k = cond (alike here last) [] (record { key = k; value = here } ∷ [])
-
--- the changes in a cell above k and up to hi
-abbrev pub changesCell : List Float → List Float → List ℕ → List ℕ → Cell → Entry → ℕ → ℕ → List (Change Entry)
-changesCell times values marks ends c here k hi = changesTo entry-same (saysOn times values marks ends c here) k hi
-
--- the changes of a stretch above k, and with the one at k
-abbrev pub changesIn : List Float → List Float → List ℕ → List ℕ → Stretch → ℕ → List (Change Entry)
-changesIn times values marks ends s k = changesTo entry-same (saysBy times values marks ends (s .way) (entryIs (s .here))) k (s .hi)
-
-abbrev pub changesOn : List Float → List Float → List ℕ → List ℕ → Stretch → Entry → ℕ → List (Change Entry)
-changesOn times values marks ends s last k = begun last (entryIs (s .here)) k ++ changesIn times values marks ends s k
-
--- what is said at the last key
-abbrev pub lastOn : List Float → List Float → List ℕ → List ℕ → Stretch → Entry
-lastOn times values marks ends s = saysBy times values marks ends (s .way) (entryIs (s .here)) (s .hi)
 
 -- the stretch from k on, up to top: the value there is what its way says
 pub record StretchIs (set : ClipSet) (s : Samples) (k top : ℕ) (r : Stretch) : Type 0 where

@@ -1,9 +1,9 @@
 // The stretch of keys from a key on that lie in its cell or in a run of samples, and what is said at its beginning.
 
+// The changes of one stretch, written while there is room.
+pub mod fill;
 // The cell of a window without knots.
-pub mod count;
 pub mod plain;
-pub mod write;
 
 use cell::Cell;
 use cell::piece_at;

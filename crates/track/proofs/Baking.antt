@@ -1,26 +1,35 @@
 -- The two ways out of a bake: 22 with the outputs as they were, and the track written. Assumes nothing.
-use mathlib.Core.Path.{_≡_, refl, sym, ap, _∙_}
+use mathlib.Core.Path.{_≡_, refl, sym, ap, ap₂, _∙_}
 use mathlib.Core.Bool.{Bool}
-use mathlib.Core.List.{List, [], _∷_, map}
-use Prim.Native.Nat.{ℕ, suc, _≤_, _<_, min}
+use mathlib.Core.List.{List, [], _∷_, _++_, map}
+use Prim.Native.Nat.{ℕ, suc, _+_, _≤_, _<_, min}
 use native.Mathlib.Omega.{arith}
-use lib.ListN.{length}
+use lib.ListN.{length, take, drop}
 use lib.Ieee.{Float}
 use borrow.Author.Tests.{lt-ltb, le-ltb}
 use Rattle.gf.specs.Key.{least, most}
-use Rattle.definitions.specs.Lists.{_if_else_}
+use Rattle.definitions.specs.Lists.{_if_else_, writtenOver}
 use Rattle.definitions.specs.ClipSet.{ClipSet}
 use Rattle.definitions.specs.Samples.{Samples}
-use Rattle.definitions.specs.Track.{Entry, Change, Outputs, slots, writeTrack}
+use Rattle.definitions.specs.Track.{Entry, Change, changeTimes, Outputs, slots, writeTrack}
 use Rattle.track_laws.specs.Track as steps
 use Rattle.cell_laws.specs.Keys.{entryAtKey}
 use Rattle.cell_laws.specs.Tracks.{writtenChange}
-use Rattle.stretch.specs.Changes.{changesOf, Written}
+use Rattle.reading.specs.Walks.{writtenFrom, written}
+use Rattle.stretch.specs.Changes.{changesOf}
 use Rattle.track.specs.Bakes.{outputs, trackOf, BakeIs}
 
 written-length : (cs : List (steps.Change Entry)) → length (map writtenChange cs) ≡ length cs
 written-length [] = refl
 written-length (c ∷ cs) = ap suc (written-length cs)
+
+-- from the first slot on
+from-first : {A : Type 0} (new old : List A) → writtenFrom 0 new old ≡ writtenOver new old
+from-first {A} new old = ap₂ (λ (l r : List A). (l ++ new) ++ r) (none-taken old) (let e : 0 + length new ≡ length new = omega arith in ap (λ (i : ℕ). drop i old) e)
+  where
+    none-taken : (l : List A) → take 0 l ≡ []
+    none-taken [] = refl
+    none-taken (x ∷ l) = refl
 
 module _ (set : ClipSet) (s : Samples) (times values : List Float) (marks : List ℕ) where
   abbrev before : Outputs
@@ -45,21 +54,27 @@ module _ (set : ClipSet) (s : Samples) (times values : List Float) (marks : List
       less : slots before < length (trackOf set s .changes)
       less = let e = written-length (changesOf set s least most) in let r = room-is in omega arith
 
-  pub bake-done : (times′ values′ : List Float) (marks′ : List ℕ) (mark : ℕ) (value : Float) (n : ℕ) → length (changesOf set s least most) ≤ min (length times) (min (length values) (length marks))
-      → _≡_ {A = Entry} (record { value = value; mark = mark }) (entryAtKey set s least) → Written (changesOf set s least most) times values marks times′ values′ marks′ n
-      → BakeIs set s (outputs times values marks) (outputs times′ values′ marks′) (record { number = 0; mark = mark; value = value; count = n })
-  bake-done times′ values′ marks′ mark value n h e w =
+  pub bake-done : (after : Outputs) (mark : ℕ) (value : Float) (n : ℕ) → length (changesOf set s least most) ≤ min (length times) (min (length values) (length marks))
+      → _≡_ {A = Entry} (record { value = value; mark = mark }) (entryAtKey set s least) → n ≡ length (changesOf set s least most) → after ≡ written 0 (changesOf set s least most) (outputs times values marks)
+      → BakeIs set s (outputs times values marks) after (record { number = 0; mark = mark; value = value; count = n })
+  bake-done after mark value n h e c w =
       record {
         number = sym (ap (λ (b : Bool). 22 if b else 0) (le-ltb (slots before) (length (trackOf set s .changes)) enough));
-        baked = λ _ i. record { initial = e i; count = counted i };
-        writes = after;
+        baked = λ _ i. record { initial = e i; count = (c ∙ sym (written-length (changesOf set s least most))) i };
+        writes = w ∙ all;
       }
     where
       enough : length (trackOf set s .changes) ≤ slots before
       enough = let q = written-length (changesOf set s least most) in let r = room-is in omega arith
 
-      counted : n ≡ length (trackOf set s .changes)
-      counted = w .count ∙ sym (written-length (changesOf set s least most))
+      in-times : writtenFrom 0 (changeTimes (map writtenChange (changesOf set s least most))) times ≡ writtenOver (changeTimes (map writtenChange (changesOf set s least most))) times
+      in-times = from-first (changeTimes (map writtenChange (changesOf set s least most))) times
 
-      after : outputs times′ values′ marks′ ≡ writeTrack (trackOf set s) before
-      after = unfold writeTrack in λ i. record { times = w .times i; values = w .values i; marks = w .marks i }
+      in-values : writtenFrom 0 (map (λ (c : Change). c .value) (map writtenChange (changesOf set s least most))) values ≡ writtenOver (map (λ (c : Change). c .value) (map writtenChange (changesOf set s least most))) values
+      in-values = from-first (map (λ (c : Change). c .value) (map writtenChange (changesOf set s least most))) values
+
+      in-marks : writtenFrom 0 (map (λ (c : Change). c .mark) (map writtenChange (changesOf set s least most))) marks ≡ writtenOver (map (λ (c : Change). c .mark) (map writtenChange (changesOf set s least most))) marks
+      in-marks = from-first (map (λ (c : Change). c .mark) (map writtenChange (changesOf set s least most))) marks
+
+      all : written 0 (changesOf set s least most) before ≡ writeTrack (trackOf set s) before
+      all = unfold writeTrack in λ i. record { times = in-times i; values = in-values i; marks = in-marks i }

@@ -1,11 +1,12 @@
 // The bake: the head and the changes of the value, counted first and then written.
 use crate::count::has_room;
-use crate::write::write;
+use crate::fill::Cursor;
+use crate::fill::fill;
+use crate::fill::shortest;
+use cell::spot::no_spot;
 use definitions::Manifest;
 use near::tops::tops_of;
 use stop::entry::entry_at;
-ghost use mathlib.Core.Path.{_≡_};
-ghost use Prim.Native.Nat.{min};
 ghost use lib.ListN.{length};
 ghost use Rattle.cell_laws.specs.Unpacked.{setOf, samplesOf, Ready};
 ghost use Rattle.track.specs.Bakes.{outputs, BakeIs};
@@ -23,22 +24,6 @@ pub struct Baked {
 const LEAST: u64 = 0x0010_0000_0000_0001;
 
 const MOST: u64 = 0xffef_ffff_ffff_ffff;
-
-// The length of the shortest of three lists.
-pub fn shortest(a: usize, b: usize, c: usize) -> usize
-    ensures { λ r. ⌜ r ≡ min a (min b c) ⌝ }
-{
-    if a < b {
-        if a < c {
-            return a;
-        }
-        return c;
-    }
-    if b < c {
-        return b;
-    }
-    c
-}
 
 // Bakes the value into its track: the head is the value at the lowest finite double, and the changes
 // are counted before any is written. 22: the shortest output has fewer slots than there are changes.
@@ -74,6 +59,12 @@ pub fn bake(
         LEAST,
     );
     let tops = tops_of(xs, ys);
+    let spot = no_spot(starts);
+    let from = Cursor {
+        key: LEAST,
+        last: head,
+        spot,
+    };
     let room = shortest(outtimes.len(), outvalues.len(), outmarks.len());
     if !has_room(
         starts,
@@ -87,8 +78,7 @@ pub fn bake(
         marks,
         ends,
         &tops.items,
-        head,
-        LEAST,
+        from,
         MOST,
         room,
     ) {
@@ -99,7 +89,7 @@ pub fn bake(
             count: 0,
         };
     }
-    let count = write(
+    let filled = fill(
         starts,
         clips,
         xs,
@@ -111,8 +101,7 @@ pub fn bake(
         marks,
         ends,
         &tops.items,
-        head,
-        LEAST,
+        from,
         MOST,
         outtimes,
         outvalues,
@@ -122,6 +111,6 @@ pub fn bake(
         number: 0,
         mark: head.mark,
         value: head.value,
-        count,
+        count: filled.count,
     }
 }

@@ -1,20 +1,62 @@
-// The first pass of a bake: the changes are counted, stretch by stretch.
-use cell::spot::no_spot;
+// The changes counted, page by page.
+use crate::fill::Cursor;
+use crate::fill::Filled;
+use crate::fill::fill;
 use definitions::Manifest;
-use steps::entry::Entry;
-use stretch::count::count_on;
-use stretch::stretch_at;
 ghost use mathlib.Core.Path.{_≡_};
 ghost use lib.Dec.{leb};
 ghost use lib.ListN.{length};
-ghost use Rattle.cell_laws.specs.Keys.{Keys, entryAtKey};
 ghost use Rattle.cell_laws.specs.Unpacked.{setOf, samplesOf, Ready};
-ghost use Rattle.steps.specs.Entries.{entryIs};
 ghost use Rattle.near.specs.Tops.{TopsOf};
 ghost use Rattle.stretch.specs.Changes.{changesOf};
+ghost use Rattle.track.specs.Fills.{CursorIs, PageIs};
 
-// Whether the changes above low and up to top are at most room in number. `head` is the value at low.
-// It stops at the first stretch with one beyond the room.
+// Fills a page that is dropped: what is left is how many changes there were, and where the walk stands.
+fn count_page(
+    starts: &[f64],
+    clips: &[u64],
+    xs: &[f64],
+    ys: &[f64],
+    blocks: &[f64],
+    m: Manifest,
+    times: &[f64],
+    values: &[f64],
+    marks: &[u8],
+    ends: &[u64],
+    tops: &[f64],
+    from: Cursor,
+    top: u64,
+) -> Filled
+    requires { ⌜ Ready (now starts) (now clips) (now xs) (now ys) (now blocks) m (now times) (now values) (now marks) (now ends) ⌝ }
+    requires { ⌜ TopsOf (now xs) (now ys) (now tops) ⌝ }
+    requires { ⌜ CursorIs (now starts) (now clips) (now xs) (now ys) (now blocks) m (now times) (now values) (now marks) (now ends) top from ⌝ }
+    ensures { λ r. ⌜ PageIs (now (starts .entry)) (now (clips .entry)) (now (xs .entry)) (now (ys .entry)) (now (blocks .entry)) m (now (times .entry)) (now (values .entry)) (now (marks .entry)) (now (ends .entry)) (from .key) top r ⌝ }
+{
+    let mut pagetimes: [f64; 256] = [0.0; 256];
+    let mut pagevalues: [f64; 256] = [0.0; 256];
+    let mut pagemarks: [u8; 256] = [0; 256];
+    fill(
+        starts,
+        clips,
+        xs,
+        ys,
+        blocks,
+        m,
+        times,
+        values,
+        marks,
+        ends,
+        tops,
+        from,
+        top,
+        &mut pagetimes,
+        &mut pagevalues,
+        &mut pagemarks,
+    )
+}
+
+// Whether the changes above the cursor's key and up to top are at most room in number. It stops at the first page with one
+// beyond the room.
 pub fn has_room(
     starts: &[f64],
     clips: &[u64],
@@ -27,23 +69,19 @@ pub fn has_room(
     marks: &[u8],
     ends: &[u64],
     tops: &[f64],
-    head: Entry,
-    low: u64,
+    from: Cursor,
     top: u64,
     room: usize,
 ) -> bool
     requires { ⌜ Ready (now starts) (now clips) (now xs) (now ys) (now blocks) m (now times) (now values) (now marks) (now ends) ⌝ }
     requires { ⌜ TopsOf (now xs) (now ys) (now tops) ⌝ }
-    requires { ⌜ Keys low top ⌝ }
-    requires { ⌜ entryIs head ≡ entryAtKey (setOf (length (now ends)) (now starts) (now clips) (now xs) (now ys) (now blocks) m) (samplesOf (now times) (now values) (now marks) (now ends)) low ⌝ }
-    ensures { λ r. ⌜ r ≡ leb (length (changesOf (setOf (length (now (ends .entry))) (now (starts .entry)) (now (clips .entry)) (now (xs .entry)) (now (ys .entry)) (now (blocks .entry)) m) (samplesOf (now (times .entry)) (now (values .entry)) (now (marks .entry)) (now (ends .entry))) low top)) room ⌝ }
+    requires { ⌜ CursorIs (now starts) (now clips) (now xs) (now ys) (now blocks) m (now times) (now values) (now marks) (now ends) top from ⌝ }
+    ensures { λ r. ⌜ r ≡ leb (length (changesOf (setOf (length (now (ends .entry))) (now (starts .entry)) (now (clips .entry)) (now (xs .entry)) (now (ys .entry)) (now (blocks .entry)) m) (samplesOf (now (times .entry)) (now (values .entry)) (now (marks .entry)) (now (ends .entry))) (from .key) top)) room ⌝ }
 {
+    let mut at = from;
     let mut count: usize = 0;
-    let mut last = head;
-    let mut spot = no_spot(starts);
-    let mut k = low;
     loop {
-        let step = stretch_at(
+        let page = count_page(
             starts,
             clips,
             xs,
@@ -55,21 +93,16 @@ pub fn has_room(
             marks,
             ends,
             tops,
-            spot,
-            k,
+            at,
             top,
         );
-        let s = step.stretch;
-        let found = count_on(times, values, marks, ends, s, last, k, room - count);
-        if !found.fits {
+        if room - count < page.count {
             return false;
         }
-        if s.hi == top {
+        if page.done {
             return true;
         }
-        count += found.count;
-        last = found.last;
-        spot = step.spot;
-        k = s.hi + 1;
+        count += page.count;
+        at = page.cursor;
     }
 }

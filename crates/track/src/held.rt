@@ -1,5 +1,5 @@
 // The held reading of a track that is lent as a head and three lists.
-use crate::bake::shortest;
+use crate::fill::shortest;
 use steps::entry::Entry;
 ghost use mathlib.Core.Path.{_≡_};
 ghost use mathlib.Core.Bool.{cond};

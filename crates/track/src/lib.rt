@@ -1,8 +1,9 @@
-// The track of a set's value: the bake and its two passes, and the held reading.
+// The track of a set's value: the walk over its changes, the bake, and the held reading.
 
-// The two passes of a bake: the changes counted, and written.
+// The walk.
+pub mod fill;
+// The changes counted.
 pub mod count;
-pub mod write;
 // The bake.
 pub mod bake;
 // The held reading.

@@ -1,13 +1,24 @@
 // The hash of a track that is too long to print: its changes are walked, and none is kept.
+use cell::spot::no_spot;
 use clip::ClipSet;
 use definitions::Manifest;
 use lines::reply;
+use near::tops::tops_of;
 use steps::entry::Entry;
 use stop::entry::entry_at;
-use track_laws::Next;
+use track::fill::Cursor;
+use track::fill::Filled;
+use track::fill::fill;
+ghost use mathlib.Core.Path.{_≡_};
+ghost use Prim.Native.Nat.{_≤_};
+ghost use lib.ListN.{length};
 ghost use Rattle.gf.specs.Key as Key;
-ghost use Rattle.cell_laws.specs.Unpacked.{Ready};
+ghost use Rattle.cell_laws.specs.Keys.{entryAtKey};
+ghost use Rattle.cell_laws.specs.Unpacked.{setOf, samplesOf, Ready};
+ghost use Rattle.near.specs.Tops.{TopsOf};
+ghost use Rattle.steps.specs.Entries.{entryIs};
 ghost use Rattle.asked.specs.Asked.{Asked};
+ghost use Rattle.track.specs.Fills.{CursorIs, PageIs};
 
 // The keys of the lowest and of the greatest finite double.
 const LEAST: u64 = 0x0010_0000_0000_0001;
@@ -46,12 +57,81 @@ fn eat_change(hash: u64, time: f64, entry: Entry) -> u64 {
     eat(h, entry.mark as u64)
 }
 
+// The first n changes of a page.
+fn eat_page(hash: u64, times: &[f64; 256], values: &[f64; 256], marks: &[u8; 256], n: usize) -> u64
+    requires { ⌜ n ≤ 256 ⌝ }
+{
+    let mut h = hash;
+    let mut i: usize = 0;
+    while i < n {
+        let entry = Entry {
+            value: values[i],
+            mark: marks[i],
+        };
+        h = eat_change(h, times[i], entry);
+        i += 1;
+    }
+    h
+}
+
 struct Walked {
     count: u64,
     hash: u64,
 }
 
-// The changes of the value, counted and hashed.
+// A page of changes hashed, and where the walk stands.
+struct Page {
+    filled: Filled,
+    hash: u64,
+}
+
+// The changes of the next page.
+fn walk_page(
+    starts: &[f64],
+    clips: &[u64],
+    xs: &[f64],
+    ys: &[f64],
+    blocks: &[f64],
+    m: Manifest,
+    times: &[f64],
+    values: &[f64],
+    marks: &[u8],
+    ends: &[u64],
+    tops: &[f64],
+    from: Cursor,
+    hash: u64,
+) -> Page
+    requires { ⌜ Ready (now starts) (now clips) (now xs) (now ys) (now blocks) m (now times) (now values) (now marks) (now ends) ⌝ }
+    requires { ⌜ TopsOf (now xs) (now ys) (now tops) ⌝ }
+    requires { ⌜ CursorIs (now starts) (now clips) (now xs) (now ys) (now blocks) m (now times) (now values) (now marks) (now ends) Key.most from ⌝ }
+    ensures { λ r. ⌜ PageIs (now (starts .entry)) (now (clips .entry)) (now (xs .entry)) (now (ys .entry)) (now (blocks .entry)) m (now (times .entry)) (now (values .entry)) (now (marks .entry)) (now (ends .entry)) (from .key) Key.most (r .filled) ⌝ }
+{
+    let mut pagetimes: [f64; 256] = [0.0; 256];
+    let mut pagevalues: [f64; 256] = [0.0; 256];
+    let mut pagemarks: [u8; 256] = [0; 256];
+    let filled = fill(
+        starts,
+        clips,
+        xs,
+        ys,
+        blocks,
+        m,
+        times,
+        values,
+        marks,
+        ends,
+        tops,
+        from,
+        MOST,
+        &mut pagetimes,
+        &mut pagevalues,
+        &mut pagemarks,
+    );
+    let hash = eat_page(hash, &pagetimes, &pagevalues, &pagemarks, filled.count);
+    Page { filled, hash }
+}
+
+// The changes of the value above the lowest key, counted and hashed page by page. `head` is the value there.
 fn walk(
     starts: &[f64],
     clips: &[u64],
@@ -63,14 +143,22 @@ fn walk(
     values: &[f64],
     marks: &[u8],
     ends: &[u64],
+    head: Entry,
 ) -> Walked
     requires { ⌜ Ready (now starts) (now clips) (now xs) (now ys) (now blocks) m (now times) (now values) (now marks) (now ends) ⌝ }
+    requires { ⌜ entryIs head ≡ entryAtKey (setOf (length (now ends)) (now starts) (now clips) (now xs) (now ys) (now blocks) m) (samplesOf (now times) (now values) (now marks) (now ends)) Key.least ⌝ }
 {
-    let mut k = LEAST;
+    let tops = tops_of(xs, ys);
+    let spot = no_spot(starts);
+    let mut at = Cursor {
+        key: LEAST,
+        last: head,
+        spot,
+    };
     let mut count: u64 = 0;
     let mut hash: u64 = 0xcbf2_9ce4_8422_2325;
     loop {
-        let Next::At(change) = stop::next_change(
+        let page = walk_page(
             starts,
             clips,
             xs,
@@ -81,27 +169,17 @@ fn walk(
             values,
             marks,
             ends,
-            k,
-            MOST,
-        ) else {
-            return Walked { count, hash };
-        };
-        let entry = entry_at(
-            starts,
-            clips,
-            xs,
-            ys,
-            blocks,
-            m,
-            times,
-            values,
-            marks,
-            ends,
-            change,
+            &tops.items,
+            at,
+            hash,
         );
-        hash = eat_change(hash, gf::of_key(change), entry);
-        count += 1;
-        k = change;
+        let filled = page.filled;
+        count = std::num::wrapping_add_u64(count, filled.count as u64);
+        hash = page.hash;
+        if filled.done {
+            return Walked { count, hash };
+        }
+        at = filled.cursor;
     }
 }
 
@@ -140,7 +218,19 @@ fn hash_lists(
         ends,
         LEAST,
     );
-    let walked = walk(starts, clips, xs, ys, blocks, m, times, values, marks, ends);
+    let walked = walk(
+        starts,
+        clips,
+        xs,
+        ys,
+        blocks,
+        m,
+        times,
+        values,
+        marks,
+        ends,
+        head,
+    );
     Hashed {
         mark: head.mark,
         value: head.value,

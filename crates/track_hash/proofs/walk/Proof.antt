@@ -1,74 +1,51 @@
--- `track_hash::walk` is safe and ends: each change lies above the one before, so the keys that are left are fewer, and there are no more changes than keys. Assumes nothing.
-use mathlib.Core.Path.{subst}
-use Prim.Native.Nat.{ℕ, _-_, _≤_}
+-- `track_hash::walk` is safe and ends: each page leads to a higher key, so the keys that are left are fewer. Assumes nothing.
+use Prim.Native.Nat.{_-_}
 use native.Mathlib.Omega.{arith}
 use borrow.Author.Needs.{needs}
-use lib.ListN.{length}
+use lib.Dec.{lit≤}
 use Rattle.gf.specs.Key as Key
-use Rattle.definitions.specs.Track.{Entry}
-use Rattle.track_laws.specs.Track.{ChangeAt}
-use Rattle.track_laws.specs.declared.Next.{Next}
-use Rattle.cell_laws.specs.Keys.{entryAtKey}
-use Rattle.cell_laws.specs.Walk.{NextOf}
-use Rattle.cell_laws.specs.Unpacked.{setOf, samplesOf}
+use Rattle.window.specs.Parts.{ready-readable}
+use Rattle.cell.proofs.Lent.{no-spot-is, few-knots}
+use Rattle.track.specs.Fills.{CursorIs}
 use Rattle.track_hash.proofs.walk.Statement.{statement}
 use Rattle.track_hash.proofs.walk.Tie as tie
 
 abbrev Inv-loop : tie.InvT-loop
-Inv-loop starts clips xs ys blocks m times values marks ends k₀ count₀ hash₀ k count hash = (Key.least ≤ k) × (k ≤ Key.most) × (count ≤ k)
+Inv-loop starts clips xs ys blocks m times values marks ends tops at₀ count₀ hash₀ at count hash =
+    CursorIs starts clips xs ys blocks m times values marks ends Key.most at
 
 abbrev μ-loop : tie.MeasureT-loop
-μ-loop starts clips xs ys blocks m times values marks ends k₀ count₀ hash₀ k count hash = Key.most - k
+μ-loop starts clips xs ys blocks m times values marks ends tops at₀ count₀ hash₀ at count hash = Key.most - at .key
 
--- at the loop's head: the function's entry, and the value
-abbrev entry : tie.At-loop Inv-loop μ-loop → tie.Start Inv-loop μ-loop
-entry b = b .before .before .before .before .before .before .before .before .before .before
+tops-of-requires : tie.Need-tops-of-requires Inv-loop μ-loop
+tops-of-requires c κs = let a = c .before .before .before .before .before .before .before .before .before in (a .pre .0 .knots-paired, (few-knots (a .pre .0), ready-readable (a .pre .0) .segments))
 
-abbrev v : tie.At-loop Inv-loop μ-loop → ℕ → Entry
-v b =
-    let a = entry b .args in
-    entryAtKey (setOf (length (a .ends .now)) (a .starts .now) (a .clips .now) (a .xs .now) (a .ys .now) (a .blocks .now) (a .m))
-    (samplesOf (a .times .now) (a .values .now) (a .marks .now) (a .ends .now))
-
--- where the search found a change
-found : (c : tie.After-change Inv-loop μ-loop) → ChangeAt (v (c .before .before .before)) (c .before .before .before .loop .k) Key.most (c .change .given .0 .0)
-found c = let b = c .before .before .before in subst (λ (n : Next). NextOf (v b) (b .loop .k) Key.most n) (c .change .given .1) (c .before .before .next-change .ensures)
+no-spot-requires : tie.Need-no-spot-requires Inv-loop μ-loop
+no-spot-requires c κs = search needs
 
 loop-holds : tie.Need-loop-holds Inv-loop μ-loop
-loop-holds c = search needs
+loop-holds c =
+    let a = c .before .before .before .before .before .before .before .before .before .before .before in
+    record { keys = record { low = lit≤ tt; order = lit≤ tt; high = lit≤ tt }; last = a .pre .1; spot = no-spot-is (a .pre .0) (c .no-spot .result .p) (c .no-spot .result .w) (c .no-spot .ensures) }
 
-next-change-requires : tie.Need-next-change-requires Inv-loop μ-loop
-next-change-requires c κs = (entry c .pre, record { low = c .loop .inv .0; order = c .loop .inv .1; high = omega arith })
+walk-page-requires : tie.Need-walk-page-requires Inv-loop μ-loop
+walk-page-requires c κs = let b = c .before .before .before in (b .before .before .before .before .before .before .before .before .before .before .before .before .pre .0, (b .before .before .tops-of .ensures, b .loop .inv))
 
-enum-known-change : tie.Need-enum-known-change Inv-loop μ-loop
-enum-known-change c = search needs
-
-enum-told : tie.Need-enum-told Inv-loop μ-loop
-enum-told c = search needs
+wrapping-add-u64-requires : tie.Need-wrapping-add-u64-requires Inv-loop μ-loop
+wrapping-add-u64-requires c κs = search needs
 
 returns : tie.Need-returns Inv-loop μ-loop
 returns c = search needs
 
-entry-at-requires : tie.Need-entry-at-requires Inv-loop μ-loop
-entry-at-requires c κs = let b = c .before .before .before .before in let p = found (c .before) in (entry b .pre, (omega (arith, p .above, b .loop .inv .0), p .within))
-
-of-key-requires : tie.Need-of-key-requires Inv-loop μ-loop
-of-key-requires c κs = let b = c .before .before .before .before .before in let p = found (c .before .before) in (omega (arith, p .above, b .loop .inv .0), p .within)
-
-eat-change-requires : tie.Need-eat-change-requires Inv-loop μ-loop
-eat-change-requires c κs = search needs
-
-add-count : tie.Need-add-count Inv-loop μ-loop
-add-count c = search needs
-
 loop-less : tie.Need-loop-less Inv-loop μ-loop
-loop-less c = let p = found (c .before .before .before .before) in omega (arith, p .above, p .within)
+loop-less c =
+    let P = c .before .before .before .before .walk-page .ensures in
+    let o = P .onward (c .before .if1 .left) in
+    let u = P .passed .cursor .keys .order in
+    omega arith
 
 loop-again : tie.Need-loop-again Inv-loop μ-loop
-loop-again c =
-    let b = c .before .before .before .before .before .before .before in
-    let p = found (c .before .before .before .before) in
-    (omega (arith, p .above, b .loop .inv .0), p .within, omega (arith, p .above, b .loop .inv .2))
+loop-again c = c .before .before .before .before .walk-page .ensures .passed .cursor
 
 pub walk-spec : {M : Type 1} → statement M
 walk-spec =
@@ -76,14 +53,11 @@ walk-spec =
     (tie.spec
     Inv-loop
     μ-loop
+    tops-of-requires
+    no-spot-requires
     loop-holds
-    next-change-requires
-    enum-known-change
-    enum-told
+    walk-page-requires
+    wrapping-add-u64-requires
     returns
-    entry-at-requires
-    of-key-requires
-    eat-change-requires
-    add-count
     loop-less
     loop-again)

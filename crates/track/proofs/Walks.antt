@@ -1,0 +1,97 @@
+-- The walk over the changes of the value: from stretch to stretch, and what it comes to. Assumes nothing.
+use mathlib.Core.Path.{_≡_, refl, ap, _∙_}
+use mathlib.Core.Bool.{Bool, true, false}
+use mathlib.Core.List.{List, _∷_}
+use Prim.Native.Nat.{ℕ, _+_, _≤_, _<_, min}
+use native.Mathlib.Decide.{decLe}
+use native.Mathlib.Omega.{arith}
+use lib.ListN.{length, length-append}
+use lib.Ieee.{Float}
+use Rattle.gf.specs.Key.{ofKey}
+use Rattle.definitions.specs.declared.Manifest.{Manifest}
+use Rattle.definitions.specs.ClipSet.{ClipSet, stage}
+use Rattle.definitions.specs.Samples.{Samples}
+use Rattle.definitions.specs.Track.{Outputs, slots}
+use Rattle.track_laws.specs.Laws.{changes-none, changes-split}
+use Rattle.cell_laws.specs.Direct.{SoundSet, SoundSamples}
+use Rattle.cell_laws.specs.Keys.{Keys, entryAtKey}
+use Rattle.cell_laws.specs.Tracks.{SoundValues, entry-same, entries-alike}
+use Rattle.cell_laws.specs.Unpacked.{setOf, samplesOf}
+use Rattle.steps.specs.declared.entry.Entry as declared
+use Rattle.reading.specs.declared.walk.Went.{Went}
+use Rattle.reading.specs.Walks.{outputs, written, Room, Walked}
+use Rattle.reading.proofs.Walking.{Reaches}
+use Rattle.cell.specs.declared.spot.Spot.{Spot}
+use Rattle.cell.specs.Spots.{SpotIs}
+use Rattle.stretch.specs.Changes.{changesOf}
+use Rattle.track.specs.declared.fill.Filled.{Filled}
+use Rattle.track.specs.Fills.{PageIs, FillIs, passed-length}
+
+-- the key after: there the value is like the one before, or it changes
+module _ (set : ClipSet) (s : Samples) (S : SoundSet set) (A : SoundSamples s) (F : SoundValues set s) where
+  pub next-key : (at : ℕ) → Reaches (entryAtKey set s) at (at + 1)
+  next-key at = record {
+    from = omega arith;
+    level = λ j p q. let e : j ≡ at = omega arith in ap (entryAtKey set s) e;
+    sure = entries-alike set s S A F (stage (ofKey (at + 1))) (stage (ofKey at));
+  }
+
+-- the changes up to one key and on to another
+pub split-length : (set : ClipSet) (s : Samples) (low a b : ℕ) → low ≤ a → a ≤ b → length (changesOf set s low b) ≡ length (changesOf set s low a) + length (changesOf set s a b)
+split-length set s low a b l h = ap length (changes-split entry-same (entryAtKey set s) low a b l h) ∙ length-append (changesOf set s low a) (changesOf set s a b)
+
+-- the shortest output's slots
+pub slots-room : (ts vs : List Float) (ms : List ℕ) (r : ℕ) → r ≡ min (length ts) (min (length vs) (length ms)) → Room r 0 (outputs ts vs ms)
+slots-room ts vs ms r e = record { from = omega arith; times = omega arith; values = omega arith; marks = omega arith }
+
+pub slots-is : (ts vs : List Float) (ms : List ℕ) → slots (outputs ts vs ms) ≡ min (length ts) (min (length vs) (length ms))
+unfolding slots
+slots-is ts vs ms = refl
+
+pub slots-some : (x y : Float) (z : ℕ) (ts vs : List Float) (ms : List ℕ) → 0 < slots (outputs (x ∷ ts) (y ∷ vs) (z ∷ ms))
+slots-some x y z ts vs ms = let e = slots-is (x ∷ ts) (y ∷ vs) (z ∷ ms) in omega arith
+
+module _ {starts : List Float} {clips : List ℕ} {xs ys blocks : List Float} {m : Manifest} {times values : List Float} {marks ends : List ℕ} where
+  -- what a walk comes to
+  pub filled : (from top room : ℕ) → Keys from top → (o p : Outputs) → room ≡ slots o → (g : Went)
+      → Walked (entryAtKey (setOf (length ends) starts clips xs ys blocks m) (samplesOf times values marks ends)) from top room 0 o p g → (spot : Spot) → SpotIs starts clips xs ys blocks m times values marks ends (spot .p) (spot .w)
+      → FillIs starts clips xs ys blocks m times values marks ends from top o p (record { count = g .count; cursor = record { key = g .key; last = g .last; spot = spot }; done = g .done })
+  filled from top room K o p e g W spot P = record {
+    passed = record {
+      order = W .stands .from;
+      cursor = record { keys = record { low = let a = W .stands .from in omega (arith, K .low); order = W .upto; high = K .high }; last = W .stands .last; spot = P };
+      count = W .stands .count ∙ omega arith;
+      whole = W .whole;
+      more = λ d. W .more d .1;
+    };
+    writes = W .stands .writes;
+    fits = let f = W .stands .fits in omega arith;
+    full = λ d. W .more d .0 ∙ e;
+  }
+
+  -- a page that is not empty
+  pub paged : (from top : ℕ) (o p : Outputs) (r : Filled) → 0 < slots o → FillIs starts clips xs ys blocks m times values marks ends from top o p r → PageIs starts clips xs ys blocks m times values marks ends from top r
+  paged from top o p r h W = record { passed = W .passed; onward = λ d. go d (decLe (r .cursor .key) from) }
+    where
+      go : r .done ≡ false → Dec (r .cursor .key ≤ from) → from < r .cursor .key
+      go d (no l) = omega arith
+      go d (yes l) =
+          let z = ap length (changes-none entry-same (entryAtKey (setOf (length ends) starts clips xs ys blocks m) (samplesOf times values marks ends)) from (r .cursor .key) l) in
+          let c = W .passed .count in
+          let f = W .full d in
+          absurd (omega arith)
+
+  -- with a slot for each change all are written
+  pub filled-all : (from top : ℕ) (o p : Outputs) (r : Filled) → FillIs starts clips xs ys blocks m times values marks ends from top o p r → length (changesOf (setOf (length ends) starts clips xs ys blocks m) (samplesOf times values marks ends) from top) ≤ slots o
+      → (r .count ≡ length (changesOf (setOf (length ends) starts clips xs ys blocks m) (samplesOf times values marks ends) from top)) × (p ≡ written 0 (changesOf (setOf (length ends) starts clips xs ys blocks m) (samplesOf times values marks ends) from top) o)
+  filled-all from top o p r W h = go (r .done) refl
+    where
+      go : (b : Bool) → r .done ≡ b → (r .count ≡ length (changesOf (setOf (length ends) starts clips xs ys blocks m) (samplesOf times values marks ends) from top)) × (p ≡ written 0 (changesOf (setOf (length ends) starts clips xs ys blocks m) (samplesOf times values marks ends) from top) o)
+      go true d =
+          let k = W .passed .whole d in
+          (W .passed .count ∙ ap (λ (j : ℕ). length (changesOf (setOf (length ends) starts clips xs ys blocks m) (samplesOf times values marks ends) from j)) k, W .writes ∙ ap (λ (j : ℕ). written 0 (changesOf (setOf (length ends) starts clips xs ys blocks m) (samplesOf times values marks ends) from j) o) k)
+      go false d =
+          let a = W .passed .more d in
+          let b = W .full d in
+          let e = passed-length (W .passed) in
+          absurd (omega arith)

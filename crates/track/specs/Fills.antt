@@ -1,0 +1,66 @@
+-- The walk over the changes of the value that stops when its outputs are full: where it stands, and what it promises. Assumes nothing.
+use mathlib.Core.Path.{_≡_, refl, sym, ap, _∙_}
+use mathlib.Core.Bool.{Bool, true, false}
+use mathlib.Core.List.{List, _++_}
+use Prim.Native.Nat.{ℕ, _+_, _≤_, _<_}
+use native.Mathlib.Omega.{arith}
+use borrow.Author.Tests.{eq-eqb, ne-eqb}
+use lib.Dec.{eqb}
+use lib.ListN.{length, length-append}
+use lib.Ieee.{Float}
+use Rattle.definitions.specs.declared.Manifest.{Manifest}
+use Rattle.definitions.specs.Track.{Outputs, slots}
+use Rattle.track_laws.specs.Laws.{changes-split}
+use Rattle.cell_laws.specs.Keys.{Keys, entryAtKey}
+use Rattle.cell_laws.specs.Tracks.{entry-same}
+use Rattle.cell_laws.specs.Unpacked.{setOf, samplesOf}
+use Rattle.steps.specs.Entries.{entryIs}
+use Rattle.reading.specs.Walks.{written}
+use Rattle.cell.specs.Spots.{SpotIs}
+use Rattle.stretch.specs.Changes.{changesOf}
+use Rattle.track.specs.declared.fill.Cursor.{Cursor}
+use Rattle.track.specs.declared.fill.Filled.{Filled}
+
+-- a cursor on the way to top: the value at its key is its entry
+pub record CursorIs (starts : List Float) (clips : List ℕ) (xs ys blocks : List Float) (m : Manifest) (times values : List Float) (marks ends : List ℕ) (top : ℕ) (c : Cursor) : Type 0 where
+  pub keys : Keys (c .key) top
+  pub last : entryIs (c .last) ≡ entryAtKey (setOf (length ends) starts clips xs ys blocks m) (samplesOf times values marks ends) (c .key)
+  pub spot : SpotIs starts clips xs ys blocks m times values marks ends (c .spot .p) (c .spot .w)
+
+-- a walk from a key on has passed the changes up to its cursor, so many in number: it came to top, or there are further ones up to there
+pub record PassedTo (starts : List Float) (clips : List ℕ) (xs ys blocks : List Float) (m : Manifest) (times values : List Float) (marks ends : List ℕ) (from top : ℕ) (r : Filled) : Type 0 where
+  pub order : from ≤ r .cursor .key
+  pub cursor : CursorIs starts clips xs ys blocks m times values marks ends top (r .cursor)
+  pub count : r .count ≡ length (changesOf (setOf (length ends) starts clips xs ys blocks m) (samplesOf times values marks ends) from (r .cursor .key))
+  pub whole : r .done ≡ true → r .cursor .key ≡ top
+  pub more : r .done ≡ false → 0 < length (changesOf (setOf (length ends) starts clips xs ys blocks m) (samplesOf times values marks ends) (r .cursor .key) top)
+
+-- What a fill promises: these changes stand in the outputs' first slots, the other slots are as they were, and if it is not done the outputs are full
+pub record FillIs (starts : List Float) (clips : List ℕ) (xs ys blocks : List Float) (m : Manifest) (times values : List Float) (marks ends : List ℕ) (from top : ℕ) (before after : Outputs) (r : Filled) : Type 0 where
+  pub passed : PassedTo starts clips xs ys blocks m times values marks ends from top r
+  pub writes : after ≡ written 0 (changesOf (setOf (length ends) starts clips xs ys blocks m) (samplesOf times values marks ends) from (r .cursor .key)) before
+  pub fits : r .count ≤ slots before
+  pub full : r .done ≡ false → r .count ≡ slots before
+
+-- of a page that is dropped
+pub record PageIs (starts : List Float) (clips : List ℕ) (xs ys blocks : List Float) (m : Manifest) (times values : List Float) (marks ends : List ℕ) (from top : ℕ) (r : Filled) : Type 0 where
+  pub passed : PassedTo starts clips xs ys blocks m times values marks ends from top r
+  pub onward : r .done ≡ false → from < r .cursor .key
+
+-- ---- in other words
+
+module _ {starts : List Float} {clips : List ℕ} {xs ys blocks : List Float} {m : Manifest} {times values : List Float} {marks ends : List ℕ} {from top : ℕ} {r : Filled} (P : PassedTo starts clips xs ys blocks m times values marks ends from top r) where
+  -- the changes from the key on are those that are passed, and those above the cursor
+  pub passed-first : changesOf (setOf (length ends) starts clips xs ys blocks m) (samplesOf times values marks ends) from top ≡ changesOf (setOf (length ends) starts clips xs ys blocks m) (samplesOf times values marks ends) from (r .cursor .key) ++ changesOf (setOf (length ends) starts clips xs ys blocks m) (samplesOf times values marks ends) (r .cursor .key) top
+  passed-first = changes-split entry-same (entryAtKey (setOf (length ends) starts clips xs ys blocks m) (samplesOf times values marks ends)) from (r .cursor .key) top (P .order) (P .cursor .keys .order)
+
+  pub passed-length : length (changesOf (setOf (length ends) starts clips xs ys blocks m) (samplesOf times values marks ends) from top) ≡ r .count + length (changesOf (setOf (length ends) starts clips xs ys blocks m) (samplesOf times values marks ends) (r .cursor .key) top)
+  passed-length = ap length passed-first ∙ length-append (changesOf (setOf (length ends) starts clips xs ys blocks m) (samplesOf times values marks ends) from (r .cursor .key)) (changesOf (setOf (length ends) starts clips xs ys blocks m) (samplesOf times values marks ends) (r .cursor .key) top) ∙ ap (λ (n : ℕ). n + length (changesOf (setOf (length ends) starts clips xs ys blocks m) (samplesOf times values marks ends) (r .cursor .key) top)) (sym (P .count))
+
+  -- done exactly if all are passed
+  pub passed-done : r .done ≡ eqb (r .count) (length (changesOf (setOf (length ends) starts clips xs ys blocks m) (samplesOf times values marks ends) from top))
+  passed-done = go (r .done) refl
+    where
+      go : (b : Bool) → r .done ≡ b → b ≡ eqb (r .count) (length (changesOf (setOf (length ends) starts clips xs ys blocks m) (samplesOf times values marks ends) from top))
+      go true d = sym (eq-eqb (r .count) (length (changesOf (setOf (length ends) starts clips xs ys blocks m) (samplesOf times values marks ends) from top)) (P .count ∙ ap (λ (j : ℕ). length (changesOf (setOf (length ends) starts clips xs ys blocks m) (samplesOf times values marks ends) from j)) (P .whole d)))
+      go false d = sym (ne-eqb (r .count) (length (changesOf (setOf (length ends) starts clips xs ys blocks m) (samplesOf times values marks ends) from top)) (λ e. let a = P .more d in let l = passed-length in omega arith))

@@ -1,0 +1,151 @@
+// The walk over the changes of the value. It stops when its outputs are full and can go on later.
+use cell::spot::Spot;
+use definitions::Manifest;
+use reading::walk::offer;
+use steps::entry::Entry;
+use stretch::fill::fill_in;
+use stretch::stretch_at;
+ghost use mathlib.Core.Path.{_≡_};
+ghost use Prim.Native.Nat.{min};
+ghost use Rattle.cell_laws.specs.Unpacked.{Ready};
+ghost use Rattle.near.specs.Tops.{TopsOf};
+ghost use Rattle.reading.specs.Walks.{outputs};
+ghost use Rattle.track.specs.Fills.{CursorIs, FillIs};
+
+// The key that a walk has reached, the entry there, and where its last search ended.
+pub struct Cursor {
+    pub key: u64,
+    pub last: Entry,
+    pub spot: Spot,
+}
+
+// How many changes were written, where the walk stands, and whether there are no more.
+pub struct Filled {
+    pub count: usize,
+    pub cursor: Cursor,
+    pub done: bool,
+}
+
+// The length of the shortest of three lists.
+pub fn shortest(a: usize, b: usize, c: usize) -> usize
+    ensures { λ r. ⌜ r ≡ min a (min b c) ⌝ }
+{
+    if a < b {
+        if a < c {
+            return a;
+        }
+        return c;
+    }
+    if b < c {
+        return b;
+    }
+    c
+}
+
+// Writes the changes above the cursor's key and up to top, as many as the shortest output has slots.
+pub fn fill(
+    starts: &[f64],
+    clips: &[u64],
+    xs: &[f64],
+    ys: &[f64],
+    blocks: &[f64],
+    m: Manifest,
+    times: &[f64],
+    values: &[f64],
+    marks: &[u8],
+    ends: &[u64],
+    tops: &[f64],
+    from: Cursor,
+    top: u64,
+    outtimes: &mut [f64],
+    outvalues: &mut [f64],
+    outmarks: &mut [u8],
+) -> Filled
+    requires { ⌜ Ready (now starts) (now clips) (now xs) (now ys) (now blocks) m (now times) (now values) (now marks) (now ends) ⌝ }
+    requires { ⌜ TopsOf (now xs) (now ys) (now tops) ⌝ }
+    requires { ⌜ CursorIs (now starts) (now clips) (now xs) (now ys) (now blocks) m (now times) (now values) (now marks) (now ends) top from ⌝ }
+    ensures { λ r. ⌜ FillIs (now (starts .entry)) (now (clips .entry)) (now (xs .entry)) (now (ys .entry)) (now (blocks .entry)) m (now (times .entry)) (now (values .entry)) (now (marks .entry)) (now (ends .entry)) (from .key) top (outputs (now (outtimes .entry)) (now (outvalues .entry)) (now (outmarks .entry))) (outputs (now (outtimes .exit)) (now (outvalues .exit)) (now (outmarks .exit))) r ⌝ }
+{
+    let room = shortest(outtimes.len(), outvalues.len(), outmarks.len());
+    let mut at = from.key;
+    let mut last = from.last;
+    let mut spot = from.spot;
+    let mut count: usize = 0;
+    loop {
+        if at == top {
+            let cursor = Cursor {
+                key: at,
+                last,
+                spot,
+            };
+            return Filled {
+                count,
+                cursor,
+                done: true,
+            };
+        }
+        let k = at + 1;
+        let step = stretch_at(
+            starts,
+            clips,
+            xs,
+            ys,
+            blocks,
+            m,
+            times,
+            values,
+            marks,
+            ends,
+            tops,
+            spot,
+            k,
+            top,
+        );
+        let s = step.stretch;
+        let here = s.here;
+        let slot = offer(here, last, k, room, count, outtimes, outvalues, outmarks);
+        if room < slot {
+            let cursor = Cursor {
+                key: at,
+                last,
+                spot,
+            };
+            return Filled {
+                count,
+                cursor,
+                done: false,
+            };
+        }
+        let went = fill_in(
+            times,
+            values,
+            marks,
+            ends,
+            s,
+            k,
+            room,
+            slot,
+            outtimes,
+            outvalues,
+            outmarks,
+        );
+        if !went.done {
+            let end = went.last;
+            let reached = step.spot;
+            let cursor = Cursor {
+                key: went.key,
+                last: end,
+                spot: reached,
+            };
+            return Filled {
+                count: went.count,
+                cursor,
+                done: false,
+            };
+        }
+        at = s.hi;
+        last = went.last;
+        spot = step.spot;
+        count = went.count;
+    }
+}
