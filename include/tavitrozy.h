@@ -31,24 +31,26 @@ extern "C" {
 
 /* ---- the set, by value */
 
-typedef struct { double time; uint64_t clip; } tavitrozy_start;
-typedef struct { double x; double y; } tavitrozy_knot;
 typedef struct { uint8_t mark; double value; } tavitrozy_default;
 typedef struct { double start, end, stride, offset; } tavitrozy_template_times;
 typedef struct { double offset, scale; } tavitrozy_layer_offset;
 
-typedef struct { tavitrozy_start items[256]; size_t count; } tavitrozy_active;
-typedef struct { tavitrozy_knot items[512]; size_t count; } tavitrozy_knots;
-typedef struct { double items[256]; size_t count; } tavitrozy_blocks;
+/* How many entries of each array below count. */
+typedef struct { size_t starts, knots, blocks; } tavitrozy_counts;
+/* What stands in for a missing sample. */
+typedef struct { tavitrozy_default fallback; bool interpolate; } tavitrozy_manifest;
+/* clips: the clip count; numbers: the clip number of each start; xs, ys: the knots. */
 typedef struct {
   uint64_t clips;
-  tavitrozy_active active;
-  tavitrozy_knots knots;
-  tavitrozy_blocks blocks;
-  tavitrozy_default fallback;
-  bool interpolate;
-} tavitrozy_clip_set;
-typedef struct { bool stands; bool retimed; tavitrozy_clip_set set; } tavitrozy_resolver;
+  tavitrozy_counts counts;
+  double starts[256];
+  uint64_t numbers[256];
+  double xs[512];
+  double ys[512];
+  double blocks[256];
+  tavitrozy_manifest manifest;
+} tavitrozy_standing_set;
+typedef struct { bool stands; bool retimed; tavitrozy_standing_set set; } tavitrozy_resolver;
 
 /* ---- replies */
 

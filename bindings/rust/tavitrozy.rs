@@ -1,27 +1,6 @@
 //! Tavitrozy for Rust: the library's C calls behind safe functions. A `Resolver` can only be had from `fresh` and from
 //! the calls below, which is all that the library's contracts ask of a caller; a refusal is its number.
 
-#[repr(C)]
-#[derive(Clone, Copy)]
-struct Start {
-    time: f64,
-    clip: u64,
-}
-
-#[repr(C)]
-#[derive(Clone, Copy)]
-struct Knot {
-    x: f64,
-    y: f64,
-}
-
-#[repr(C)]
-#[derive(Clone, Copy)]
-struct Listed<T: Copy, const N: usize> {
-    items: [T; N],
-    count: usize,
-}
-
 /// The manifest default: mark 0 and a value, 1 a block, 2 none.
 #[repr(C)]
 #[derive(Clone, Copy, Debug, PartialEq)]
@@ -36,13 +15,30 @@ impl Default {
 
 #[repr(C)]
 #[derive(Clone, Copy)]
-struct ClipSet {
-    clips: u64,
-    active: Listed<Start, 256>,
-    knots: Listed<Knot, 512>,
-    blocks: Listed<f64, 256>,
+struct Counts {
+    starts: usize,
+    knots: usize,
+    blocks: usize,
+}
+
+#[repr(C)]
+#[derive(Clone, Copy)]
+struct Manifest {
     fallback: Default,
     interpolate: bool,
+}
+
+#[repr(C)]
+#[derive(Clone, Copy)]
+struct StandingSet {
+    clips: u64,
+    counts: Counts,
+    starts: [f64; 256],
+    numbers: [u64; 256],
+    xs: [f64; 512],
+    ys: [f64; 512],
+    blocks: [f64; 256],
+    manifest: Manifest,
 }
 
 /// The state: one clip set, or none.
@@ -51,7 +47,7 @@ struct ClipSet {
 pub struct Resolver {
     stands: bool,
     retimed: bool,
-    set: ClipSet,
+    set: StandingSet,
 }
 
 #[repr(C)]
@@ -236,9 +232,10 @@ impl Resolver {
     /// The standing set's clip count, starts, knots and block times.
     pub fn dump(&self) -> Option<(u64, Vec<(f64, u64)>, Vec<(f64, f64)>, Vec<f64>)> {
         let set = &self.set;
-        let starts = set.active.items[..set.active.count].iter().map(|s| (s.time, s.clip)).collect();
-        let knots = set.knots.items[..set.knots.count].iter().map(|k| (k.x, k.y)).collect();
-        let blocks = set.blocks.items[..set.blocks.count].to_vec();
+        let (n, k) = (set.counts.starts, set.counts.knots);
+        let starts = set.starts[..n].iter().copied().zip(set.numbers[..n].iter().copied()).collect();
+        let knots = set.xs[..k].iter().copied().zip(set.ys[..k].iter().copied()).collect();
+        let blocks = set.blocks[..set.counts.blocks].to_vec();
         self.stands.then_some((set.clips, starts, knots, blocks))
     }
 

@@ -5,4 +5,3 @@ pub mod Settled
 pub mod Moved
 pub mod Standing
 pub mod Retimed
-pub mod Timed

@@ -2,5 +2,4 @@
 pub mod Holding
 pub mod Settling
 pub mod Retiming
-pub mod Asked
 pub mod Laws

@@ -1,21 +1,15 @@
-// Clip sets by value: how they are stored, what every way to one ends with, and the operations on a standing one.
+// Clip sets by value: how they are stored, what every way to one ends with, and their retiming.
 mod retiming;
 pub mod settling;
 pub mod storage;
-mod timing;
 
-use definitions::ClipTime;
 use definitions::Default;
 use definitions::LayerOffset;
-use definitions::StageTime;
 use storage::Active;
 use storage::Blocks;
 use storage::Knots;
-ghost use mathlib.Core.Path.{_≡_};
-ghost use Rattle.definitions.specs.Timing.{activeClip, mapStageToClip};
 ghost use Rattle.set_laws.specs.Sound.{Sound};
-ghost use Rattle.clip.specs.Asked.{answered};
-ghost use Rattle.clip.specs.Holding.{Held, clipSetOf, knotsIn, EmptySet};
+ghost use Rattle.clip.specs.Holding.{Held, clipSetOf, EmptySet};
 ghost use Rattle.clip.specs.Retiming.{Retimes};
 
 #[repr(C)]
@@ -33,11 +27,6 @@ pub struct ClipSet {
 pub struct Parsed {
     pub number: u8,
     pub set: ClipSet,
-}
-
-pub enum ActiveClip {
-    Clip(u64),
-    NoClip,
 }
 
 // A set without clips, and with no manifest default.
@@ -100,36 +89,5 @@ impl ClipSet {
             &mut ys[..m],
             &mut blocks[..b],
         )
-    }
-
-    // The clip of the last start at or before t, of the first start if there is none: the Rust's `active_entry`.
-    pub fn active_clip(self, t: StageTime) -> ActiveClip
-        requires { ⌜ Held self ⌝ ∗ ⌜ Sound (clipSetOf self) ⌝ }
-        ensures { λ r. ⌜ r ≡ answered (activeClip (clipSetOf self) t) ⌝ }
-    {
-        let active = self.active;
-        let n = active.count;
-        if n == 0 {
-            return ActiveClip::NoClip;
-        }
-        let plain = storage::blank();
-        let mut times = plain.times;
-        let mut numbers = plain.numbers;
-        let clip = timing::clip_at(active, &mut times[..n], &mut numbers[..n], t.0);
-        ActiveClip::Clip(clip)
-    }
-
-    // The knot mapping alone turns a stage time into a clip time.
-    pub fn map_stage_to_clip(self, t: StageTime) -> ClipTime
-        requires { ⌜ Held self ⌝ ∗ ⌜ Sound (clipSetOf self) ⌝ }
-        ensures { λ r. ⌜ r ≡ mapStageToClip (knotsIn (self .knots)) t ⌝ }
-    {
-        let knots = self.knots;
-        let n = knots.count;
-        let plain = storage::blank();
-        let mut xs = plain.xs;
-        let mut ys = plain.ys;
-        let time = timing::time_at(knots, &mut xs[..n], &mut ys[..n], t.0);
-        ClipTime(time)
     }
 }

@@ -1,6 +1,4 @@
-// The questions that ask no resolver, and what is shown of a set that stands.
-pub mod dump;
-
+// The questions that ask no resolver.
 use definitions::ClipTime;
 use lines::reply;
 use lines::slots::least;

@@ -1,6 +1,7 @@
 // The questions of the case text, and which function answers each.
+mod dump;
 mod sampled;
-mod standing;
+mod timing;
 
 use lines::calls::Question;
 use lines::lent::Lent;
@@ -64,9 +65,9 @@ fn answer(
     requires { ⌜ Made resolver ⌝ }
 {
     match kind {
-        Question::Dump => standing::dump(line, at, resolver, out, full),
-        Question::Active => standing::active(line, at, resolver, out, full),
-        Question::ClipTime => standing::clip_time(line, at, resolver, out, full),
+        Question::Dump => dump::dump(line, at, resolver, out, full),
+        Question::Active => timing::active(line, at, resolver, out, full),
+        Question::ClipTime => timing::clip_time(line, at, resolver, out, full),
         Question::Name => plain_questions::name(line, at, out, full),
         Question::Normalize => {
             plain_questions::normalize(line, at, outtimes, outvalues, outmarks, out, full)

@@ -227,13 +227,24 @@ pub fn track_hash(
     if !resolver.stands {
         return reply::refused(20, out, full);
     }
-    let set = resolver.set;
-    let number = sdf::samples_number(set.clips, times, values, marks, ends);
+    let number = sdf::samples_number(resolver.set.clips, times, values, marks, ends);
     if number != 0 {
         return reply::refused(number, out, full);
     }
     track_hash::put_hashed(
-        track_hash::hash_of(set, times, values, marks, ends),
+        track_hash::hash_of(
+            &resolver.set.starts,
+            &resolver.set.numbers,
+            &resolver.set.xs,
+            &resolver.set.ys,
+            &resolver.set.blocks,
+            resolver.set.counts,
+            resolver.set.manifest,
+            times,
+            values,
+            marks,
+            ends,
+        ),
         out,
         full,
     )

@@ -4,7 +4,8 @@ use mathlib.Core.Path.{_≡_, refl, sym, ap, _∙_, subst}
 use mathlib.Core.Bool.{Bool, true, false, not, cond}
 use native.Mathlib.Omega.{arith}
 use mathlib.Core.List.{List, []}
-use lib.ListN.{length}
+use lib.ListN.{length, take}
+use lib.Seq.{length-take-le}
 use lib.Dec.{ltb}
 use mathlib.Core.Option.{Option, none, some}
 use lib.Ieee.{Float}
@@ -13,7 +14,7 @@ use Rattle.definitions.specs.declared.LayerOffset.{LayerOffset}
 use Rattle.definitions.specs.ClipSet.{ClipSet, Model, noSet, standing}
 use Rattle.definitions.specs.Explicit.{ExplicitFields, explicitNumber, explicitSet}
 use Rattle.definitions.specs.Template.{TemplateFields, templateNumber, templateSet}
-use Rattle.definitions.specs.Retime.{retimeNumber}
+use Rattle.definitions.specs.Retime.{retimeNumber, retimeStageTimes}
 use Rattle.definitions.specs.Lists.{_if_else_, _then_}
 use Rattle.definitions.specs.StageSamples.{StageSample}
 use Rattle.sdf.specs.declared.Counted.{Counted}
@@ -23,24 +24,27 @@ use Rattle.definitions.specs.declared.StageTime.{StageTime}
 use Rattle.definitions.specs.Questions.{Reply, refused, replied, reply, ofSet, stageTimeNumber, roomNumber, askStageSampleTimes, askStageSamples}
 use Rattle.gf.specs.Doubles.{0·0}
 use Rattle.definitions.specs.Track.{Track, Outputs, slots, bakeNumber}
-use Rattle.cell_laws.specs.Unpacked.{samplesOf, sound-set, sound-samples}
+use Rattle.cell_laws.specs.Unpacked.{setOf, samplesOf, active-times, knot-times, sound-set, sound-samples}
 use Rattle.track.specs.declared.bake.Baked.{Baked}
 use Rattle.track.specs.Bakes.{BakeIs, bakedIs, bakedReply, bakes}
 use Rattle.definitions.specs.Calls as calls
 use Rattle.definitions.specs.Calls.{step, accepted, retimed, bakedOf, outputsAfter, Bakes}
-use Rattle.set_laws.specs.Sound.{Sound}
+use Rattle.set_laws.specs.Places.{Ascending}
+use Rattle.set_laws.specs.Sound.{Sound, sound-active, sound-knots}
+use Rattle.set_laws.specs.Accepted.{Accepted as AcceptedSamples}
 use Rattle.set_laws.specs.SoundCalls.{SoundModel}
-use Rattle.clip.specs.declared.ActiveClip.the-variants.{Clip, NoClip}
-use Rattle.clip.specs.Asked.{answered}
+use Rattle.standing.specs.declared.questions.ActiveClip.the-variants.{Clip, NoClip}
+use Rattle.clip.specs.declared.ClipSet as clip
 use Rattle.clip.specs.declared.Parsed.{Parsed}
 use Rattle.template.specs.Expanding as expanding
 use Rattle.explicit.specs.Parsing as parsing
 use Rattle.clip.specs.Retiming as sets
-use Rattle.clip.specs.Holding.{clipSetOf}
+use Rattle.clip.specs.Holding.{Room, clipSetOf}
 use Rattle.resolver.specs.declared.Resolver.{Resolver}
 use Rattle.resolver.specs.declared.Accepted.{Accepted}
-use Rattle.asked.specs.Asked.{Asked}
-use Rattle.asked.specs.Lists.{counted, listed, itself, timeOf, markIn, ListsTimes, ListsSamples}
+use Rattle.standing.specs.declared.StandingSet.{StandingSet}
+use Rattle.standing.specs.Standing.{setIn, Whole, Installed, Packed, Asked, lentSet, answered}
+use Rattle.standing.specs.Lists.{counted, listed, itself, timeOf, markIn, ListsTimes, ListsSamples}
 use Rattle.resolver.specs.State.{model, Made}
 use Rattle.resolver.specs.Promises.{Accepts, Expands, Retimes, TellsTimes, TellsSamples, Installable, Installs}
 
@@ -61,11 +65,11 @@ accepted-same (suc n) m c a b e h = ap (λ (k : ℕ). accepted k c b) e
 pub installs-not : (d : Resolver) (p : Parsed) (b : Bool) → Made d → (p .number ≡ 0 → ⊥) → Installs d p b (record { number = p .number; resolver = d })
 installs-not d p b m h = record { number = refl; after = accepted-refused (p .number) (model d) (standing b (clipSetOf (p .set))) h; made = m }
 
-pub installs : (d : Resolver) (p : Parsed) (b : Bool) → Installable p → p .number ≡ 0 → Installs d p b (record { number = 0; resolver = record { stands = true; retimed = b; set = p .set } })
-installs d p b i e = record {
+pub installs : (d : Resolver) (p : Parsed) (b : Bool) (set : StandingSet) → Installable p → p .number ≡ 0 → Installed (p .set) set → Installs d p b (record { number = 0; resolver = record { stands = true; retimed = b; set = set } })
+installs d p b set i e q = record {
   number = sym e;
-  after = accepted-granted (p .number) (model d) (standing b (clipSetOf (p .set))) e;
-  made = record { held = i .held; sound = i .sound e };
+  after = ap (standing b) (q .is) ∙ accepted-granted (p .number) (model d) (standing b (clipSetOf (p .set))) e;
+  made = record { whole = q .whole; sound = subst Sound (sym (q .is)) (i .sound e) };
 }
 
 -- ---- acceptance
@@ -90,13 +94,27 @@ expands d f p r q i = record {
 
 -- what stands, by the flags
 none-stands : (d : Resolver) → d .stands ≡ false → model d ≡ noSet
-none-stands d e = ap (λ (b : Bool). cond b (standing (d .retimed) (clipSetOf (d .set))) noSet) e
+none-stands d e = ap (λ (b : Bool). cond b (standing (d .retimed) (setIn (d .set))) noSet) e
 
-stands-as : (d : Resolver) (b : Bool) → d .stands ≡ true → d .retimed ≡ b → model d ≡ standing b (clipSetOf (d .set))
-stands-as d b e f = ap (λ (x : Bool). cond x (standing (d .retimed) (clipSetOf (d .set))) noSet) e ∙ ap (λ (x : Bool). standing x (clipSetOf (d .set))) f
+stands-as : (d : Resolver) (b : Bool) → d .stands ≡ true → d .retimed ≡ b → model d ≡ standing b (setIn (d .set))
+stands-as d b e f = ap (λ (x : Bool). cond x (standing (d .retimed) (setIn (d .set))) noSet) e ∙ ap (λ (x : Bool). standing x (setIn (d .set))) f
 
-pub stands-sound : (d : Resolver) → Made d → d .stands ≡ true → Sound (clipSetOf (d .set))
+pub stands-sound : (d : Resolver) → Made d → d .stands ≡ true → Sound (setIn (d .set))
 stands-sound d m e = subst SoundModel (stands-as d (d .retimed) e refl) (m .sound)
+
+-- what the searches ask of the starts and the knots
+paired : {A B : Type 0} {most k : ℕ} {l : List A} {r : List B} → Room most l k → Room most r k → length (take k l) ≡ length (take k r)
+paired {k = k} {l = l} {r = r} p q = length-take-le k l (omega (arith, p .long, p .few)) ∙ sym (length-take-le k r (omega (arith, q .long, q .few)))
+
+pub starts-ascend : (d : Resolver) → Made d → d .stands ≡ true → Ascending (take (d .set .counts .starts) (d .set .starts))
+starts-ascend d m e =
+    subst Ascending (active-times (take (d .set .counts .starts) (d .set .starts)) (take (d .set .counts .starts) (d .set .numbers)) (paired (m .whole .in-starts) (m .whole .in-numbers)))
+    (unfold setOf in sound-active (setIn (d .set)) (stands-sound d m e))
+
+pub knots-ascend : (d : Resolver) → Made d → d .stands ≡ true → Ascending (take (d .set .counts .knots) (d .set .xs))
+knots-ascend d m e =
+    subst Ascending (knot-times (take (d .set .counts .knots) (d .set .xs)) (take (d .set .counts .knots) (d .set .ys)) (paired (m .whole .in-xs) (m .whole .in-ys)))
+    (unfold setOf in sound-knots (setIn (d .set)) (stands-sound d m e))
 
 refused-retime : (d : Resolver) (o : LayerOffset) (n : ℕ) → Made d → n ≡ retimeNumber (model d) o → (n ≡ 0 → ⊥) → Retimes d o (record { number = n; resolver = d })
 unfolding step
@@ -110,14 +128,15 @@ pub retimes-21 : (d : Resolver) (o : LayerOffset) → Made d → d .stands ≡ t
 unfolding retimeNumber
 retimes-21 d o m e f = refused-retime d o 21 m (sym (ap (λ (x : Model). retimeNumber x o) (stands-as d true e f))) (λ z. omega arith)
 
-pub retimes : (d : Resolver) (o : LayerOffset) (p : Parsed) (r : Accepted) → d .stands ≡ true → d .retimed ≡ false → sets.Retimes (d .set) o p → Installs d p true r → Retimes d o r
+pub retimes : (d : Resolver) (o : LayerOffset) (set : clip.ClipSet) (p : Parsed) (r : Accepted) → d .stands ≡ true → d .retimed ≡ false → Packed (setIn (d .set)) set → sets.Retimes set o p → Installs d p true r → Retimes d o r
 unfolding step
-retimes d o p r e f q i =
-    let s : model d ≡ standing false (clipSetOf (d .set)) = stands-as d false e f in
-    let n : p .number ≡ retimeNumber (model d) o = q .number ∙ sym (ap (λ (x : Model). retimeNumber x o) s) in
+retimes d o set p r e f k q i =
+    let s : model d ≡ standing false (setIn (d .set)) = stands-as d false e f in
+    let n : p .number ≡ retimeNumber (model d) o = q .number ∙ ap (λ (x : ClipSet). retimeNumber (standing false x) o) (k .is) ∙ sym (ap (λ (x : Model). retimeNumber x o) s) in
     record {
       number = i .number ∙ n;
-      after = i .after ∙ accepted-same (p .number) (retimeNumber (model d) o) (model d) (standing true (clipSetOf (p .set))) (retimed o (model d)) n (λ z. ap (standing true) (q .moved z) ∙ sym (ap (retimed o) s));
+      after = i .after ∙ accepted-same (p .number) (retimeNumber (model d) o) (model d) (standing true (clipSetOf (p .set))) (retimed o (model d)) n
+          (λ z. ap (standing true) (q .moved z ∙ ap (retimeStageTimes o) (k .is)) ∙ sym (ap (retimed o) s));
       made = i .made;
     }
 
@@ -127,7 +146,7 @@ module _ {A : Type 0} (f : ClipSet → Reply A) (d : Resolver) where
   pub asked-20 : d .stands ≡ false → refused 20 ≡ ofSet (model d) f
   asked-20 e = sym (ap (λ (m : Model). ofSet m f) (none-stands d e))
 
-  pub asked : d .stands ≡ true → f (clipSetOf (d .set)) ≡ ofSet (model d) f
+  pub asked : d .stands ≡ true → f (setIn (d .set)) ≡ ofSet (model d) f
   asked e = sym (ap (λ (m : Model). ofSet m f) (stands-as d (d .retimed) e refl))
 
 module _ {A : Type 0} (t : StageTime) (a : A) where
@@ -148,30 +167,62 @@ module _ {A : Type 0} (s : Samples) (k : ClipSet → ℕ) (a : ClipSet → A) (d
   asking set = reply (samplesNumber set s then k set) (a set)
 
   -- the samples are refused
-  pub samples-refused : (n : ℕ) → n ≡ samplesNumber (clipSetOf (d .set)) s → (n ≡ 0 → ⊥) → refused n ≡ ofSet (model d) asking
-  samples-refused n q h = refused-then n (k (clipSetOf (d .set))) (a (clipSetOf (d .set))) h ∙ ap (λ (m : ℕ). reply (m then k (clipSetOf (d .set))) (a (clipSetOf (d .set)))) q ∙ asked asking d e
+  pub samples-refused : (n : ℕ) → n ≡ samplesNumber (setIn (d .set)) s → (n ≡ 0 → ⊥) → refused n ≡ ofSet (model d) asking
+  samples-refused n q h = refused-then n (k (setIn (d .set))) (a (setIn (d .set))) h ∙ ap (λ (m : ℕ). reply (m then k (setIn (d .set))) (a (setIn (d .set)))) q ∙ asked asking d e
 
-  pub samples-passed : samplesNumber (clipSetOf (d .set)) s ≡ 0 → reply (k (clipSetOf (d .set))) (a (clipSetOf (d .set))) ≡ ofSet (model d) asking
-  samples-passed z = ap (λ (m : ℕ). reply (m then k (clipSetOf (d .set))) (a (clipSetOf (d .set)))) (sym z) ∙ asked asking d e
+  pub samples-passed : samplesNumber (setIn (d .set)) s ≡ 0 → reply (k (setIn (d .set))) (a (setIn (d .set))) ≡ ofSet (model d) asking
+  samples-passed z = ap (λ (m : ℕ). reply (m then k (setIn (d .set))) (a (setIn (d .set)))) (sym z) ∙ asked asking d e
 
 -- a question for whose samples alone it may be refused
 module _ {A : Type 0} (s : Samples) (a : ClipSet → A) (d : Resolver) (e : d .stands ≡ true) where
   abbrev plainly : ClipSet → Reply A
   plainly set = reply (samplesNumber set s) (a set)
 
-  pub plainly-refused : (n : ℕ) → n ≡ samplesNumber (clipSetOf (d .set)) s → (n ≡ 0 → ⊥) → refused n ≡ ofSet (model d) plainly
-  plainly-refused n q h = refuses n h ∙ ap (λ (m : ℕ). reply m (a (clipSetOf (d .set)))) q ∙ asked plainly d e
+  pub plainly-refused : (n : ℕ) → n ≡ samplesNumber (setIn (d .set)) s → (n ≡ 0 → ⊥) → refused n ≡ ofSet (model d) plainly
+  plainly-refused n q h = refuses n h ∙ ap (λ (m : ℕ). reply m (a (setIn (d .set)))) q ∙ asked plainly d e
     where
-      refuses : (m : ℕ) → (m ≡ 0 → ⊥) → refused m ≡ reply m (a (clipSetOf (d .set)))
+      refuses : (m : ℕ) → (m ≡ 0 → ⊥) → refused m ≡ reply m (a (setIn (d .set)))
       refuses zero g = absurd (g refl)
       refuses (suc m) g = refl
 
-  pub plainly-replied : samplesNumber (clipSetOf (d .set)) s ≡ 0 → replied (a (clipSetOf (d .set))) ≡ ofSet (model d) plainly
-  plainly-replied z = ap (λ (m : ℕ). reply m (a (clipSetOf (d .set)))) (sym z) ∙ asked plainly d e
+  pub plainly-replied : samplesNumber (setIn (d .set)) s ≡ 0 → replied (a (setIn (d .set))) ≡ ofSet (model d) plainly
+  plainly-replied z = ap (λ (m : ℕ). reply m (a (setIn (d .set)))) (sym z) ∙ asked plainly d e
 
--- what the operation has shown
-pub is-asked : (d : Resolver) (times values : List Float) (marks ends : List ℕ) (n : ℕ) → Made d → d .stands ≡ true → Judged (d .set .clips) times values marks ends n → n ≡ 0 → Asked (d .set) times values marks ends
-is-asked d times values marks ends n m e j z = record { held = m .held; sound = stands-sound d m e; accepted = judged-accepted j z (clipSetOf (d .set)) refl; numbers = j .values-fit }
+pub judged-number : (d : Resolver) {times values : List Float} {marks ends : List ℕ} {n : ℕ} → Judged (d .set .clips) times values marks ends n → n ≡ samplesNumber (setIn (d .set)) (samplesOf times values marks ends)
+judged-number d j = j .number (setIn (d .set)) (unfold setOf in refl)
+
+-- what the operation has shown, where the samples are accepted
+module _ (d : Resolver) {times values : List Float} {marks ends : List ℕ} {n : ℕ} (m : Made d) (e : d .stands ≡ true) (j : Judged (d .set .clips) times values marks ends n) (z : n ≡ 0) where
+  is-accepted : AcceptedSamples (setIn (d .set)) (samplesOf times values marks ends)
+  is-accepted = judged-accepted j z (setIn (d .set)) (unfold setOf in refl)
+
+  -- the entries that are lent are the standing set, with as many clips as there are ends
+  pub lent-is : lentSet (length ends) (d .set .counts) (d .set .starts) (d .set .numbers) (d .set .xs) (d .set .ys) (d .set .blocks) (d .set .manifest) ≡ setIn (d .set)
+  lent-is =
+      ap (λ (k : ℕ). lentSet k (d .set .counts) (d .set .starts) (d .set .numbers) (d .set .xs) (d .set .ys) (d .set .blocks) (d .set .manifest))
+      (is-accepted .ends ∙ (unfold setOf in refl))
+
+  pub is-asked : Asked (d .set .counts) (d .set .starts) (d .set .numbers) (d .set .xs) (d .set .ys) (d .set .blocks) (d .set .manifest) times values marks ends
+  is-asked = record {
+    arrays = m .whole;
+    ready = record {
+      starts-paired = paired (m .whole .in-starts) (m .whole .in-numbers);
+      knots-paired = paired (m .whole .in-xs) (m .whole .in-ys);
+      sound = subst Sound (sym lent-is) (stands-sound d m e);
+      accepted = subst (λ (x : ClipSet). AcceptedSamples x (samplesOf times values marks ends)) (sym lent-is) is-accepted;
+      numbers = j .values-fit;
+    };
+  }
+
+  pub bakes-set : (before after : Outputs) (r : Baked)
+      → BakeIs (lentSet (length ends) (d .set .counts) (d .set .starts) (d .set .numbers) (d .set .xs) (d .set .ys) (d .set .blocks) (d .set .manifest)) (samplesOf times values marks ends) before after r
+      → Bakes (model d) (samplesOf times values marks ends) before (bakedReply r) after
+  bakes-set before after r p =
+      let s = samplesOf times values marks ends in
+      let sound = stands-sound d m e in
+      subst (λ (x : Model). Bakes x s before (bakedReply r) after) (sym (stands-as d (d .retimed) e refl))
+      (bakes (d .retimed) (setIn (d .set)) s (sound-set (setIn (d .set)) sound) (sound-samples (setIn (d .set)) s is-accepted)
+      (record { values = j .values-fit; default = sound .default .fitting }) (sym (judged-number d j) ∙ z) before after r (subst (λ (x : ClipSet). BakeIs x s before after r) lent-is p))
 
 -- ---- the active clip, case by case
 
@@ -200,7 +251,7 @@ bakes-20 d s o e = subst (λ (m : Model). Bakes m s o (refused 20) o) (sym (none
   writes = unfold bakeNumber in refl;
 })
 
-pub bakes-refused : (d : Resolver) (s : Samples) (o : Outputs) (n : ℕ) → d .stands ≡ true → n ≡ samplesNumber (clipSetOf (d .set)) s → (n ≡ 0 → ⊥) → Bakes (model d) s o (refused n) o
+pub bakes-refused : (d : Resolver) (s : Samples) (o : Outputs) (n : ℕ) → d .stands ≡ true → n ≡ samplesNumber (setIn (d .set)) s → (n ≡ 0 → ⊥) → Bakes (model d) s o (refused n) o
 bakes-refused d s o n e q h = subst (λ (m : Model). Bakes m s o (refused n) o) (sym (stands-as d (d .retimed) e refl)) (record {
   track = noTrack;
   is = λ b set p z. absurd (h (q ∙ ap (λ (x : ClipSet). samplesNumber x s) (same b set p) ∙ z));
@@ -208,14 +259,14 @@ bakes-refused d s o n e q h = subst (λ (m : Model). Bakes m s o (refused n) o) 
   writes = keeps n h ∙ ap (λ (m : ℕ). outputsAfter m noTrack o) number-is;
 })
   where
-    same : (b : Bool) (set : ClipSet) → standing (d .retimed) (clipSetOf (d .set)) ≡ standing b set → clipSetOf (d .set) ≡ set
+    same : (b : Bool) (set : ClipSet) → standing (d .retimed) (setIn (d .set)) ≡ standing b set → setIn (d .set) ≡ set
     same b set p = cc
 
     kept : (m k : ℕ) → (m ≡ 0 → ⊥) → m ≡ (m then k)
     kept zero k g = absurd (g refl)
     kept (suc m) k g = refl
 
-    number-is : n ≡ bakeNumber (standing (d .retimed) (clipSetOf (d .set))) s (slots o) 0
+    number-is : n ≡ bakeNumber (standing (d .retimed) (setIn (d .set))) s (slots o) 0
     number-is = unfold bakeNumber in kept n (22 if ltb (slots o) 0 else 0) h ∙ ap (λ (m : ℕ). m then 22 if ltb (slots o) 0 else 0) q
 
     refuses : (m : ℕ) → (m ≡ 0 → ⊥) → refused m ≡ reply m (bakedOf noTrack)
@@ -230,14 +281,6 @@ bakes-refused d s o n e q h = subst (λ (m : Model). Bakes m s o (refused n) o) 
 pub reply-refused : (r : Baked) (n : ℕ) → r .number ≡ n → (n ≡ 0 → ⊥) → refused n ≡ bakedReply r
 reply-refused r zero e h = absurd (h refl)
 reply-refused r (suc n) e h = ap (λ (m : ℕ). reply m (bakedIs r)) (sym e)
-
-pub bakes-set : (d : Resolver) (times values : List Float) (marks ends : List ℕ) (before after : Outputs) (r : Baked) → d .stands ≡ true → Asked (d .set) times values marks ends
-    → samplesNumber (clipSetOf (d .set)) (samplesOf times values marks ends) ≡ 0 → BakeIs (clipSetOf (d .set)) (samplesOf times values marks ends) before after r
-    → Bakes (model d) (samplesOf times values marks ends) before (bakedReply r) after
-bakes-set d times values marks ends before after r e a z p =
-    subst (λ (m : Model). Bakes m (samplesOf times values marks ends) before (bakedReply r) after) (sym (stands-as d (d .retimed) e refl))
-    (bakes (d .retimed) (clipSetOf (d .set)) (samplesOf times values marks ends) (sound-set (clipSetOf (d .set)) (a .sound)) (sound-samples (clipSetOf (d .set)) (samplesOf times values marks ends) (a .accepted))
-    (record { values = a .numbers; default = a .sound .default .fitting }) z before after r p)
 
 -- the same reply, said otherwise
 pub bakes-reply : {m : Model} {s : Samples} {o p : Outputs} {a b : Reply calls.Baked} → a ≡ b → Bakes m s o a p → Bakes m s o b p
@@ -254,8 +297,10 @@ counted-refused r n e f = λ i. record { number = e i; count = f i }
 pub times-refused : (d : Resolver) (s : Samples) (before : List Float) (r : Counted) (n : ℕ) → (r .number ≡ n) × (r .count ≡ 0) → refused n ≡ askStageSampleTimes (model d) s (length before) → TellsTimes d s before before r
 times-refused d s before r n (e, f) q = record { count = counted-refused r n e f ∙ ap counted q; times = ap (λ (x : Reply (List Float)). listed itself x before) q }
 
-pub times-replied : (d : Resolver) (s : Samples) (l before after : List Float) (r : Counted) → ListsTimes l before after r → reply (roomNumber (length before) (length l)) l ≡ askStageSampleTimes (model d) s (length before) → TellsTimes d s before after r
-times-replied d s l before after r p q = record { count = p .count ∙ ap counted q; times = p .times ∙ ap (λ (x : Reply (List Float)). listed itself x before) q }
+pub times-replied : (d : Resolver) (s : Samples) (l l′ before after : List Float) (r : Counted) → l ≡ l′ → ListsTimes l before after r → reply (roomNumber (length before) (length l′)) l′ ≡ askStageSampleTimes (model d) s (length before) → TellsTimes d s before after r
+times-replied d s l l′ before after r e p q =
+    let k = subst (λ (x : List Float). ListsTimes x before after r) e p in
+    record { count = k .count ∙ ap counted q; times = k .times ∙ ap (λ (x : Reply (List Float)). listed itself x before) q }
 
 pub list-refused : (d : Resolver) (s : Samples) (ts : List Float) (ms : List ℕ) (r : Counted) (n : ℕ) → (r .number ≡ n) × (r .count ≡ 0) → refused n ≡ askStageSamples (model d) s (min (length ts) (length ms)) → TellsSamples d s ts ts ms ms r
 list-refused d s ts ms r n (e, f) q = record {
@@ -264,10 +309,12 @@ list-refused d s ts ms r n (e, f) q = record {
   written-marks = ap (λ (x : Reply (List StageSample)). listed markIn x ms) q;
 }
 
-pub list-replied : (d : Resolver) (s : Samples) (l : List StageSample) (ts ts′ : List Float) (ms ms′ : List ℕ) (r : Counted) → ListsSamples l ts ts′ ms ms′ r
-    → reply (roomNumber (min (length ts) (length ms)) (length l)) l ≡ askStageSamples (model d) s (min (length ts) (length ms)) → TellsSamples d s ts ts′ ms ms′ r
-list-replied d s l ts ts′ ms ms′ r p q = record {
-  count = p .count ∙ ap counted q;
-  written-times = p .written-times ∙ ap (λ (x : Reply (List StageSample)). listed timeOf x ts) q;
-  written-marks = p .written-marks ∙ ap (λ (x : Reply (List StageSample)). listed markIn x ms) q;
-}
+pub list-replied : (d : Resolver) (s : Samples) (l l′ : List StageSample) (ts ts′ : List Float) (ms ms′ : List ℕ) (r : Counted) → l ≡ l′ → ListsSamples l ts ts′ ms ms′ r
+    → reply (roomNumber (min (length ts) (length ms)) (length l′)) l′ ≡ askStageSamples (model d) s (min (length ts) (length ms)) → TellsSamples d s ts ts′ ms ms′ r
+list-replied d s l l′ ts ts′ ms ms′ r e p q =
+    let k = subst (λ (x : List StageSample). ListsSamples x ts ts′ ms ms′ r) e p in
+    record {
+      count = k .count ∙ ap counted q;
+      written-times = k .written-times ∙ ap (λ (x : Reply (List StageSample)). listed timeOf x ts) q;
+      written-marks = k .written-marks ∙ ap (λ (x : Reply (List StageSample)). listed markIn x ms) q;
+    }

@@ -1,3 +1,3 @@
 -- Laws for the proofs of the operations, and demand 3 from their promises.
-mod Laws
+pub mod Laws
 mod WholeList

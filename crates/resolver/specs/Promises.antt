@@ -35,7 +35,7 @@ use Rattle.resolver.specs.declared.ValueReply.{ValueReply}
 use Rattle.resolver.specs.declared.ValueReply.the-variants.{Answered, Refused as ValueRefused}
 use Rattle.resolver.specs.declared.UntimedReply.{UntimedReply}
 use Rattle.resolver.specs.declared.UntimedReply.the-variants.{Answered as Told, Refused as UntimedRefused}
-use Rattle.asked.specs.Lists.{counted, listed, itself, timeOf, markIn}
+use Rattle.standing.specs.Lists.{counted, listed, itself, timeOf, markIn}
 use Rattle.resolver.specs.State.{model, Made}
 
 -- ---- calls that may change what stands

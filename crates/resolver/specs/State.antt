@@ -2,13 +2,13 @@
 use mathlib.Core.Bool.{cond}
 use Rattle.definitions.specs.ClipSet.{Model, noSet, standing}
 use Rattle.set_laws.specs.SoundCalls.{SoundModel}
-use Rattle.clip.specs.Holding.{clipSetOf, Held}
+use Rattle.standing.specs.Standing.{setIn, Whole}
 use Rattle.resolver.specs.declared.Resolver.{Resolver}
 
 abbrev pub model : Resolver → Model
-model d = cond (d .stands) (standing (d .retimed) (clipSetOf (d .set))) noSet
+model d = cond (d .stands) (standing (d .retimed) (setIn (d .set))) noSet
 
 -- "A desk or set handed in by value is one that an operation made": its arrays are whole, and its set is well-formed. Every operation ensures it of what it hands back.
 pub record Made (d : Resolver) : Type 0 where
-  pub held : Held (d .set)
+  pub whole : Whole (d .set)
   pub sound : SoundModel (model d)

@@ -1,6 +1,4 @@
 // A resolver holds one clip set by value, or none, and answers questions about it: 01's desk.
-use clip::ActiveClip;
-use clip::ClipSet;
 use clip::Parsed;
 use definitions::Answer;
 use definitions::ClipTime;
@@ -9,6 +7,9 @@ use definitions::LayerOffset;
 use definitions::StageTime;
 use definitions::TemplateTimes;
 use sdf::Counted;
+use standing::StandingSet;
+use standing::questions;
+use standing::questions::ActiveClip;
 use track::bake::Baked;
 use value::untimed::ValueState;
 ghost use mathlib.Core.Path.{_≡_};
@@ -24,7 +25,7 @@ ghost use Rattle.resolver.specs.Promises.{Begins, Accepts, Expands, Reti
 pub struct Resolver {
     pub stands: bool,
     pub retimed: bool,
-    pub set: ClipSet,
+    pub set: StandingSet,
 }
 
 // What a call that may change the state replies: the number that refuses it, or 0, and the state after it.
@@ -60,7 +61,7 @@ impl Resolver {
     pub fn fresh() -> Resolver
         ensures { λ r. ⌜ Begins r ⌝ }
     {
-        let set = clip::empty();
+        let set = standing::installed(clip::empty());
         Resolver {
             stands: false,
             retimed: false,
@@ -138,7 +139,16 @@ impl Resolver {
                 resolver: self,
             };
         }
-        let set = self.set;
+        let set = standing::packed(
+            self.set.clips,
+            &self.set.starts,
+            &self.set.numbers,
+            &self.set.xs,
+            &self.set.ys,
+            &self.set.blocks,
+            self.set.counts,
+            self.set.manifest,
+        );
         let moved = set.retime_stage_times(o);
         install(self, moved, true)
     }
@@ -154,8 +164,12 @@ impl Resolver {
         if !gf::is_finite(t.0) {
             return TimeReply::Refused(10);
         }
-        let set = self.set;
-        TimeReply::Time(set.map_stage_to_clip(t))
+        TimeReply::Time(questions::map_stage_to_clip(
+            &self.set.xs,
+            &self.set.ys,
+            self.set.counts.knots,
+            t,
+        ))
     }
 
     // The clip that is active at a stage time, none in a set without starts.
@@ -169,8 +183,12 @@ impl Resolver {
         if !gf::is_finite(t.0) {
             return ClipReply::Refused(10);
         }
-        let set = self.set;
-        let active = set.active_clip(t);
+        let active = questions::active_clip(
+            &self.set.starts,
+            &self.set.numbers,
+            self.set.counts.starts,
+            t,
+        );
         match active {
             ActiveClip::Clip(c) => ClipReply::Clip(c),
             ActiveClip::NoClip => ClipReply::NoClip,
@@ -192,15 +210,27 @@ impl Resolver {
         if !self.stands {
             return ValueReply::Refused(20);
         }
-        let set = self.set;
-        let number = sdf::samples_number(set.clips, times, values, marks, ends);
+        let number = sdf::samples_number(self.set.clips, times, values, marks, ends);
         if number != 0 {
             return ValueReply::Refused(number);
         }
         if !gf::is_finite(t.0) {
             return ValueReply::Refused(10);
         }
-        ValueReply::Answered(asked::value_of(set, times, values, marks, ends, t.0))
+        ValueReply::Answered(questions::value(
+            &self.set.starts,
+            &self.set.numbers,
+            &self.set.xs,
+            &self.set.ys,
+            &self.set.blocks,
+            self.set.counts,
+            self.set.manifest,
+            times,
+            values,
+            marks,
+            ends,
+            t,
+        ))
     }
 
     // Whether there is a value at all.
@@ -211,12 +241,23 @@ impl Resolver {
         if !self.stands {
             return UntimedReply::Refused(20);
         }
-        let set = self.set;
-        let number = sdf::samples_number(set.clips, times, values, marks, ends);
+        let number = sdf::samples_number(self.set.clips, times, values, marks, ends);
         if number != 0 {
             return UntimedReply::Refused(number);
         }
-        UntimedReply::Answered(asked::untimed_of(set, times, values, marks, ends))
+        UntimedReply::Answered(questions::untimed(
+            &self.set.starts,
+            &self.set.numbers,
+            &self.set.xs,
+            &self.set.ys,
+            &self.set.blocks,
+            self.set.counts,
+            self.set.manifest,
+            times,
+            values,
+            marks,
+            ends,
+        ))
     }
 
     // The stage sample times, written to the lent list.
@@ -234,12 +275,24 @@ impl Resolver {
         if !self.stands {
             return refused_list(20);
         }
-        let set = self.set;
-        let number = sdf::samples_number(set.clips, times, values, marks, ends);
+        let number = sdf::samples_number(self.set.clips, times, values, marks, ends);
         if number != 0 {
             return refused_list(number);
         }
-        asked::times_of(set, times, values, marks, ends, out)
+        questions::stage_sample_times(
+            &self.set.starts,
+            &self.set.numbers,
+            &self.set.xs,
+            &self.set.ys,
+            &self.set.blocks,
+            self.set.counts,
+            self.set.manifest,
+            times,
+            values,
+            marks,
+            ends,
+            out,
+        )
     }
 
     // The stage samples: each stage sample time, with the mark of what is supplied there.
@@ -258,12 +311,25 @@ impl Resolver {
         if !self.stands {
             return refused_list(20);
         }
-        let set = self.set;
-        let number = sdf::samples_number(set.clips, times, values, marks, ends);
+        let number = sdf::samples_number(self.set.clips, times, values, marks, ends);
         if number != 0 {
             return refused_list(number);
         }
-        asked::samples_of(set, times, values, marks, ends, outtimes, outmarks)
+        questions::stage_samples(
+            &self.set.starts,
+            &self.set.numbers,
+            &self.set.xs,
+            &self.set.ys,
+            &self.set.blocks,
+            self.set.counts,
+            self.set.manifest,
+            times,
+            values,
+            marks,
+            ends,
+            outtimes,
+            outmarks,
+        )
     }
 
     // The track of the standing set's value: the head and the count, and the changes written to the lent lists.
@@ -283,13 +349,18 @@ impl Resolver {
         if !self.stands {
             return refused_bake(20);
         }
-        let set = self.set;
-        let number = sdf::samples_number(set.clips, times, values, marks, ends);
+        let number = sdf::samples_number(self.set.clips, times, values, marks, ends);
         if number != 0 {
             return refused_bake(number);
         }
-        asked::bake_of(
-            set,
+        questions::bake(
+            &self.set.starts,
+            &self.set.numbers,
+            &self.set.xs,
+            &self.set.ys,
+            &self.set.blocks,
+            self.set.counts,
+            self.set.manifest,
             times,
             values,
             marks,
@@ -313,7 +384,7 @@ fn install(d: Resolver, parsed: Parsed, retimed: bool) -> Accepted
             resolver: d,
         };
     }
-    let set = parsed.set;
+    let set = standing::installed(parsed.set);
     let next = Resolver {
         stands: true,
         retimed,

@@ -1,9 +1,9 @@
 // The hash of a track that is too long to print: its changes are walked, and none is kept.
 use cell::spot::no_spot;
-use clip::ClipSet;
 use definitions::Manifest;
 use lines::reply;
 use near::tops::tops_of;
+use standing::Counts;
 use steps::entry::Entry;
 use stop::entry::entry_at;
 use track::fill::Cursor;
@@ -17,7 +17,7 @@ ghost use Rattle.cell_laws.specs.Keys.{entryAtKey};
 ghost use Rattle.cell_laws.specs.Unpacked.{setOf, samplesOf, Ready};
 ghost use Rattle.near.specs.Tops.{TopsOf};
 ghost use Rattle.steps.specs.Entries.{entryIs};
-ghost use Rattle.asked.specs.Asked.{Asked};
+ghost use Rattle.standing.specs.Standing.{Asked};
 ghost use Rattle.track.specs.Fills.{CursorIs, PageIs};
 
 // The keys of the lowest and of the greatest finite double.
@@ -239,28 +239,28 @@ fn hash_lists(
     }
 }
 
-pub fn hash_of(set: ClipSet, times: &[f64], values: &[f64], marks: &[u8], ends: &[u64]) -> Hashed
-    requires { ⌜ Asked set (now times) (now values) (now marks) (now ends) ⌝ }
+// The hash of a standing set's track, from its arrays.
+pub fn hash_of<'a>(
+    starts: &'a [f64],
+    numbers: &'a [u64],
+    xs: &'a [f64],
+    ys: &'a [f64],
+    blocks: &'a [f64],
+    counts: Counts,
+    m: Manifest,
+    times: &[f64],
+    values: &[f64],
+    marks: &[u8],
+    ends: &[u64],
+) -> Hashed
+    requires { ⌜ Asked counts (now starts) (now numbers) (now xs) (now ys) (now blocks) m (now times) (now values) (now marks) (now ends) ⌝ }
 {
-    let active = unpack::unpack_starts(set.active);
-    let curve = unpack::unpack_knots(set.knots);
-    let held = set.blocks;
-    let starts = active.times;
-    let clips = active.clips;
-    let xs = curve.xs;
-    let ys = curve.ys;
-    let blocks = held.items;
-    let n = active.count;
-    let k = curve.count;
-    let b = held.count;
-    let default = set.default;
-    let m = Manifest {
-        default,
-        interpolate: set.interpolate,
-    };
+    let n = counts.starts;
+    let k = counts.knots;
+    let b = counts.blocks;
     hash_lists(
         &starts[..n],
-        &clips[..n],
+        &numbers[..n],
         &xs[..k],
         &ys[..k],
         &blocks[..b],

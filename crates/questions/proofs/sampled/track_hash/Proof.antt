@@ -1,29 +1,9 @@
 -- `questions::sampled::track_hash` is safe: the resolver is one that an operation made, and the samples are accepted for its set. Assumes nothing.
-use Prim.Native.Nat.{ℕ}
-use mathlib.Core.Path.{_≡_, refl, ap, subst}
-use mathlib.Core.Bool.{Bool, true, cond}
-use mathlib.Core.List.{List}
-use lib.Ieee.{Float}
-use borrow.Author.Tests.{not-false}
-use Rattle.definitions.specs.ClipSet.{noSet, standing}
-use Rattle.set_laws.specs.SoundCalls.{SoundModel}
-use Rattle.sdf.specs.Judged.{Judged, judged-accepted}
-use Rattle.clip.specs.Holding.{clipSetOf}
-use Rattle.resolver.specs.declared.Resolver.{Resolver}
-use Rattle.asked.specs.Asked.{Asked}
-use Rattle.resolver.specs.State.{Made}
 use borrow.Author.Needs.{needs}
+use borrow.Author.Tests.{not-false}
+use Rattle.resolver.proofs.Laws.{is-asked}
 use Rattle.questions.proofs.sampled.track_hash.Statement.{statement}
 use Rattle.questions.proofs.sampled.track_hash.Tie as tie
-
--- what was shown of the resolver and of the samples
-is-asked : (d : Resolver) (times values : List Float) (marks ends : List ℕ) (n : ℕ) → Made d → d .stands ≡ true → Judged (d .set .clips) times values marks ends n → n ≡ 0 → Asked (d .set) times values marks ends
-is-asked d times values marks ends n m e j z = record {
-  held = m .held;
-  sound = subst SoundModel (ap (λ (b : Bool). cond b (standing (d .retimed) (clipSetOf (d .set))) noSet) e) (m .sound);
-  accepted = judged-accepted j z (clipSetOf (d .set)) refl;
-  numbers = j .values-fit;
-}
 
 is-end-requires : tie.Need-is-end-requires
 is-end-requires c κs = search needs
@@ -60,8 +40,9 @@ returns-3 c = search needs
 
 hash-of-requires : tie.Need-hash-of-requires
 hash-of-requires c κs =
-    let s = c .before .before .before .before .before .before .before .before .before .before .before .before .before in
-    is-asked (s .args .resolver) _ _ _ _ _ (s .pre) (not-false _ (c .before .before .before .if2 .left)) (c .before .samples-number .ensures) (c .if3 .left)
+    let p = c .before .before .before .before .before .before .before .before .before .before .before .before .before in
+    let s = p .before .before .before .before .before .before .before .before .before .before .before in
+    is-asked (s .args .t3) (s .pre) (not-false _ (p .before .before .if2 .left)) (p .before .samples-number .ensures) (p .if3 .left)
 
 put-hashed-requires : tie.Need-put-hashed-requires
 put-hashed-requires c κs = search needs

@@ -2,14 +2,20 @@
 use mathlib.Core.Path.{sym, _∙_}
 use borrow.Author.Needs.{needs}
 use borrow.Author.Tests.{not-true, not-false}
+use Rattle.definitions.specs.Timing.{activeClip}
 use Rattle.definitions.specs.Questions.{askActiveClip}
-use Rattle.resolver.proofs.Laws.{asked-20, asked, not-finite, is-finite, stands-sound, clip-told, none-told}
+use Rattle.cell_laws.specs.Unpacked.{setOf}
+use Rattle.resolver.proofs.Laws.{asked-20, asked, not-finite, is-finite, starts-ascend, clip-told, none-told}
 use Rattle.resolver.proofs.Resolver.active_clip.Statement.{statement}
 use Rattle.resolver.proofs.Resolver.active_clip.Tie as tie
 
+-- back to where neither 20 nor 10 applies
+abbrev passed : tie.After-active-clip → tie.Else2
+passed c = c .before .before .before .before .before .before
+
 returns : tie.Need-returns
 unfolding askActiveClip
-returns c = asked-20 _ (c .before .before .args .self) (not-true _ (c .if1 .taken))
+returns c = asked-20 _ (c .before .args .t1) (not-true _ (c .if1 .taken))
 
 is-finite-requires : tie.Need-is-finite-requires
 is-finite-requires c κs = search needs
@@ -17,13 +23,14 @@ is-finite-requires c κs = search needs
 returns-2 : tie.Need-returns-2
 unfolding askActiveClip
 returns-2 c =
-    let s = c .before .before .before .before in
-    not-finite (s .args .t) _ (sym (c .before .is-finite .ensures) ∙ not-true _ (c .if2 .taken)) ∙ asked _ (s .args .self) (not-false _ (c .before .before .if1 .left))
+    let s = c .before .before .before in
+    not-finite (s .args .t) _ (sym (c .before .is-finite .ensures) ∙ not-true _ (c .if2 .taken)) ∙ asked _ (s .args .t1) (not-false _ (c .before .before .if1 .left))
 
 active-clip-requires : tie.Need-active-clip-requires
 active-clip-requires c κs =
-    let s = c .before .before .before .before .before in
-    (s .pre .held, stands-sound (s .args .self) (s .pre) (not-false _ (c .before .before .before .if1 .left)))
+    let p = c .before .before .before .before .before in
+    let s = p .before .before .before in
+    (s .pre .whole .in-starts, (s .pre .whole .in-numbers, starts-ascend (s .args .t1) (s .pre) (not-false _ (p .before .before .if1 .left))))
 
 enum-known-active : tie.Need-enum-known-active
 enum-known-active c = search needs
@@ -32,24 +39,25 @@ enum-told : tie.Need-enum-told
 enum-told c = search needs
 
 returns-3 : tie.Need-returns-3
-unfolding askActiveClip
+unfolding askActiveClip activeClip setOf
 returns-3 c =
-    let s = c .before .before .before .before .before .before .before .before .before in
     let m = c .before .before .before in
+    let p = passed m in
+    let s = p .before .before .before in
     clip-told _ _ (sym (c .before .active .given .1) ∙ m .active-clip .ensures)
-    ∙ is-finite (s .args .t) _ (sym (m .before .before .before .is-finite .ensures) ∙ not-false _ (m .before .before .if2 .left))
-    ∙ asked _ (s .args .self) (not-false _ (m .before .before .before .before .if1 .left))
+    ∙ is-finite (s .args .t) _ (sym (p .before .is-finite .ensures) ∙ not-false _ (p .if2 .left))
+    ∙ asked _ (s .args .t1) (not-false _ (p .before .before .if1 .left))
 
 returns-4 : tie.Need-returns-4
-unfolding askActiveClip
+unfolding askActiveClip activeClip setOf
 returns-4 c =
-    let s = c .before .before .before .before .before .before .before .before in
     let m = c .before .before in
+    let p = passed m in
+    let s = p .before .before .before in
     none-told _ (sym (c .enum-told .given .1) ∙ m .active-clip .ensures)
-    ∙ is-finite (s .args .t) _ (sym (m .before .before .before .is-finite .ensures) ∙ not-false _ (m .before .before .if2 .left))
-    ∙ asked _ (s .args .self) (not-false _ (m .before .before .before .before .if1 .left))
+    ∙ is-finite (s .args .t) _ (sym (p .before .is-finite .ensures) ∙ not-false _ (p .if2 .left))
+    ∙ asked _ (s .args .t1) (not-false _ (p .before .before .if1 .left))
 
 pub active-clip-spec : {M : Type 1} → statement M
 active-clip-spec =
-    tie.close
-    (tie.spec returns is-finite-requires returns-2 active-clip-requires enum-known-active enum-told returns-3 returns-4)
+    tie.close (tie.spec returns is-finite-requires returns-2 active-clip-requires enum-known-active enum-told returns-3 returns-4)

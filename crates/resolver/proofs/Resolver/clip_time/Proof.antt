@@ -1,19 +1,16 @@
 -- `resolver::Resolver::clip_time` meets its contract: 20, 10, else the clip time by the set's knots. Assumes nothing.
-use mathlib.Core.Path.{_≡_, sym, ap, _∙_, subst}
-use lib.Dec.{T}
+use mathlib.Core.Path.{sym, ap, _∙_}
 use borrow.Author.Needs.{needs}
 use borrow.Author.Tests.{not-true, not-false}
-use Rattle.definitions.specs.declared.ClipTime.{ClipTime}
-use Rattle.definitions.specs.ClipSet.{ClipSet}
-use Rattle.definitions.specs.Timing.{mapStageToClip}
-use Rattle.definitions.specs.Questions.{askClipTime, replied, reply, stageTimeNumber}
-use Rattle.resolver.proofs.Laws.{asked-20, asked, not-finite, is-finite, stands-sound}
+use Rattle.definitions.specs.Questions.{askClipTime, replied}
+use Rattle.cell_laws.specs.Unpacked.{setOf}
+use Rattle.resolver.proofs.Laws.{asked-20, asked, not-finite, is-finite, knots-ascend}
 use Rattle.resolver.proofs.Resolver.clip_time.Statement.{statement}
 use Rattle.resolver.proofs.Resolver.clip_time.Tie as tie
 
 returns : tie.Need-returns
 unfolding askClipTime
-returns c = let s = c .before .before in asked-20 _ (s .args .self) (not-true _ (c .if1 .taken))
+returns c = asked-20 _ (c .before .args .t1) (not-true _ (c .if1 .taken))
 
 is-finite-requires : tie.Need-is-finite-requires
 is-finite-requires c κs = search needs
@@ -21,22 +18,23 @@ is-finite-requires c κs = search needs
 returns-2 : tie.Need-returns-2
 unfolding askClipTime
 returns-2 c =
-    let s = c .before .before .before .before in
-    not-finite (s .args .t) _ (sym (c .before .is-finite .ensures) ∙ not-true _ (c .if2 .taken)) ∙ asked _ (s .args .self) (not-false _ (c .before .before .if1 .left))
+    let s = c .before .before .before in
+    not-finite (s .args .t) _ (sym (c .before .is-finite .ensures) ∙ not-true _ (c .if2 .taken)) ∙ asked _ (s .args .t1) (not-false _ (c .before .before .if1 .left))
 
 map-stage-to-clip-requires : tie.Need-map-stage-to-clip-requires
 map-stage-to-clip-requires c κs =
-    let s = c .before .before .before .before .before in
-    (s .pre .held, stands-sound (s .args .self) (s .pre) (not-false _ (c .before .before .before .if1 .left)))
+    let p = c .before .before .before .before .before in
+    let s = p .before .before .before in
+    (s .pre .whole .in-xs, (s .pre .whole .in-ys, knots-ascend (s .args .t1) (s .pre) (not-false _ (p .before .before .if1 .left))))
 
 returns-3 : tie.Need-returns-3
-unfolding askClipTime
+unfolding askClipTime setOf
 returns-3 c =
-    let s = c .before .before .before .before .before .before in
-    let m = c .before in
+    let p = c .before .before .before .before .before .before in
+    let s = p .before .before .before in
     ap replied (c .map-stage-to-clip .ensures)
-    ∙ is-finite (s .args .t) _ (sym (m .before .before .is-finite .ensures) ∙ not-false _ (m .before .if2 .left))
-    ∙ asked _ (s .args .self) (not-false _ (m .before .before .before .if1 .left))
+    ∙ is-finite (s .args .t) _ (sym (p .before .is-finite .ensures) ∙ not-false _ (p .if2 .left))
+    ∙ asked _ (s .args .t1) (not-false _ (p .before .before .if1 .left))
 
 pub clip-time-spec : {M : Type 1} → statement M
 clip-time-spec =

@@ -1,17 +1,20 @@
 -- `resolver::Resolver::stage_sample_times` meets its contract: 20, the samples' number, else the list. Assumes nothing.
-use mathlib.Core.Path.{refl, sym, _∙_}
+use mathlib.Core.Path.{sym, ap, _∙_}
 use lib.ListN.{length}
 use borrow.Author.Needs.{needs}
 use borrow.Author.Tests.{not-true, not-false}
 use denote.Ref.{now}
 use Rattle.definitions.specs.ClipSet.{ClipSet}
+use Rattle.definitions.specs.Samples.{Samples}
 use Rattle.definitions.specs.StageSamples.{stageSampleTimes}
 use Rattle.definitions.specs.Questions.{askStageSampleTimes, roomNumber}
 use Rattle.cell_laws.specs.Unpacked.{samplesOf}
-use Rattle.clip.specs.Holding.{clipSetOf}
-use Rattle.resolver.proofs.Laws.{asked-20, samples-refused, samples-passed, times-refused, times-replied, is-asked}
+use Rattle.resolver.proofs.Laws.{asked-20, judged-number, samples-refused, samples-passed, times-refused, times-replied, lent-is, is-asked}
 use Rattle.resolver.proofs.Resolver.stage_sample_times.Statement.{statement}
 use Rattle.resolver.proofs.Resolver.stage_sample_times.Tie as tie
+
+abbrev lent : tie.Start → Samples
+lent s = samplesOf (now (s .args .times)) (now (s .args .values)) (now (s .args .marks)) (now (s .args .ends))
 
 refused-list-requires : tie.Need-refused-list-requires
 refused-list-requires c κs = search needs
@@ -19,8 +22,8 @@ refused-list-requires c κs = search needs
 returns : tie.Need-returns
 unfolding askStageSampleTimes
 returns c =
-    let s = c .before .before .before .before .before .before .before .before in
-    times-refused (s .args .self) (samplesOf (now (s .args .times)) (now (s .args .values)) (now (s .args .marks)) (now (s .args .ends))) (now (s .args .out)) _ 20 (c .refused-list .ensures) (asked-20 _ (s .args .self) (not-true _ (c .before .if1 .taken)))
+    let s = c .before .before .before .before .before .before .before in
+    times-refused (s .args .t1) (lent s) (now (s .args .out)) _ 20 (c .refused-list .ensures) (asked-20 _ (s .args .t1) (not-true _ (c .before .if1 .taken)))
 
 samples-number-requires : tie.Need-samples-number-requires
 samples-number-requires c κs = search needs
@@ -31,15 +34,16 @@ refused-list-requires-2 c κs = search needs
 returns-2 : tie.Need-returns-2
 unfolding askStageSampleTimes
 returns-2 c =
-    let s = c .before .before .before .before .before .before .before .before .before .before .before in
-    times-refused (s .args .self) (samplesOf (now (s .args .times)) (now (s .args .values)) (now (s .args .marks)) (now (s .args .ends))) (now (s .args .out)) _ _ (c .refused-list2 .ensures)
-    (samples-refused (samplesOf (now (s .args .times)) (now (s .args .values)) (now (s .args .marks)) (now (s .args .ends))) (λ (x : ClipSet). roomNumber (length (now (s .args .out))) (length (stageSampleTimes x (samplesOf (now (s .args .times)) (now (s .args .values)) (now (s .args .marks)) (now (s .args .ends)))))) (λ (x : ClipSet). stageSampleTimes x (samplesOf (now (s .args .times)) (now (s .args .values)) (now (s .args .marks)) (now (s .args .ends)))) (s .args .self) (not-false _ (c .before .before .before .before .if1 .left))
-    _ (c .before .before .samples-number .ensures .number (clipSetOf (s .args .self .set)) refl) (c .before .if2 .taken))
+    let p = c .before in
+    let s = p .before .before .before .before .before .before .before .before in
+    times-refused (s .args .t1) (lent s) (now (s .args .out)) _ _ (c .refused-list2 .ensures)
+    (samples-refused (lent s) (λ (x : ClipSet). roomNumber (length (now (s .args .out))) (length (stageSampleTimes x (lent s)))) (λ (x : ClipSet). stageSampleTimes x (lent s)) (s .args .t1) (not-false _ (p .before .before .if1 .left)) _ (judged-number (s .args .t1) (p .before .samples-number .ensures)) (p .if2 .taken))
 
-times-of-requires : tie.Need-times-of-requires
-times-of-requires c κs =
-    let s = c .before .before .before .before .before .before .before .before .before .before .before in
-    is-asked (s .args .self) _ _ _ _ _ (s .pre) (not-false _ (c .before .before .before .before .if1 .left)) (c .before .before .samples-number .ensures) (c .before .if2 .left)
+stage-sample-times-requires : tie.Need-stage-sample-times-requires
+stage-sample-times-requires c κs =
+    let p = c .before .before .before .before .before .before .before .before .before .before .before .before .before .before in
+    let s = p .before .before .before .before .before .before .before .before in
+    is-asked (s .args .t1) (s .pre) (not-false _ (p .before .before .if1 .left)) (p .before .samples-number .ensures) (p .if2 .left)
 
 same-length : tie.Need-same-length
 same-length c = search needs
@@ -47,20 +51,15 @@ same-length c = search needs
 returns-3 : tie.Need-returns-3
 unfolding askStageSampleTimes
 returns-3 c =
-    let s = c .before .before .before .before .before .before .before .before .before .before .before .before .before .before in
-    times-replied (s .args .self) (samplesOf (now (s .args .times)) (now (s .args .values)) (now (s .args .marks)) (now (s .args .ends))) _ _ _ _ (c .before .before .times-of .ensures)
-    (samples-passed (samplesOf (now (s .args .times)) (now (s .args .values)) (now (s .args .marks)) (now (s .args .ends))) (λ (x : ClipSet). roomNumber (length (now (s .args .out))) (length (stageSampleTimes x (samplesOf (now (s .args .times)) (now (s .args .values)) (now (s .args .marks)) (now (s .args .ends)))))) (λ (x : ClipSet). stageSampleTimes x (samplesOf (now (s .args .times)) (now (s .args .values)) (now (s .args .marks)) (now (s .args .ends)))) (s .args .self) (not-false _ (c .before .before .before .before .before .before .before .if1 .left))
-    (sym (c .before .before .before .before .before .samples-number .ensures .number (clipSetOf (s .args .self .set)) refl) ∙ c .before .before .before .before .if2 .left))
+    let w = c .before .before in
+    let p = w .before .before .before .before .before .before .before .before .before .before .before .before .before .before .before in
+    let s = p .before .before .before .before .before .before .before .before in
+    let stands = not-false _ (p .before .before .if1 .left) in
+    times-replied (s .args .t1) (lent s) _ _ _ _ _
+    (ap (λ (x : ClipSet). stageSampleTimes x (lent s)) (lent-is (s .args .t1) (s .pre) stands (p .before .samples-number .ensures) (p .if2 .left)))
+    (w .stage-sample-times .ensures)
+    (samples-passed (lent s) (λ (x : ClipSet). roomNumber (length (now (s .args .out))) (length (stageSampleTimes x (lent s)))) (λ (x : ClipSet). stageSampleTimes x (lent s)) (s .args .t1) stands (sym (judged-number (s .args .t1) (p .before .samples-number .ensures)) ∙ p .if2 .left))
 
 pub stage-sample-times-spec : {M : Type 1} → statement M
 stage-sample-times-spec =
-    tie.close
-    (tie.spec
-    refused-list-requires
-    returns
-    samples-number-requires
-    refused-list-requires-2
-    returns-2
-    times-of-requires
-    same-length
-    returns-3)
+    tie.close (tie.spec refused-list-requires returns samples-number-requires refused-list-requires-2 returns-2 stage-sample-times-requires same-length returns-3)

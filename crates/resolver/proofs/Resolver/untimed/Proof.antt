@@ -1,20 +1,23 @@
 -- `resolver::Resolver::untimed` meets its contract: 20, the samples' number, else the answer without a time. Assumes nothing.
-use mathlib.Core.Path.{refl, sym, ap, _∙_}
+use mathlib.Core.Path.{sym, ap, _∙_}
 use borrow.Author.Needs.{needs}
 use borrow.Author.Tests.{not-true, not-false}
 use denote.Ref.{now}
 use Rattle.definitions.specs.ClipSet.{ClipSet}
+use Rattle.definitions.specs.Samples.{Samples}
 use Rattle.definitions.specs.StageSamples.{untimedAnswer}
 use Rattle.definitions.specs.Questions.{askUntimed, replied}
 use Rattle.cell_laws.specs.Unpacked.{samplesOf}
-use Rattle.clip.specs.Holding.{clipSetOf}
-use Rattle.resolver.proofs.Laws.{asked-20, plainly-refused, plainly-replied, is-asked}
+use Rattle.resolver.proofs.Laws.{asked-20, judged-number, plainly-refused, plainly-replied, lent-is, is-asked}
 use Rattle.resolver.proofs.Resolver.untimed.Statement.{statement}
 use Rattle.resolver.proofs.Resolver.untimed.Tie as tie
 
+abbrev lent : tie.Start → Samples
+lent s = samplesOf (now (s .args .times)) (now (s .args .values)) (now (s .args .marks)) (now (s .args .ends))
+
 returns : tie.Need-returns
 unfolding askUntimed
-returns c = asked-20 _ (c .before .before .before .before .before .before .args .self) (not-true _ (c .if1 .taken))
+returns c = asked-20 _ (c .before .before .before .before .before .args .t1) (not-true _ (c .if1 .taken))
 
 samples-number-requires : tie.Need-samples-number-requires
 samples-number-requires c κs = search needs
@@ -22,25 +25,24 @@ samples-number-requires c κs = search needs
 returns-2 : tie.Need-returns-2
 unfolding askUntimed
 returns-2 c =
-    let s = c .before .before .before .before .before .before .before .before .before in
-    let e = samplesOf (now (s .args .times)) (now (s .args .values)) (now (s .args .marks)) (now (s .args .ends)) in
-    plainly-refused e (λ (x : ClipSet). untimedAnswer x e) (s .args .self) (not-false _ (c .before .before .before .if1 .left))
-    _ (c .before .samples-number .ensures .number (clipSetOf (s .args .self .set)) refl) (c .if2 .taken)
+    let s = c .before .before .before .before .before .before .before in
+    plainly-refused (lent s) (λ (x : ClipSet). untimedAnswer x (lent s)) (s .args .t1) (not-false _ (c .before .before .if1 .left)) _ (judged-number (s .args .t1) (c .before .samples-number .ensures)) (c .if2 .taken)
 
-untimed-of-requires : tie.Need-untimed-of-requires
-untimed-of-requires c κs =
-    let s = c .before .before .before .before .before .before .before .before .before in
-    is-asked (s .args .self) _ _ _ _ _ (s .pre) (not-false _ (c .before .before .before .if1 .left)) (c .before .samples-number .ensures) (c .if2 .left)
+untimed-requires : tie.Need-untimed-requires
+untimed-requires c κs =
+    let p = c .before .before .before .before .before .before .before .before .before .before .before .before .before in
+    let s = p .before .before .before .before .before .before .before in
+    is-asked (s .args .t1) (s .pre) (not-false _ (p .before .before .if1 .left)) (p .before .samples-number .ensures) (p .if2 .left)
 
 returns-3 : tie.Need-returns-3
 unfolding askUntimed
 returns-3 c =
-    let s = c .before .before .before .before .before .before .before .before .before .before in
-    let e = samplesOf (now (s .args .times)) (now (s .args .values)) (now (s .args .marks)) (now (s .args .ends)) in
-    ap replied (c .untimed-of .ensures)
-    ∙ plainly-replied e (λ (x : ClipSet). untimedAnswer x e) (s .args .self) (not-false _ (c .before .before .before .before .if1 .left))
-    (sym (c .before .before .samples-number .ensures .number (clipSetOf (s .args .self .set)) refl) ∙ c .before .if2 .left)
+    let p = c .before .before .before .before .before .before .before .before .before .before .before .before .before .before in
+    let s = p .before .before .before .before .before .before .before in
+    let stands = not-false _ (p .before .before .if1 .left) in
+    ap replied (c .untimed .ensures ∙ ap (λ (x : ClipSet). untimedAnswer x (lent s)) (lent-is (s .args .t1) (s .pre) stands (p .before .samples-number .ensures) (p .if2 .left)))
+    ∙ plainly-replied (lent s) (λ (x : ClipSet). untimedAnswer x (lent s)) (s .args .t1) stands (sym (judged-number (s .args .t1) (p .before .samples-number .ensures)) ∙ p .if2 .left)
 
 pub untimed-spec : {M : Type 1} → statement M
 untimed-spec =
-    tie.close (tie.spec returns samples-number-requires returns-2 untimed-of-requires returns-3)
+    tie.close (tie.spec returns samples-number-requires returns-2 untimed-requires returns-3)

@@ -1,0 +1,58 @@
+-- The standing set in plain arrays, as the set of the definitions; what a question is lent of it. Assumes nothing.
+use Prim.Native.Nat.{ℕ}
+use mathlib.Core.Path.{_≡_}
+use mathlib.Core.List.{List}
+use mathlib.Core.Option.{Option, none, some}
+use lib.ListN.{take}
+use lib.Ieee.{Float}
+use Rattle.definitions.specs.declared.Manifest.{Manifest}
+use Rattle.definitions.specs.ClipSet as Definitions
+use Rattle.definitions.specs.ClipSet.{maxActive, maxKnots, maxBlocks}
+use Rattle.cell_laws.specs.Unpacked.{setOf, Ready}
+use Rattle.clip.specs.declared.ClipSet.{ClipSet}
+use Rattle.clip.specs.Holding.{Room, Held, clipSetOf}
+use Rattle.standing.specs.declared.Counts.{Counts}
+use Rattle.standing.specs.declared.StandingSet.{StandingSet}
+use Rattle.standing.specs.declared.questions.ActiveClip.{ActiveClip}
+use Rattle.standing.specs.declared.questions.ActiveClip.the-variants.{Clip, NoClip}
+
+-- arrays of their lengths, and counts within them
+pub record Arrays (c : Counts) (starts : List Float) (numbers : List ℕ) (xs ys blocks : List Float) : Type 0 where
+  pub in-starts : Room maxActive starts (c .starts)
+  pub in-numbers : Room maxActive numbers (c .starts)
+  pub in-xs : Room maxKnots xs (c .knots)
+  pub in-ys : Room maxKnots ys (c .knots)
+  pub in-blocks : Room maxBlocks blocks (c .blocks)
+
+-- the set of the entries that count
+abbrev pub lentSet : (clips : ℕ) → Counts → List Float → List ℕ → List Float → List Float → List Float → Manifest → Definitions.ClipSet
+lentSet n c starts numbers xs ys blocks m =
+    setOf n (take (c .starts) starts) (take (c .starts) numbers) (take (c .knots) xs) (take (c .knots) ys) (take (c .blocks) blocks) m
+
+abbrev pub setIn : StandingSet → Definitions.ClipSet
+setIn s = lentSet (s .clips) (s .counts) (s .starts) (s .numbers) (s .xs) (s .ys) (s .blocks) (s .manifest)
+
+abbrev pub Whole : StandingSet → Type 0
+Whole s = Arrays (s .counts) (s .starts) (s .numbers) (s .xs) (s .ys) (s .blocks)
+
+-- ---- to and from a prepared set
+
+pub record Installed (set : ClipSet) (r : StandingSet) : Type 0 where
+  pub whole : Whole r
+  pub is : setIn r ≡ clipSetOf set
+
+pub record Packed (set : Definitions.ClipSet) (r : ClipSet) : Type 0 where
+  pub held : Held r
+  pub is : clipSetOf r ≡ set
+
+-- ---- questions
+
+-- What an operation has shown of what it lends to a question: whole arrays, whose entries are a well-formed set, and samples that are accepted for it.
+pub record Asked (c : Counts) (starts : List Float) (numbers : List ℕ) (xs ys blocks : List Float) (m : Manifest) (times values : List Float) (marks ends : List ℕ) : Type 0 where
+  pub arrays : Arrays c starts numbers xs ys blocks
+  pub ready : Ready (take (c .starts) starts) (take (c .starts) numbers) (take (c .knots) xs) (take (c .knots) ys) (take (c .blocks) blocks) m times values marks ends
+
+-- the active clip as the code answers it: "none" in a set without starts
+abbrev pub answered : Option ℕ → ActiveClip
+answered none = NoClip
+answered (some clip) = Clip clip

@@ -1,0 +1,100 @@
+// The set that stands, in plain arrays: made of a prepared set once, when it is installed, and lent as it is to every question.
+pub mod questions;
+
+use clip::ClipSet;
+use clip::storage;
+use definitions::Manifest;
+ghost use Rattle.clip.specs.Holding.{Held};
+ghost use Rattle.standing.specs.Standing.{Arrays, lentSet, Installed, Packed};
+
+// How many entries of each array count.
+#[repr(C)]
+pub struct Counts {
+    pub starts: usize,
+    pub knots: usize,
+    pub blocks: usize,
+}
+
+// `numbers` has the clip number of each start; `clips` is the clip count.
+#[repr(C)]
+pub struct StandingSet {
+    pub clips: u64,
+    pub counts: Counts,
+    pub starts: [f64; 256],
+    pub numbers: [u64; 256],
+    pub xs: [f64; 512],
+    pub ys: [f64; 512],
+    pub blocks: [f64; 256],
+    pub manifest: Manifest,
+}
+
+// The arrays of a prepared set.
+pub fn installed(set: ClipSet) -> StandingSet
+    requires { ⌜ Held set ⌝ }
+    ensures { λ r. ⌜ Installed set r ⌝ }
+{
+    let active = set.active;
+    let knots = set.knots;
+    let held = set.blocks;
+    let counts = Counts {
+        starts: active.count,
+        knots: knots.count,
+        blocks: held.count,
+    };
+    let plain = storage::blank();
+    let mut starts = plain.times;
+    let mut numbers = plain.numbers;
+    let mut xs = plain.xs;
+    let mut ys = plain.ys;
+    let n = counts.starts;
+    let k = counts.knots;
+    storage::unpack_active(active, &mut starts[..n], &mut numbers[..n]);
+    storage::unpack_knots(knots, &mut xs[..k], &mut ys[..k]);
+    let blocks = held.items;
+    let default = set.default;
+    let manifest = Manifest {
+        default,
+        interpolate: set.interpolate,
+    };
+    StandingSet {
+        clips: set.clips,
+        counts,
+        starts,
+        numbers,
+        xs,
+        ys,
+        blocks,
+        manifest,
+    }
+}
+
+// The prepared set of the entries that count, for a retiming.
+pub fn packed<'a>(
+    clips: u64,
+    starts: &'a [f64],
+    numbers: &'a [u64],
+    xs: &'a [f64],
+    ys: &'a [f64],
+    blocks: &'a [f64],
+    counts: Counts,
+    m: Manifest,
+) -> ClipSet
+    requires { ⌜ Arrays counts (now starts) (now numbers) (now xs) (now ys) (now blocks) ⌝ }
+    ensures { λ r. ⌜ Packed (lentSet clips counts (now (starts .entry)) (now (numbers .entry)) (now (xs .entry)) (now (ys .entry)) (now (blocks .entry)) m) r ⌝ }
+{
+    let n = counts.starts;
+    let k = counts.knots;
+    let b = counts.blocks;
+    let active = storage::pack_active(&starts[..n], &numbers[..n]);
+    let knots = storage::pack_knots(&xs[..k], &ys[..k]);
+    let held = storage::pack_blocks(&blocks[..b]);
+    let default = m.default;
+    ClipSet {
+        clips,
+        active,
+        knots,
+        blocks: held,
+        default,
+        interpolate: m.interpolate,
+    }
+}

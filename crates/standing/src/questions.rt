@@ -1,0 +1,253 @@
+// The questions that are asked of a standing set. Each is lent whole arrays, of which it lends on the entries that count.
+use crate::Counts;
+use definitions::Answer;
+use definitions::ClipTime;
+use definitions::Manifest;
+use definitions::StageTime;
+use sdf::Counted;
+use stage::Written;
+use track::bake::Baked;
+use value::untimed::ValueState;
+ghost use mathlib.Core.Path.{_≡_};
+ghost use Prim.Native.Nat.{_≤_};
+ghost use lib.Dec.{T};
+ghost use lib.ListN.{length, take};
+ghost use lib.Ieee.Scale.{finite};
+ghost use Rattle.definitions.specs.ClipSet.{maxActive, maxKnots};
+ghost use Rattle.definitions.specs.StageSamples.{stageSampleTimes, stageSamples, untimedAnswer};
+ghost use Rattle.definitions.specs.Timing.{activeEntry, clipOf, mapStageToClip};
+ghost use Rattle.definitions.specs.Value.{valueInSet};
+ghost use Rattle.set_laws.specs.Places.{Ascending};
+ghost use Rattle.cell_laws.specs.Unpacked.{activeOf, knotsOf, samplesOf};
+ghost use Rattle.clip.specs.Holding.{Room};
+ghost use Rattle.value.specs.Untimed.{stateIs};
+ghost use Rattle.track.specs.Bakes.{outputs, BakeIs};
+ghost use Rattle.standing.specs.Lists.{countOf, ListsTimes, ListsSamples};
+ghost use Rattle.standing.specs.Standing.{lentSet, Asked, answered};
+
+pub enum ActiveClip {
+    Clip(u64),
+    NoClip,
+}
+
+// The clip of the last start at or before t, of the first start if there is none: the Rust's `active_entry`.
+pub fn active_clip<'a>(starts: &'a [f64], numbers: &'a [u64], n: usize, t: StageTime) -> ActiveClip
+    requires { ⌜ Room maxActive (now starts) n ⌝ ∗ ⌜ Room maxActive (now numbers) n ⌝ ∗ ⌜ Ascending (take n (now starts)) ⌝ }
+    ensures { λ r. ⌜ r ≡ answered (clipOf (activeEntry (activeOf (take n (now (starts .entry))) (take n (now (numbers .entry)))) t)) ⌝ }
+{
+    if n == 0 {
+        return ActiveClip::NoClip;
+    }
+    let position = lists::last_at_most(&starts[..n], t.0);
+    ActiveClip::Clip(numbers[position])
+}
+
+// The knot mapping alone turns a stage time into a clip time.
+pub fn map_stage_to_clip<'a>(xs: &'a [f64], ys: &'a [f64], n: usize, t: StageTime) -> ClipTime
+    requires { ⌜ Room maxKnots (now xs) n ⌝ ∗ ⌜ Room maxKnots (now ys) n ⌝ ∗ ⌜ Ascending (take n (now xs)) ⌝ }
+    ensures { λ r. ⌜ r ≡ mapStageToClip (knotsOf (take n (now (xs .entry))) (take n (now (ys .entry)))) t ⌝ }
+{
+    ClipTime(lists::map_time(&xs[..n], &ys[..n], t.0))
+}
+
+// The value at a stage time: the Rust's `value_in_set`.
+pub fn value<'a>(
+    starts: &'a [f64],
+    numbers: &'a [u64],
+    xs: &'a [f64],
+    ys: &'a [f64],
+    blocks: &'a [f64],
+    counts: Counts,
+    m: Manifest,
+    times: &[f64],
+    values: &[f64],
+    marks: &[u8],
+    ends: &[u64],
+    t: StageTime,
+) -> Answer
+    requires { ⌜ Asked counts (now starts) (now numbers) (now xs) (now ys) (now blocks) m (now times) (now values) (now marks) (now ends) ⌝ ∗ ⌜ T (finite (t .0)) ⌝ }
+    ensures { λ r. ⌜ r ≡ valueInSet (lentSet (length (now (ends .entry))) counts (now (starts .entry)) (now (numbers .entry)) (now (xs .entry)) (now (ys .entry)) (now (blocks .entry)) m) (samplesOf (now (times .entry)) (now (values .entry)) (now (marks .entry)) (now (ends .entry))) t ⌝ }
+{
+    let n = counts.starts;
+    let k = counts.knots;
+    let b = counts.blocks;
+    value::value::value(
+        &starts[..n],
+        &numbers[..n],
+        &xs[..k],
+        &ys[..k],
+        &blocks[..b],
+        m,
+        times,
+        values,
+        marks,
+        ends,
+        t.0,
+    )
+}
+
+// Whether there is a value at all.
+pub fn untimed<'a>(
+    starts: &'a [f64],
+    numbers: &'a [u64],
+    xs: &'a [f64],
+    ys: &'a [f64],
+    blocks: &'a [f64],
+    counts: Counts,
+    m: Manifest,
+    times: &[f64],
+    values: &[f64],
+    marks: &[u8],
+    ends: &[u64],
+) -> ValueState
+    requires { ⌜ Asked counts (now starts) (now numbers) (now xs) (now ys) (now blocks) m (now times) (now values) (now marks) (now ends) ⌝ }
+    ensures { λ r. ⌜ stateIs r ≡ untimedAnswer (lentSet (length (now (ends .entry))) counts (now (starts .entry)) (now (numbers .entry)) (now (xs .entry)) (now (ys .entry)) (now (blocks .entry)) m) (samplesOf (now (times .entry)) (now (values .entry)) (now (marks .entry)) (now (ends .entry))) ⌝ }
+{
+    let n = counts.starts;
+    let k = counts.knots;
+    let b = counts.blocks;
+    value::untimed::untimed(
+        &starts[..n],
+        &numbers[..n],
+        &xs[..k],
+        &ys[..k],
+        &blocks[..b],
+        m,
+        times,
+        values,
+        marks,
+        ends,
+    )
+}
+
+// The track, written to the lent lists.
+pub fn bake<'a>(
+    starts: &'a [f64],
+    numbers: &'a [u64],
+    xs: &'a [f64],
+    ys: &'a [f64],
+    blocks: &'a [f64],
+    counts: Counts,
+    m: Manifest,
+    times: &[f64],
+    values: &[f64],
+    marks: &[u8],
+    ends: &[u64],
+    outtimes: &mut [f64],
+    outvalues: &mut [f64],
+    outmarks: &mut [u8],
+) -> Baked
+    requires { ⌜ Asked counts (now starts) (now numbers) (now xs) (now ys) (now blocks) m (now times) (now values) (now marks) (now ends) ⌝ }
+    ensures { λ r. ⌜ BakeIs (lentSet (length (now (ends .entry))) counts (now (starts .entry)) (now (numbers .entry)) (now (xs .entry)) (now (ys .entry)) (now (blocks .entry)) m) (samplesOf (now (times .entry)) (now (values .entry)) (now (marks .entry)) (now (ends .entry))) (outputs (now (outtimes .entry)) (now (outvalues .entry)) (now (outmarks .entry))) (outputs (now (outtimes .exit)) (now (outvalues .exit)) (now (outmarks .exit))) r ⌝ }
+{
+    let n = counts.starts;
+    let k = counts.knots;
+    let b = counts.blocks;
+    track::bake::bake(
+        &starts[..n],
+        &numbers[..n],
+        &xs[..k],
+        &ys[..k],
+        &blocks[..b],
+        m,
+        times,
+        values,
+        marks,
+        ends,
+        outtimes,
+        outvalues,
+        outmarks,
+    )
+}
+
+// The stage sample times, written to the lent list.
+pub fn stage_sample_times<'a>(
+    starts: &'a [f64],
+    numbers: &'a [u64],
+    xs: &'a [f64],
+    ys: &'a [f64],
+    blocks: &'a [f64],
+    counts: Counts,
+    m: Manifest,
+    times: &[f64],
+    values: &[f64],
+    marks: &[u8],
+    ends: &[u64],
+    out: &mut [f64],
+) -> Counted
+    requires { ⌜ Asked counts (now starts) (now numbers) (now xs) (now ys) (now blocks) m (now times) (now values) (now marks) (now ends) ⌝ }
+    ensures { λ r. ⌜ ListsTimes (stageSampleTimes (lentSet (length (now (ends .entry))) counts (now (starts .entry)) (now (numbers .entry)) (now (xs .entry)) (now (ys .entry)) (now (blocks .entry)) m) (samplesOf (now (times .entry)) (now (values .entry)) (now (marks .entry)) (now (ends .entry)))) (now (out .entry)) (now (out .exit)) r ⌝ }
+{
+    let n = counts.starts;
+    let k = counts.knots;
+    let b = counts.blocks;
+    let written = stage::stage_sample_times(
+        &starts[..n],
+        &numbers[..n],
+        &xs[..k],
+        &ys[..k],
+        &blocks[..b],
+        m,
+        times,
+        values,
+        marks,
+        ends,
+        out,
+    );
+    counted(written)
+}
+
+// The stage samples, written to the lent lists.
+pub fn stage_samples<'a>(
+    starts: &'a [f64],
+    numbers: &'a [u64],
+    xs: &'a [f64],
+    ys: &'a [f64],
+    blocks: &'a [f64],
+    counts: Counts,
+    m: Manifest,
+    times: &[f64],
+    values: &[f64],
+    marks: &[u8],
+    ends: &[u64],
+    outtimes: &mut [f64],
+    outmarks: &mut [u8],
+) -> Counted
+    requires { ⌜ Asked counts (now starts) (now numbers) (now xs) (now ys) (now blocks) m (now times) (now values) (now marks) (now ends) ⌝ }
+    ensures { λ r. ⌜ ListsSamples (stageSamples (lentSet (length (now (ends .entry))) counts (now (starts .entry)) (now (numbers .entry)) (now (xs .entry)) (now (ys .entry)) (now (blocks .entry)) m) (samplesOf (now (times .entry)) (now (values .entry)) (now (marks .entry)) (now (ends .entry)))) (now (outtimes .entry)) (now (outtimes .exit)) (now (outmarks .entry)) (now (outmarks .exit)) r ⌝ }
+{
+    let n = counts.starts;
+    let k = counts.knots;
+    let b = counts.blocks;
+    let written = stage::stage_samples(
+        &starts[..n],
+        &numbers[..n],
+        &xs[..k],
+        &ys[..k],
+        &blocks[..b],
+        m,
+        times,
+        values,
+        marks,
+        ends,
+        outtimes,
+        outmarks,
+    );
+    counted(written)
+}
+
+// 22, or how many were written.
+fn counted(written: Written) -> Counted
+    ensures { λ r. ⌜ r ≡ countOf written ⌝ }
+{
+    match written {
+        Written::Count(n) => Counted {
+            number: 0,
+            count: n,
+        },
+        Written::NoRoom => Counted {
+            number: 22,
+            count: 0,
+        },
+    }
+}
