@@ -7,8 +7,7 @@ use lib.Ieee.Scale.{finite}
 use Rattle.gf.specs.Doubles.{0·0}
 use Rattle.definitions.specs.declared.LayerOffset.{LayerOffset}
 use Rattle.definitions.specs.ClipSet as Definitions
-use Rattle.definitions.specs.ClipSet.{standing}
-use Rattle.definitions.specs.Retime.{isIdentity, moved, sorted, retimeStageTimes, retimeNumber}
+use Rattle.definitions.specs.Retime.{isIdentity, moved, sorted, retimeStageTimes, movedNumber}
 use Rattle.set_laws.specs.Places.{Fits}
 use Rattle.set_laws.specs.Sound.{Sound}
 use Rattle.set_laws.specs.SoundRetime.{retime-sound}
@@ -21,7 +20,7 @@ use Rattle.clip.proofs.Standing.{sound-mark, sound-settles}
 
 module _ (set : ClipSet) (o : LayerOffset) where
   pub retime-refuses : (r : Parsed) → (finite (o .offset) && finite (o .scale)) ≡ false → Refuses 2 r → Retimes set o r
-  unfolding retimeNumber
+  unfolding movedNumber
   retime-refuses r e f = record {
     number = f .number ∙ rw e;
     moved = λ z. absurd (never z);
@@ -52,8 +51,8 @@ module _ (set : ClipSet) (o : LayerOffset) where
 
   module _ (s : Sound (clipSetOf set)) (p : finite (o .offset) ≡ true) (q : finite (o .scale) ≡ true) where
     -- the default's mark is sound, so a moved set's number is the retiming's
-    number-is : settleNumber (retimeStageTimes o (clipSetOf set)) ≡ retimeNumber (standing false (clipSetOf set)) o
-    unfolding retimeNumber settleNumber
+    number-is : settleNumber (retimeStageTimes o (clipSetOf set)) ≡ movedNumber (clipSetOf set) o
+    unfolding movedNumber settleNumber
     number-is = rw (p, q, default-kept, sound-mark (clipSetOf set) s)
 
     pub retime-identity : Held set → isIdentity o ≡ true → Retimes set o (record { number = 0; set = set })
@@ -72,5 +71,5 @@ module _ (set : ClipSet) (o : LayerOffset) where
       held = t .held;
     }
       where
-        n : r .number ≡ retimeNumber (standing false (clipSetOf set)) o
+        n : r .number ≡ movedNumber (clipSetOf set) o
         n = t .number ∙ ap settleNumber (sym (is-moved e)) ∙ number-is

@@ -1,15 +1,14 @@
 -- What a retiming of a set by value replies. Assumes nothing.
 use Prim.Native.Nat.{ℕ}
 use mathlib.Core.Path.{_≡_}
-use mathlib.Core.Bool.{false, cond}
+use mathlib.Core.Bool.{cond}
 use mathlib.Core.List.{List}
 use lib.ListN.{length}
 use lib.Ieee.{Float, lt}
 use Rattle.gf.specs.Doubles.{0·0}
 use Rattle.definitions.specs.declared.LayerOffset.{LayerOffset}
 use Rattle.definitions.specs.ClipSet as Definitions
-use Rattle.definitions.specs.ClipSet.{standing}
-use Rattle.definitions.specs.Retime.{moved, sorted, retimeStageTimes, retimeNumber}
+use Rattle.definitions.specs.Retime.{moved, sorted, retimeStageTimes, movedNumber}
 use Rattle.set_laws.specs.Sound.{Sound}
 use Rattle.clip.specs.declared.ClipSet.{ClipSet}
 use Rattle.clip.specs.declared.Parsed.{Parsed}
@@ -28,7 +27,7 @@ unfoldable pub movedAndSorted : LayerOffset → Definitions.ClipSet → Definiti
 movedAndSorted o set = cond (lt (o .scale) 0·0) (sorted (moved o set)) (moved o set)
 
 pub record Retimes (set : ClipSet) (o : LayerOffset) (r : Parsed) : Type 0 where
-  pub number : r .number ≡ retimeNumber (standing false (clipSetOf set)) o
+  pub number : r .number ≡ movedNumber (clipSetOf set) o
   pub moved : r .number ≡ 0 → clipSetOf (r .set) ≡ retimeStageTimes o (clipSetOf set)
   pub sound : r .number ≡ 0 → Sound (clipSetOf (r .set))
   pub held : Held (r .set)

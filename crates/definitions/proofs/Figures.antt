@@ -16,11 +16,11 @@ use Rattle.definitions.specs.declared.LayerOffset.{LayerOffset}
 use Rattle.definitions.specs.declared.Answer.the-variants.{Value, Blocked, Absent}
 use Rattle.gf.specs.Doubles.{abs, isWhole, truncated, isClipNumber, signBit, totalKey}
 use Rattle.definitions.specs.Doubles.{lowest, nextLower}
-use Rattle.definitions.specs.ClipSet.{ClipSet, noSet, standing, stage, clip, nanDefault, beyondLimits, equalStarts, equalKnots, badDefaultMark, activeTimes}
+use Rattle.definitions.specs.ClipSet.{ClipSet, noSet, standing, asAccepted, asRetimed, stage, clip, nanDefault, beyondLimits, equalStarts, equalKnots, badDefaultMark, activeTimes}
 use Rattle.definitions.specs.Explicit.{ExplicitFields, explicitSet, explicitNumber, explicit1, explicit2, explicit3}
 use Rattle.definitions.specs.Names.{beforeHash, hashRun, withFraction, split, readable, digits, placesBy, places, padded, wholeBody, decimals, fractionBody, format, name, nameNumber}
 use Rattle.definitions.specs.Template.{TemplateFields, repeated, promoted, activations, templateSet, templateNumber, template1, template2, template6, template7, template8}
-use Rattle.definitions.specs.Retime.{apply, isIdentity, moved, sorted, retimeStageTimes, retimeNumber}
+use Rattle.definitions.specs.Retime.{movedNumber, apply, isIdentity, moved, sorted, retimeStageTimes, retimeNumber}
 use Rattle.definitions.specs.Timing.{lastAtMost, activePosition, activeEntry, activeClip, onSegment, mapTime, mapStageToClip}
 use Rattle.definitions.specs.Samples.{Samples, clipBegin, clipEnd, clipTimes, heldPlace, unlikeLengths, samples1, samples2, badMarks, closes, samples9, samplesNumber}
 use Rattle.definitions.specs.Value.{says, blockedAt, contributes, readClip, firstReading, interpolateMissingValue, directSource, window, stageTimesForClipTime, windowSampleTimes, gathered, lowerNeighbour, upperNeighbour, jump, readingTime, valueSource, valueInSet}
@@ -28,7 +28,8 @@ use Rattle.definitions.specs.StageSamples.{dropEqual, dedup, stageSample
 use Rattle.definitions.specs.Normalize.{TimeSample, timeSamples, merge, mergeEqual, normalizeTimeSamples, normalizeNumber}
 use Rattle.definitions.specs.Track.{entryOf, alike, differs, TrackOf, Outputs}
 use Rattle.definitions.specs.Questions.{Reply, refused, replied, askValue}
-use Rattle.definitions.specs.Calls.{explicit, retime, bake, step, run, after}
+use Rattle.definitions.specs.WholeList.{runFrom}
+use Rattle.definitions.specs.Calls.{explicit, retime, bake, step, after}
 use Rattle.definitions.proofs.Sets.{n, frac, -n, greatest, nextHigher, bytes, holds, fails, same, sameTimes, sameBytes, sameNames, isClip, is, fields, missing, templated, numbers, clipTimeAt, valueAt, names, two, jumping, falling, falling-samples, gap, gap-samples, one, one-samples}
 use Rattle.definitions.proofs.FigureTracks.{set as gap-set, fall, gap-track, falling-track}
 
@@ -205,7 +206,7 @@ abbrev retimedBy : Float → Float → ExplicitFields → ClipSet
 retimedBy by scale f = retimeStageTimes (offset by scale) (explicitSet f)
 
 abbrev retimingOf : Float → Float → ExplicitFields → ℕ
-retimingOf by scale f = retimeNumber (standing false (explicitSet f)) (offset by scale)
+retimingOf by scale f = retimeNumber (standing (asAccepted (explicitSet f))) (offset by scale)
 
 abbrev clipsOf : TemplateFields → ℕ
 clipsOf f = templateSet f .clips
@@ -324,9 +325,9 @@ examples-table =
     ∷ eqb (explicitNumber (fields 1 (nextHigher (n 1099511627776) ∷ []) (n 0 ∷ []) [] [])) 2
     -- questions: 20, then the samples' numbers, then 10
     ∷ isRefused (askValue noSet one-samples (stage nan)) 20
-    ∷ isRefused (askValue (standing false (explicitSet one)) gap-samples (stage nan)) 1
-    ∷ isRefused (askValue (standing false (explicitSet one)) one-samples (stage nan)) 10
-    ∷ not (isRefused (askValue (standing true (explicitSet one)) one-samples (stage greatest)) 10)
+    ∷ isRefused (askValue (standing (asAccepted (explicitSet one))) gap-samples (stage nan)) 1
+    ∷ isRefused (askValue (standing (asAccepted (explicitSet one))) one-samples (stage nan)) 10
+    ∷ not (isRefused (askValue (standing (asRetimed (explicitSet one))) one-samples (stage greatest)) 10)
     -- neighbours: zero is one double, the lowest is -f64::MAX; in the total order the zeros are two
     ∷ same lowest (neg (n (2 ^ 1024 - 2 ^ 971)))
     ∷ same (nextLower (frac 1 (2 ^ 1074))) (n 0)
@@ -362,7 +363,7 @@ record Figures : Type 0 where
   wrong : fails wrong-table ≡ true
   examples : holds examples-table ≡ true
   -- demand 3's premises can be met: a list of calls, refused ones among them, after which a set stands; its samples are accepted by a row of the table
-  stands-after : after (retime (offset (n 0) (n 1)) ∷ explicit falling ∷ explicit (fields 2 (n 0 ∷ -n 0 ∷ []) (n 0 ∷ n 1 ∷ []) [] []) ∷ bake falling-samples noRoom ∷ []) ≡ standing false (explicitSet falling)
+  stands-after : after (retime (offset (n 0) (n 1)) ∷ explicit falling ∷ explicit (fields 2 (n 0 ∷ -n 0 ∷ []) (n 0 ∷ n 1 ∷ []) [] []) ∷ bake falling-samples noRoom ∷ []) ≡ standing (asAccepted (explicitSet falling))
 
 computed : Figures
 unfolding
@@ -372,7 +373,7 @@ unfolding
     templateSet templateNumber template1 template2 template6 template7 template8 lastAtMost activePosition activeEntry activeClip onSegment mapTime
     mapStageToClip clipBegin clipEnd clipTimes heldPlace unlikeLengths samples1 samples2 badMarks closes samples9 samplesNumber says blockedAt
     contributes readClip firstReading interpolateMissingValue directSource window stageTimesForClipTime windowSampleTimes gathered lowerNeighbour
-    upperNeighbour jump readingTime valueSource valueInSet entryOf alike differs unmarked-table wrong-table examples-table nameNumber apply isIdentity
+    upperNeighbour jump readingTime valueSource valueInSet entryOf alike differs unmarked-table wrong-table examples-table nameNumber apply isIdentity movedNumber
     moved sorted retimeStageTimes retimeNumber dropEqual dedup stageSampleTimes suppliedAt anySamples untimedAnswer timeSamples merge mergeEqual
-    normalizeTimeSamples normalizeNumber step run after askValue
+    normalizeTimeSamples normalizeNumber step runFrom askValue
 computed = record { figures = refl; head-and-change = falling-track; head-alone = gap-track; unmarked = refl; wrong = refl; examples = refl; stands-after = refl }

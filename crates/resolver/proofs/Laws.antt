@@ -11,10 +11,10 @@ use mathlib.Core.Option.{Option, none, some}
 use lib.Ieee.{Float}
 use lib.Ieee.Scale.{finite}
 use Rattle.definitions.specs.declared.LayerOffset.{LayerOffset}
-use Rattle.definitions.specs.ClipSet.{ClipSet, Model, noSet, standing}
+use Rattle.definitions.specs.ClipSet.{ClipSet, Model, Standing, noSet, standing, asAccepted, asRetimed}
 use Rattle.definitions.specs.Explicit.{ExplicitFields, explicitNumber, explicitSet}
 use Rattle.definitions.specs.Template.{TemplateFields, templateNumber, templateSet}
-use Rattle.definitions.specs.Retime.{retimeNumber, retimeStageTimes}
+use Rattle.definitions.specs.Retime.{movedNumber, retimeNumber, retimeStageTimes}
 use Rattle.definitions.specs.Lists.{_if_else_, _then_}
 use Rattle.definitions.specs.StageSamples.{StageSample}
 use Rattle.sdf.specs.declared.Counted.{Counted}
@@ -30,9 +30,8 @@ use Rattle.track.specs.Bakes.{BakeIs, bakedIs, bakedReply, bakes}
 use Rattle.definitions.specs.Calls as calls
 use Rattle.definitions.specs.Calls.{step, accepted, retimed, bakedOf, outputsAfter, Bakes}
 use Rattle.set_laws.specs.Places.{Ascending}
-use Rattle.set_laws.specs.Sound.{Sound, sound-active, sound-knots}
+use Rattle.set_laws.specs.Sound.{Sound, SoundModel, sound-active, sound-knots}
 use Rattle.set_laws.specs.Accepted.{Accepted as AcceptedSamples}
-use Rattle.set_laws.specs.SoundCalls.{SoundModel}
 use Rattle.standing.specs.declared.questions.ActiveClip.the-variants.{Clip, NoClip}
 use Rattle.clip.specs.declared.ClipSet as clip
 use Rattle.clip.specs.declared.Parsed.{Parsed}
@@ -45,7 +44,7 @@ use Rattle.resolver.specs.declared.Accepted.{Accepted}
 use Rattle.standing.specs.declared.StandingSet.{StandingSet}
 use Rattle.standing.specs.Standing.{setIn, Whole, Installed, Packed, Asked, lentSet, answered}
 use Rattle.standing.specs.Lists.{counted, listed, itself, timeOf, markIn, ListsTimes, ListsSamples}
-use Rattle.resolver.specs.State.{model, Made}
+use Rattle.resolver.specs.State.{standingIn, model, Made}
 use Rattle.resolver.specs.Promises.{Accepts, Expands, Retimes, TellsTimes, TellsSamples, Installable, Installs}
 
 -- ---- installing
@@ -63,12 +62,12 @@ accepted-same zero m c a b e h = h refl ∙ accepted-granted m c b (sym e)
 accepted-same (suc n) m c a b e h = ap (λ (k : ℕ). accepted k c b) e
 
 pub installs-not : (d : Resolver) (p : Parsed) (b : Bool) → Made d → (p .number ≡ 0 → ⊥) → Installs d p b (record { number = p .number; resolver = d })
-installs-not d p b m h = record { number = refl; after = accepted-refused (p .number) (model d) (standing b (clipSetOf (p .set))) h; made = m }
+installs-not d p b m h = record { number = refl; after = accepted-refused (p .number) (model d) (standing (record { set = clipSetOf (p .set); retimed = b })) h; made = m }
 
 pub installs : (d : Resolver) (p : Parsed) (b : Bool) (set : StandingSet) → Installable p → p .number ≡ 0 → Installed (p .set) set → Installs d p b (record { number = 0; resolver = record { stands = true; retimed = b; set = set } })
 installs d p b set i e q = record {
   number = sym e;
-  after = ap (standing b) (q .is) ∙ accepted-granted (p .number) (model d) (standing b (clipSetOf (p .set))) e;
+  after = ap (λ (x : ClipSet). standing (record { set = x; retimed = b })) (q .is) ∙ accepted-granted (p .number) (model d) (standing (record { set = clipSetOf (p .set); retimed = b })) e;
   made = record { whole = q .whole; sound = subst Sound (sym (q .is)) (i .sound e) };
 }
 
@@ -78,7 +77,7 @@ pub accepts : (d : Resolver) (f : ExplicitFields) (p : Parsed) (r : Accepted) �
 unfolding step
 accepts d f p r q i = record {
   number = i .number ∙ q .number;
-  after = i .after ∙ accepted-same (p .number) (explicitNumber f) (model d) (standing false (clipSetOf (p .set))) (standing false (explicitSet f)) (q .number) (λ e. ap (standing false) (q .made e));
+  after = i .after ∙ accepted-same (p .number) (explicitNumber f) (model d) (standing (asAccepted (clipSetOf (p .set)))) (standing (asAccepted (explicitSet f))) (q .number) (λ e. ap (λ (x : ClipSet). standing (asAccepted x)) (q .made e));
   made = i .made;
 }
 
@@ -86,7 +85,7 @@ pub expands : (d : Resolver) (f : TemplateFields) (p : Parsed) (r : Accepted) �
 unfolding step
 expands d f p r q i = record {
   number = i .number ∙ q .number;
-  after = i .after ∙ accepted-same (p .number) (templateNumber f) (model d) (standing false (clipSetOf (p .set))) (standing false (templateSet f)) (q .number) (λ e. ap (standing false) (q .made e));
+  after = i .after ∙ accepted-same (p .number) (templateNumber f) (model d) (standing (asAccepted (clipSetOf (p .set)))) (standing (asAccepted (templateSet f))) (q .number) (λ e. ap (λ (x : ClipSet). standing (asAccepted x)) (q .made e));
   made = i .made;
 }
 
@@ -94,13 +93,13 @@ expands d f p r q i = record {
 
 -- what stands, by the flags
 none-stands : (d : Resolver) → d .stands ≡ false → model d ≡ noSet
-none-stands d e = ap (λ (b : Bool). cond b (standing (d .retimed) (setIn (d .set))) noSet) e
+none-stands d e = ap (λ (b : Bool). cond b (standing (standingIn d)) noSet) e
 
-stands-as : (d : Resolver) (b : Bool) → d .stands ≡ true → d .retimed ≡ b → model d ≡ standing b (setIn (d .set))
-stands-as d b e f = ap (λ (x : Bool). cond x (standing (d .retimed) (setIn (d .set))) noSet) e ∙ ap (λ (x : Bool). standing x (setIn (d .set))) f
+stands-as : (d : Resolver) → d .stands ≡ true → model d ≡ standing (standingIn d)
+stands-as d e = ap (λ (x : Bool). cond x (standing (standingIn d)) noSet) e
 
 pub stands-sound : (d : Resolver) → Made d → d .stands ≡ true → Sound (setIn (d .set))
-stands-sound d m e = subst SoundModel (stands-as d (d .retimed) e refl) (m .sound)
+stands-sound d m e = subst SoundModel (stands-as d e) (m .sound)
 
 -- what the searches ask of the starts and the knots
 paired : {A B : Type 0} {most k : ℕ} {l : List A} {r : List B} → Room most l k → Room most r k → length (take k l) ≡ length (take k r)
@@ -124,19 +123,22 @@ pub retimes-20 : (d : Resolver) (o : LayerOffset) → Made d → d .stands ≡ f
 unfolding retimeNumber
 retimes-20 d o m e = refused-retime d o 20 m (sym (ap (λ (x : Model). retimeNumber x o) (none-stands d e))) (λ z. omega arith)
 
-pub retimes-21 : (d : Resolver) (o : LayerOffset) → Made d → d .stands ≡ true → d .retimed ≡ true → Retimes d o (record { number = 21; resolver = d })
+-- by the mark of the set that stands
+marked-number : (d : Resolver) (o : LayerOffset) (b : Bool) → d .stands ≡ true → d .retimed ≡ b → (21 if b else movedNumber (setIn (d .set)) o) ≡ retimeNumber (model d) o
 unfolding retimeNumber
-retimes-21 d o m e f = refused-retime d o 21 m (sym (ap (λ (x : Model). retimeNumber x o) (stands-as d true e f))) (λ z. omega arith)
+marked-number d o b e f = ap (λ (x : Bool). 21 if x else movedNumber (setIn (d .set)) o) (sym f) ∙ sym (ap (λ (x : Model). retimeNumber x o) (stands-as d e))
+
+pub retimes-21 : (d : Resolver) (o : LayerOffset) → Made d → d .stands ≡ true → d .retimed ≡ true → Retimes d o (record { number = 21; resolver = d })
+retimes-21 d o m e f = refused-retime d o 21 m (marked-number d o true e f) (λ z. omega arith)
 
 pub retimes : (d : Resolver) (o : LayerOffset) (set : clip.ClipSet) (p : Parsed) (r : Accepted) → d .stands ≡ true → d .retimed ≡ false → Packed (setIn (d .set)) set → sets.Retimes set o p → Installs d p true r → Retimes d o r
 unfolding step
 retimes d o set p r e f k q i =
-    let s : model d ≡ standing false (setIn (d .set)) = stands-as d false e f in
-    let n : p .number ≡ retimeNumber (model d) o = q .number ∙ ap (λ (x : ClipSet). retimeNumber (standing false x) o) (k .is) ∙ sym (ap (λ (x : Model). retimeNumber x o) s) in
+    let n : p .number ≡ retimeNumber (model d) o = q .number ∙ ap (λ (x : ClipSet). movedNumber x o) (k .is) ∙ marked-number d o false e f in
     record {
       number = i .number ∙ n;
-      after = i .after ∙ accepted-same (p .number) (retimeNumber (model d) o) (model d) (standing true (clipSetOf (p .set))) (retimed o (model d)) n
-          (λ z. ap (standing true) (q .moved z ∙ ap (retimeStageTimes o) (k .is)) ∙ sym (ap (retimed o) s));
+      after = i .after ∙ accepted-same (p .number) (retimeNumber (model d) o) (model d) (standing (asRetimed (clipSetOf (p .set)))) (retimed o (model d)) n
+          (λ z. ap (λ (x : ClipSet). standing (asRetimed x)) (q .moved z ∙ ap (retimeStageTimes o) (k .is)) ∙ sym (ap (retimed o) (stands-as d e)));
       made = i .made;
     }
 
@@ -147,7 +149,7 @@ module _ {A : Type 0} (f : ClipSet → Reply A) (d : Resolver) where
   asked-20 e = sym (ap (λ (m : Model). ofSet m f) (none-stands d e))
 
   pub asked : d .stands ≡ true → f (setIn (d .set)) ≡ ofSet (model d) f
-  asked e = sym (ap (λ (m : Model). ofSet m f) (stands-as d (d .retimed) e refl))
+  asked e = sym (ap (λ (m : Model). ofSet m f) (stands-as d e))
 
 module _ {A : Type 0} (t : StageTime) (a : A) where
   pub not-finite : finite (t .0) ≡ false → refused 10 ≡ reply (stageTimeNumber t) a
@@ -220,8 +222,8 @@ module _ (d : Resolver) {times values : List Float} {marks ends : List ℕ} {n :
   bakes-set before after r p =
       let s = samplesOf times values marks ends in
       let sound = stands-sound d m e in
-      subst (λ (x : Model). Bakes x s before (bakedReply r) after) (sym (stands-as d (d .retimed) e refl))
-      (bakes (d .retimed) (setIn (d .set)) s (sound-set (setIn (d .set)) sound) (sound-samples (setIn (d .set)) s is-accepted)
+      subst (λ (x : Model). Bakes x s before (bakedReply r) after) (sym (stands-as d e))
+      (bakes (standingIn d) s (sound-set (setIn (d .set)) sound) (sound-samples (setIn (d .set)) s is-accepted)
       (record { values = j .values-fit; default = sound .default .fitting }) (sym (judged-number d j) ∙ z) before after r (subst (λ (x : ClipSet). BakeIs x s before after r) lent-is p))
 
 -- ---- the active clip, case by case
@@ -246,27 +248,27 @@ noTrack = record { initial = record { value = 0·0; mark = 0 }; changes = [] }
 pub bakes-20 : (d : Resolver) (s : Samples) (o : Outputs) → d .stands ≡ false → Bakes (model d) s o (refused 20) o
 bakes-20 d s o e = subst (λ (m : Model). Bakes m s o (refused 20) o) (sym (none-stands d e)) (record {
   track = noTrack;
-  is = λ b set q. other (cc);
+  is = λ st q. other (cc);
   replies = unfold bakeNumber in refl;
   writes = unfold bakeNumber in refl;
 })
 
 pub bakes-refused : (d : Resolver) (s : Samples) (o : Outputs) (n : ℕ) → d .stands ≡ true → n ≡ samplesNumber (setIn (d .set)) s → (n ≡ 0 → ⊥) → Bakes (model d) s o (refused n) o
-bakes-refused d s o n e q h = subst (λ (m : Model). Bakes m s o (refused n) o) (sym (stands-as d (d .retimed) e refl)) (record {
+bakes-refused d s o n e q h = subst (λ (m : Model). Bakes m s o (refused n) o) (sym (stands-as d e)) (record {
   track = noTrack;
-  is = λ b set p z. absurd (h (q ∙ ap (λ (x : ClipSet). samplesNumber x s) (same b set p) ∙ z));
+  is = λ st p z. absurd (h (q ∙ ap (λ (x : Standing). samplesNumber (x .set) s) (same st p) ∙ z));
   replies = refuses n h ∙ ap (λ (m : ℕ). reply m (bakedOf noTrack)) number-is;
   writes = keeps n h ∙ ap (λ (m : ℕ). outputsAfter m noTrack o) number-is;
 })
   where
-    same : (b : Bool) (set : ClipSet) → standing (d .retimed) (setIn (d .set)) ≡ standing b set → setIn (d .set) ≡ set
-    same b set p = cc
+    same : (st : Standing) → standing (standingIn d) ≡ standing st → standingIn d ≡ st
+    same st p = cc
 
     kept : (m k : ℕ) → (m ≡ 0 → ⊥) → m ≡ (m then k)
     kept zero k g = absurd (g refl)
     kept (suc m) k g = refl
 
-    number-is : n ≡ bakeNumber (standing (d .retimed) (setIn (d .set))) s (slots o) 0
+    number-is : n ≡ bakeNumber (standing (standingIn d)) s (slots o) 0
     number-is = unfold bakeNumber in kept n (22 if ltb (slots o) 0 else 0) h ∙ ap (λ (m : ℕ). m then 22 if ltb (slots o) 0 else 0) q
 
     refuses : (m : ℕ) → (m ≡ 0 → ⊥) → refused m ≡ reply m (bakedOf noTrack)

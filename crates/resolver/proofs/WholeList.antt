@@ -1,37 +1,23 @@
--- Demand 3 from the operations' promises: what stands, by the state, is what stands by the calls, and each state is made. Assumes nothing.
-use mathlib.Core.Path.{_≡_, refl, sym, ap, _∙_, subst}
+-- Demand 3 from the operations' promises: what stands, by the state, is what stands by the calls, each state is made, and a bake's promise is what is due.
+-- Assumes nothing.
+use mathlib.Core.Path.{_≡_, refl, ap, _∙_, subst}
 use Prim.Native.Nat.{ℕ, _≤_, _<_}
-use mathlib.Core.Bool.{Bool}
-use mathlib.Core.List.{List, [], _∷_, _++_}
 use lib.ListN.{length}
 use borrow.Author.Tests.{lt-ltb, le-ltb}
-use Rattle.definitions.specs.ClipSet.{ClipSet, Model, noSet, standing}
+use Rattle.definitions.specs.ClipSet.{Model, Standing, noSet, standing}
 use Rattle.definitions.specs.Samples.{Samples, samplesNumber}
 use Rattle.definitions.specs.Questions.{Reply, refused, replied, reply}
 use Rattle.definitions.specs.Track.{Outputs, slots, writeTrack, bakeNumber}
-use Rattle.definitions.specs.Calls.{Call, explicit, template, retime, bake, step, run, after, Baked, bakedOf, outputsAfter, Bakes, Left, begin, next}
+use Rattle.definitions.specs.Calls.{Call, explicit, template, retime, bake, step, Baked, bakedOf, outputsAfter, Bakes, Due}
+use Rattle.definitions.proofs.WholeList as any
+use Rattle.definitions.proofs.WholeList.{whole-list}
 use Rattle.resolver.specs.declared.Resolver.{Resolver}
 use Rattle.resolver.specs.State.{model, Made}
 use Rattle.resolver.specs.Promises.{Begins}
 use Rattle.resolver.specs.WholeList.{Moves, Replies, Demand3}
 
--- ---- the model, call by call
-
-run-next : (m : Model) (calls : List Call) (c : Call) → run m (calls ++ (c ∷ [])) ≡ step (run m calls) c
-unfolding run
-run-next m [] c = refl
-run-next m (d ∷ calls) c = run-next (step m d) calls c
-
-after-next : (calls : List Call) (c : Call) → after (calls ++ (c ∷ [])) ≡ step (after calls) c
-unfolding after
-after-next calls c = run-next noSet calls c
-
-after-none : after [] ≡ noSet
-unfolding after run
-after-none = refl
-
 -- the bake's number where the samples are accepted: 0 with room enough, else 22
-module _ (m : Model) (b : Bool) (set : ClipSet) (e : m ≡ standing b set) (s : Samples) (z : samplesNumber set s ≡ 0) (room count : ℕ) where
+module _ (m : Model) (st : Standing) (e : m ≡ standing st) (s : Samples) (z : samplesNumber (st .set) s ≡ 0) (room count : ℕ) where
   enough : count ≤ room → bakeNumber m s room count ≡ 0
   unfolding bakeNumber
   enough h = rw (e, bakeNumber, z, le-ltb room count h)
@@ -40,43 +26,33 @@ module _ (m : Model) (b : Bool) (set : ClipSet) (e : m ≡ standing b set) (s : 
   unfolding bakeNumber
   short h = rw (e, bakeNumber, z, lt-ltb room count h)
 
--- ---- the state, call by call
+-- a bake's reply and lists by its number
+by-number : (m : Model) (s : Samples) (o : Outputs) (r : Reply Baked) (p : Outputs) (k : Bakes m s o r p) (n : ℕ) → bakeNumber m s (slots o) (length (k .track .changes)) ≡ n
+    → (r ≡ reply n (bakedOf (k .track))) × (p ≡ outputsAfter n (k .track) o)
+by-number m s o r p k n h = (k .replies ∙ ap (λ (n : ℕ). reply n (bakedOf (k .track))) h, k .writes ∙ ap (λ (n : ℕ). outputsAfter n (k .track) o) h)
 
--- a call takes the model by its step, and leaves a state that is made
-record Follows (m : Model) (d : Resolver) : Type 0 where
-  is : model d ≡ m
-  made : Made d
-
-moves-on : (c : Call) (d e : Resolver) → Made d → Moves c d e → Follows (step (model d) c) e
-moves-on (explicit f) d e m (r, p, q) = subst (Follows (step (model d) (explicit f))) q (record { is = p m .after; made = p m .made })
-moves-on (template f) d e m (r, p, q) = subst (Follows (step (model d) (template f))) q (record { is = p m .after; made = p m .made })
-moves-on (retime o) d e m (r, p, q) = subst (Follows (step (model d) (retime o))) q (record { is = p m .after; made = p m .made })
-moves-on (bake s o) d e m q = unfold step in subst (Follows (model d)) q (record { is = refl; made = m })
+due : (m : Model) (s : Samples) (o : Outputs) (r : Reply Baked) (p : Outputs) → Bakes m s o r p → Due m s o r p
+due m s o r p k st e z = (
+  k .track,
+  k .is st e z,
+  λ h. by-number m s o r p k 0 (enough m st e s z (slots o) (length (k .track .changes)) h),
+  λ h. by-number m s o r p k 22 (short m st e s z (slots o) (length (k .track .changes)) h),
+)
 
 module _ (fresh : Resolver) (b : Begins fresh) where
-  left-is : (calls : List Call) (d : Resolver) → Left Resolver fresh Moves Replies calls d → Follows (after calls) d
-  left-is calls d begin = record { is = b .empty ∙ sym after-none; made = b .made }
-  left-is calls e (next {calls = before} {d = d} c l m) =
-      let f = left-is before d l in
-      let g = moves-on c d e (f .made) m in
-      record { is = g .is ∙ ap (λ (x : Model). step x c) (f .is) ∙ sym (after-next before c); made = g .made }
+  abbrev Follows : Model → Resolver → Type 0
+  Follows = any.Follows noSet step fresh Moves Replies Due model Made
 
--- ---- a bake's reply and lists by its number
+  -- a call takes the model by its step, and leaves a state that is made
+  moves-on : (c : Call) (d e : Resolver) → Made d → Moves c d e → Follows (step (model d) c) e
+  moves-on (explicit f) d e m (r, p, q) = subst (Follows (step (model d) (explicit f))) q (record { is = p m .after; made = p m .made })
+  moves-on (template f) d e m (r, p, q) = subst (Follows (step (model d) (template f))) q (record { is = p m .after; made = p m .made })
+  moves-on (retime o) d e m (r, p, q) = subst (Follows (step (model d) (retime o))) q (record { is = p m .after; made = p m .made })
+  moves-on (bake s o) d e m q = unfold step in subst (Follows (model d)) q (record { is = refl; made = m })
 
-module _ (m : Model) (s : Samples) (o : Outputs) (r : Reply Baked) (p : Outputs) (k : Bakes m s o r p) where
-  given : bakeNumber m s (slots o) (length (k .track .changes)) ≡ 0 → (r ≡ replied (bakedOf (k .track))) × (p ≡ writeTrack (k .track) o)
-  given h = (k .replies ∙ ap (λ (n : ℕ). reply n (bakedOf (k .track))) h, k .writes ∙ ap (λ (n : ℕ). outputsAfter n (k .track) o) h)
-
-  denied : bakeNumber m s (slots o) (length (k .track .changes)) ≡ 22 → (r ≡ refused 22) × (p ≡ o)
-  denied h = (k .replies ∙ ap (λ (n : ℕ). reply n (bakedOf (k .track))) h, k .writes ∙ ap (λ (n : ℕ). outputsAfter n (k .track) o) h)
+  follows-fresh : Follows noSet fresh
+  follows-fresh = record { is = b .empty; made = b .made }
 
 pub demand-3 : Demand3
-demand-3 fresh F calls d l b set e s o r p q z =
-    let f = left-is fresh F calls d l in
-    let stands : model d ≡ standing b set = f .is ∙ e in
-    let k : Bakes (model d) s o r p = q (f .made) in (
-      k .track,
-      k .is b set stands z,
-      λ h. given (model d) s o r p k (enough (model d) b set stands s z (slots o) (length (k .track .changes)) h),
-      λ h. denied (model d) s o r p k (short (model d) b set stands s z (slots o) (length (k .track .changes)) h),
-    )
+demand-3 fresh b =
+    whole-list noSet step fresh Moves Replies Due model Made (follows-fresh fresh b) (moves-on fresh b) (λ d s o r p m q. due (model d) s o r p (q m))

@@ -117,5 +117,5 @@ pub record Installable (p : Parsed) : Type 0 where
 
 pub record Installs (d : Resolver) (p : Parsed) (retimed : Bool) (r : Accepted) : Type 0 where
   pub number : r .number ≡ p .number
-  pub after : model (r .resolver) ≡ accepted (p .number) (model d) (standing retimed (clipSetOf (p .set)))
+  pub after : model (r .resolver) ≡ accepted (p .number) (model d) (standing (record { set = clipSetOf (p .set); retimed = retimed }))
   pub made : Made (r .resolver)

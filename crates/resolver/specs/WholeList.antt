@@ -24,4 +24,4 @@ Replies d s o r p = Made d → BakesTrack d s o r p
 
 -- From a fresh state, after any list of calls, refused ones included.
 abbrev pub Demand3 : Type 0
-Demand3 = (d : Resolver) → Begins d → calls.WholeList Resolver d Moves Replies
+Demand3 = (d : Resolver) → Begins d → calls.WholeList d Moves Replies

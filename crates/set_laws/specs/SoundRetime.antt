@@ -18,8 +18,8 @@ use Rattle.definitions.specs.declared.Knot.{Knot}
 use Rattle.definitions.specs.declared.LayerOffset.{LayerOffset}
 use Rattle.gf.specs.Doubles.{_⊕_, _⊗_, 0·0, totalKey}
 use Rattle.definitions.specs.declared.Start.{Start}
-use Rattle.definitions.specs.ClipSet.{ClipSet, standing, activeTimes, knotTimes, beyondLimits, equalStarts, equalKnots}
-use Rattle.definitions.specs.Retime.{apply, isIdentity, moveActivation, moveKnot, moved, sorted, retimeStageTimes, retimeNumber}
+use Rattle.definitions.specs.ClipSet.{ClipSet, activeTimes, knotTimes, beyondLimits, equalStarts, equalKnots}
+use Rattle.definitions.specs.Retime.{apply, isIdentity, moveActivation, moveKnot, moved, sorted, retimeStageTimes, movedNumber}
 use Rattle.set_laws.specs.Tests.{not-false, passed}
 use Rattle.set_laws.specs.Every.{Every, Chain, every-both, every-of-map, chain-map, chain-to-map}
 use Rattle.set_laws.specs.Places.{Fits, Le}
@@ -91,8 +91,8 @@ pub record RetimePasses (set : ClipSet) (o : LayerOffset) : Type 0 where
   pub not4 : equalStarts (retimeStageTimes o set) ≡ false
   pub not5 : equalKnots (retimeStageTimes o set) ≡ false
 
-pub retime-passes : (set : ClipSet) (o : LayerOffset) → retimeNumber (standing false set) o ≡ 0 → RetimePasses set o
-unfolding retimeNumber
+pub retime-passes : (set : ClipSet) (o : LayerOffset) → movedNumber set o ≡ 0 → RetimePasses set o
+unfolding movedNumber
 retime-passes set o e =
     let p2 = passed 2 (not (finite (o .offset) && finite (o .scale))) _ (lit< tt) e in
     let pl = passed 2 (beyondLimits (retimeStageTimes o set)) _ (lit< tt) (p2 .1) in
@@ -167,7 +167,7 @@ module _ (o : LayerOffset) (set : ClipSet) (s : Sound set) where
 not-negative : (x : Float) → Fits x → T (finite x) → lt x 0·0 ≡ false → T (le nought x)
 not-negative x p q e = elim (le-or-lt nought x (nought-fits binary64) p (finite-no-nan nought tt) (finite-no-nan x q)) [ inl h ↦ h | inr h ↦ absurd (subst T e h) ]
 
-pub retime-sound : (set : ClipSet) (o : LayerOffset) → Sound set → Fits (o .scale) → retimeNumber (standing false set) o ≡ 0 → Sound (retimeStageTimes o set)
+pub retime-sound : (set : ClipSet) (o : LayerOffset) → Sound set → Fits (o .scale) → movedNumber set o ≡ 0 → Sound (retimeStageTimes o set)
 unfolding retimeStageTimes
 retime-sound set o s f e = go (isIdentity o) (lt (o .scale) 0·0) refl p.inside p.not4 p.not5
   where

@@ -1,13 +1,12 @@
 -- What a bake promises of the changes, and that document 01's promise follows. Assumes nothing.
 use mathlib.Core.Path.{_≡_, refl, sym, ap, _∙_, subst}
-use mathlib.Core.Bool.{Bool}
 use mathlib.Core.List.{List}
 use Prim.Native.Nat.{ℕ, zero, suc}
 use lib.ListN.{length}
 use lib.Ieee.{Float}
 use Rattle.gf.specs.Key.{least, most}
 use Rattle.definitions.specs.Lists.{_then_}
-use Rattle.definitions.specs.ClipSet.{ClipSet, standing}
+use Rattle.definitions.specs.ClipSet.{ClipSet, Standing, standing}
 use Rattle.definitions.specs.Samples.{Samples, samplesNumber}
 use Rattle.definitions.specs.Value.{valueInSet}
 use Rattle.definitions.specs.Questions.{Reply, reply, roomNumber}
@@ -43,21 +42,22 @@ abbrev pub bakedReply : Baked → Reply Calls.Baked
 bakedReply r = reply (r .number) (bakedIs r)
 
 -- the promise of a bake where the samples are accepted
-pub bakes : (b : Bool) (set : ClipSet) (s : Samples) → SoundSet set → SoundSamples s → SoundValues set s → samplesNumber set s ≡ 0 → (before after : Outputs) (r : Baked) → BakeIs set s before after r
-    → Calls.Bakes (standing b set) s before (bakedReply r) after
-bakes b set s S A F e before after r p = record {
-  track = trackOf set s;
-  is = λ c other q n. subst (λ (x : ClipSet). TrackOf (valueInSet x s) (trackOf set s)) (same c other q) (track-is set s S A F);
-  replies = replies (r .number) refl ∙ ap (λ (n : ℕ). reply n (Calls.bakedOf (trackOf set s))) (p .number ∙ sym number-is);
-  writes = p .writes ∙ ap (λ (n : ℕ). Calls.outputsAfter n (trackOf set s) before) (p .number ∙ sym number-is);
-}
-  where
-    same : (c : Bool) (other : ClipSet) → standing b set ≡ standing c other → set ≡ other
-    same c other q = cc
+module _ (st : Standing) (s : Samples) (S : SoundSet (st .set)) (A : SoundSamples s) (F : SoundValues (st .set) s) (e : samplesNumber (st .set) s ≡ 0) (before after : Outputs) (r : Baked) (p : BakeIs (st .set) s before after r) where
+  number-is : bakeNumber (standing st) s (slots before) (length (trackOf (st .set) s .changes)) ≡ roomNumber (slots before) (length (trackOf (st .set) s .changes))
+  unfolding bakeNumber
+  number-is = ap (λ (n : ℕ). n then roomNumber (slots before) (length (trackOf (st .set) s .changes))) e
 
-    number-is : bakeNumber (standing b set) s (slots before) (length (trackOf set s .changes)) ≡ roomNumber (slots before) (length (trackOf set s .changes))
-    number-is = unfold bakeNumber in ap (λ (n : ℕ). n then roomNumber (slots before) (length (trackOf set s .changes))) e
+  replies : (n : ℕ) → r .number ≡ n → reply n (bakedIs r) ≡ reply n (Calls.bakedOf (trackOf (st .set) s))
+  replies zero q = ap (λ (x : Calls.Baked). reply 0 x) (p .baked q)
+  replies (suc n) q = refl
 
-    replies : (n : ℕ) → r .number ≡ n → reply n (bakedIs r) ≡ reply n (Calls.bakedOf (trackOf set s))
-    replies zero q = ap (λ (x : Calls.Baked). reply 0 x) (p .baked q)
-    replies (suc n) q = refl
+  pub bakes : Calls.Bakes (standing st) s before (bakedReply r) after
+  bakes = record {
+    track = trackOf (st .set) s;
+    is = λ other q n. subst (λ (x : Standing). TrackOf (valueInSet (x .set) s) (trackOf (st .set) s)) (same other q) (track-is (st .set) s S A F);
+    replies = replies (r .number) refl ∙ ap (λ (n : ℕ). reply n (Calls.bakedOf (trackOf (st .set) s))) (p .number ∙ sym number-is);
+    writes = p .writes ∙ ap (λ (n : ℕ). Calls.outputsAfter n (trackOf (st .set) s) before) (p .number ∙ sym number-is);
+  }
+    where
+      same : (other : Standing) → standing st ≡ standing other → st ≡ other
+      same other q = cc
