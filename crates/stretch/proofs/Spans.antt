@@ -36,9 +36,9 @@ use Rattle.value.specs.Says.{saysIn, Sayable, says-ready, value-in}
 use Rattle.cell.specs.declared.Cell.{Cell}
 use Rattle.cell.specs.declared.Cell.the-variants.{Constant, Reading}
 use Rattle.cell.specs.Pieces.{cellIs, Sampled, PieceIs}
+use Rattle.cell.specs.EndKeys.{endKey}
 use Rattle.cell.proofs.Lent.{sound, samples}
-use Rattle.stop.specs.Stops.{endKey}
-use Rattle.stop.proofs.Halts.{hi-keys, hi-clear, same-place}
+use Rattle.cell.proofs.LastKeys.{hi-keys, hi-clear, same-place}
 use Rattle.stretch.specs.Runs.{part, Run, Runs, readOn, saysOn}
 
 -- ---- the place that a cell reads turns one way

@@ -16,10 +16,10 @@ use Rattle.cell_laws.specs.Unpacked.{setOf, samplesOf}
 use Rattle.steps.specs.Entries.{entryIs}
 use Rattle.value.specs.Says.{saysIn, Sayable, ready-marks}
 use Rattle.cell.specs.Pieces.{PieceIs}
+use Rattle.cell.specs.EndKeys.{endKey}
 use Rattle.cell.specs.Spots.{SpotAt}
 use Rattle.cell.proofs.Lent.{sound, samples}
-use Rattle.stop.specs.Stops.{endKey}
-use Rattle.stop.proofs.Halts.{end-numbered, end-later}
+use Rattle.cell.proofs.LastKeys.{end-numbered, end-later}
 use Rattle.stretch.specs.Runs.{Runs, readOn, saysOn}
 use Rattle.stretch.proofs.Spans.{span-keys, span-sayable, span-here, span-runs, span-says}
 use borrow.Author.Needs.{needs}
