@@ -28,8 +28,7 @@ use Rattle.track.specs.declared.bake.Baked.{Baked}
 use Rattle.track.specs.Bakes.{BakeIs, bakedIs, bakedReply, bakes}
 use Rattle.definitions.specs.Calls as calls
 use Rattle.definitions.specs.Calls.{step, accepted, retimed, bakedOf, outputsAfter, Bakes}
-use Rattle.set_laws.specs.Sound.{Sound}
-use Rattle.set_laws.specs.SoundCalls.{SoundModel}
+use Rattle.set_laws.specs.Sound.{Sound, SoundModel}
 use Rattle.clip.specs.declared.ActiveClip.the-variants.{Clip, NoClip}
 use Rattle.clip.specs.Asked.{answered}
 use Rattle.clip.specs.declared.Parsed.{Parsed}

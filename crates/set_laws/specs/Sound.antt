@@ -10,7 +10,7 @@ use Rattle.definitions.specs.declared.Knot.{Knot}
 use Rattle.gf.specs.Doubles.{totalKey}
 use Rattle.definitions.specs.declared.Start.{Start}
 use Rattle.definitions.specs.declared.Default.{Default}
-use Rattle.definitions.specs.ClipSet.{ClipSet, maxClips, maxActive, maxKnots, maxBlocks, markNone, activeTimes, knotTimes, sortActive, sortKnots, anyUnstorable, nanDefault, beyondLimits, equalStarts, equalKnots, badDefaultMark}
+use Rattle.definitions.specs.ClipSet.{ClipSet, Model, noSet, standing, maxClips, maxActive, maxKnots, maxBlocks, markNone, activeTimes, knotTimes, sortActive, sortKnots, anyUnstorable, nanDefault, beyondLimits, equalStarts, equalKnots, badDefaultMark}
 use Rattle.set_laws.specs.Tests.{or-false}
 use Rattle.set_laws.specs.Every.{Every, Chain, every-of-map, every-to-map, chain-map, chain-to-map}
 use Rattle.set_laws.specs.Places.{Fits, Le, Ascending}
@@ -39,6 +39,11 @@ pub record Sound (set : ClipSet) : Type 0 where
   pub no-three : equalKnots set ≡ false
   pub blocks : Every Stored (set .blocks)
   pub default : SoundDefault (set .default)
+
+-- what stands, if a set does
+abbrev pub SoundModel : Model → Type 0
+SoundModel noSet = Unit {0}
+SoundModel (standing r set) = Sound set
 
 -- for the searches
 pub sound-active : (set : ClipSet) → Sound set → Ascending (activeTimes (set .active))

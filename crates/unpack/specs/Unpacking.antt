@@ -12,7 +12,6 @@ use Rattle.definitions.specs.declared.Start.{Start}
 use Rattle.definitions.specs.declared.Manifest.{Manifest}
 use Rattle.definitions.specs.ClipSet as model
 use Rattle.definitions.specs.ClipSet.{activeTimes, knotTimes, maxActive, maxKnots}
-use Rattle.definitions.specs.Samples.{Samples}
 use Rattle.set_laws.specs.Every.{Every}
 use Rattle.set_laws.specs.Sound.{Sound, knotValues}
 use Rattle.set_laws.specs.Accepted.{Accepted}

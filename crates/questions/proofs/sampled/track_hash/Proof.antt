@@ -6,7 +6,7 @@ use mathlib.Core.List.{List}
 use lib.Ieee.{Float}
 use borrow.Author.Tests.{not-false}
 use Rattle.definitions.specs.ClipSet.{noSet, standing}
-use Rattle.set_laws.specs.SoundCalls.{SoundModel}
+use Rattle.set_laws.specs.Sound.{SoundModel}
 use Rattle.sdf.specs.Judged.{Judged, judged-accepted}
 use Rattle.clip.specs.Holding.{clipSetOf}
 use Rattle.resolver.specs.declared.Resolver.{Resolver}

@@ -1,12 +1,8 @@
 -- `resolver::Resolver::clip_time` meets its contract: 20, 10, else the clip time by the set's knots. Assumes nothing.
-use mathlib.Core.Path.{_≡_, sym, ap, _∙_, subst}
-use lib.Dec.{T}
+use mathlib.Core.Path.{sym, ap, _∙_}
 use borrow.Author.Needs.{needs}
 use borrow.Author.Tests.{not-true, not-false}
-use Rattle.definitions.specs.declared.ClipTime.{ClipTime}
-use Rattle.definitions.specs.ClipSet.{ClipSet}
-use Rattle.definitions.specs.Timing.{mapStageToClip}
-use Rattle.definitions.specs.Questions.{askClipTime, replied, reply, stageTimeNumber}
+use Rattle.definitions.specs.Questions.{askClipTime, replied}
 use Rattle.resolver.proofs.Laws.{asked-20, asked, not-finite, is-finite, stands-sound}
 use Rattle.resolver.proofs.Resolver.clip_time.Statement.{statement}
 use Rattle.resolver.proofs.Resolver.clip_time.Tie as tie
