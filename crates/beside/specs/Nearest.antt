@@ -1,9 +1,9 @@
 -- The neighbours of a time by candidates: of equal times any one will do, so plain comparisons are enough. What a search promises that looks at a few of the
 -- times and knows that the others lie beyond them. The order is that of the keys. Assumes nothing.
 use mathlib.Core.Path.{_≡_, refl, sym, _∙_}
-use mathlib.Core.Bool.{Bool, true, false, not, cond}
+use mathlib.Core.Bool.{Bool, true, false, cond}
 use mathlib.Core.List.{List, [], _∷_, _++_}
-use Prim.Native.Nat.{_+_, _≤_, _<_}
+use Prim.Native.Nat.{_≤_, _<_}
 use native.Mathlib.Omega.{arith}
 use lib.Dec.{T}
 use lib.Ieee.{Float, lt, le, eq}

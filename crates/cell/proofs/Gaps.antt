@@ -1,7 +1,7 @@
 -- What stands in for a window without samples: the same as in the window before it, if that has none either. Assumes nothing.
 use mathlib.Core.Path.{_≡_, refl, sym, ap, ap₂, _∙_, subst}
 use mathlib.Core.Bool.{Bool, true, false, not, _&&_, cond, false≢true}
-use mathlib.Core.List.{List, [], _∷_, reverse}
+use mathlib.Core.List.{List, reverse}
 use mathlib.Core.Option.{Option, none}
 use Prim.Native.Nat.{ℕ, suc, _+_, _-_, _≤_, _<_}
 use native.Mathlib.Omega.{arith}
@@ -16,7 +16,7 @@ use Rattle.definitions.specs.declared.Source.the-variants.{Blocked}
 use Rattle.definitions.specs.Lists.{any}
 use Rattle.definitions.specs.ClipSet.{ClipSet}
 use Rattle.definitions.specs.Samples.{Samples, clipBegin, clipEnd}
-use Rattle.definitions.specs.Value.{firstReading, interpolateMissingValue, manifestDefault, gapSource, _orElse_}
+use Rattle.definitions.specs.Value.{firstReading, interpolateMissingValue, manifestDefault, _orElse_}
 use Rattle.cell_laws.specs.Unpacked.{Ready, setOf, samplesOf, start, activeOf}
 use Rattle.window.specs.Parts.{partOf, ready-clip, ready-readable}
 use Rattle.window.specs.Windows.{minOf, maxOf, ifOwn}

@@ -3,3 +3,4 @@ pub mod Firsts
 pub mod Lent
 pub mod Ways
 pub mod Gaps
+pub mod LastKeys

@@ -1,5 +1,7 @@
 -- What the contracts of this crate cite, and the laws that its proofs share.
 -- A cell and its end
 pub mod Pieces
+-- The end of a cell by its key
+pub mod EndKeys
 -- The spot of a walk
 pub mod Spots

@@ -1,5 +1,7 @@
 // A cell: a stretch of stage times on which one source is read, or one clip along one line.
 
+// The end of a cell by its key.
+pub mod end;
 // The window that a walk is in.
 pub mod spot;
 

@@ -62,12 +62,6 @@ cellBy set s t (some lower) = constant (directSource set s (stage lower))
 unfoldable pub cellOf : ClipSet → Samples → StageTime → Cell
 cellOf set s t = cellBy set s t (heldFrom set s t)
 
--- what is read goes through the place
-pub read-through : (s : Samples) (c : Cell) (j k : Float) → cellPlace s c j ≡ cellPlace s c k → readCell s c j ≡ readCell s c k
-unfolding cellPlace readCell
-read-through s (constant r) j k e = refl
-read-through s (reading c line) j k e = ap (sample c) e
-
 -- ---- the direct reading by its cell
 
 module _ (set : ClipSet) (s : Samples) where

@@ -1,30 +1,27 @@
 -- The direct reading: it goes by the active start and by the place of the sample that is read. While no start and no knot is passed the place
 -- rises or falls all along. Assumes nothing.
 use mathlib.Core.Path.{_≡_, refl, sym, ap, _∙_}
-use mathlib.Core.Logic.{_⊎_, inl, inr}
-use mathlib.Core.Bool.{not, cond}
-use mathlib.Core.List.{List, [], _∷_, map}
+use mathlib.Core.Bool.{cond}
+use mathlib.Core.List.{List, [], _∷_}
 use mathlib.Core.Option.{Option, none, some}
-use Prim.Native.Nat.{ℕ, _-_, _≤_, zero-le}
+use Prim.Native.Nat.{ℕ, _-_}
 use lib.Dec.{T}
 use lib.ListN.{getElem?, drop}
-use lib.Ieee.{Float, le}
+use lib.Ieee.{Float}
 use Rattle.gf.specs.Lerp.{Inside}
 use Rattle.definitions.specs.declared.StageTime.{StageTime}
 use Rattle.definitions.specs.declared.ClipTime.{ClipTime}
 use Rattle.definitions.specs.Doubles.{FiniteDouble, ascending}
-use Rattle.gf.specs.Exactly.{within, within-finite}
-use Rattle.definitions.specs.declared.Knot.{Knot}
 use Rattle.definitions.specs.declared.Start.{Start}
-use Rattle.definitions.specs.ClipSet.{ClipSet, activeTimes, knotTimes, anyUnstorable, stage, clip}
+use Rattle.definitions.specs.ClipSet.{ClipSet, activeTimes, stage, clip}
 use Rattle.definitions.specs.Timing.{lastAtMost, activePosition, mapTime, mapStageToClip}
 use Rattle.definitions.specs.Samples.{Samples, clipBegin, clipEnd, clipTimes, heldPlace}
 use Rattle.definitions.specs.declared.Source.{Source}
 use Rattle.definitions.specs.Value.{sampleOf, readClip, manifestDefault, gapSource, _orElse_, contributes, sourceAt, directSource}
 use Rattle.set_laws.specs.Every.{Every}
-use Rattle.cell_laws.specs.Every.{every-unless, every-map, every-zip, every-take, every-drop}
-use Rattle.cell_laws.specs.Places.{Fits, Clear, place-mono, place-same}
-use Rattle.cell_laws.specs.Knots.{SoundKnot, Alike, map-fits, map-turns, map-alike, clear-alike}
+use Rattle.cell_laws.specs.Every.{every-map, every-take, every-drop}
+use Rattle.cell_laws.specs.Places.{Fits, place-same}
+use Rattle.cell_laws.specs.Knots.{SoundKnot, Alike, map-fits, map-alike, clear-alike}
 
 -- ---- what is asked of a set and of samples
 
@@ -37,20 +34,6 @@ pub record SoundSet (set : ClipSet) : Type 0 where
 -- The lent times are doubles. (That they are finite and ascend is not needed.)
 pub record SoundSamples (s : Samples) : Type 0 where
   pub times : Every Fits (s .times)
-
--- by the tests that an acceptance makes
-pub sound-by-tests : (set : ClipSet) → Every Fits (activeTimes (set .active)) → Every (λ (k : Knot). Fits (k .x) × Fits (k .y)) (set .knots)
-    → T (not (anyUnstorable (activeTimes (set .active)))) → T (not (anyUnstorable (knotTimes (set .knots)))) → T (not (anyUnstorable (map (λ (k : Knot). k .y) (set .knots))))
-    → T (ascending (activeTimes (set .active))) → SoundSet set
-sound-by-tests set f g a b c d = record {
-  starts = every-zip Fits (λ (x : Float). T (within 40 x)) FiniteDouble (λ x p q. record { fitting = p; finitely = within-finite 40 x q }) (activeTimes (set .active)) f (every-unless (within 40) (activeTimes (set .active)) a);
-  ascends = d;
-  knots = each (set .knots) g (every-unless (within 40) (knotTimes (set .knots)) b) (every-unless (within 40) (map (λ (k : Knot). k .y) (set .knots)) c);
-}
-  where
-    each : (l : List Knot) → Every (λ (k : Knot). Fits (k .x) × Fits (k .y)) l → Every (λ (x : Float). T (within 40 x)) (knotTimes l) → Every (λ (x : Float). T (within 40 x)) (map (λ (k : Knot). k .y) l) → Every SoundKnot l
-    each [] p q r = tt
-    each (k ∷ l) p q r = (record { fx = p .0 .0; fy = p .0 .1; bx = q .0; by = r .0 }, each l (p .1) (q .1) (r .1))
 
 pub starts-fit : (set : ClipSet) → SoundSet set → Every Fits (activeTimes (set .active))
 starts-fit set S = every-map FiniteDouble Fits (λ x f. f .fitting) (activeTimes (set .active)) (S .starts)
@@ -105,31 +88,7 @@ module _ (set : ClipSet) (s : Samples) where
 abbrev pub SameStart : ClipSet → Float → Float → Type 0
 SameStart set t u = (j : Float) → Inside t u j → activePosition (set .active) (stage j) ≡ activePosition (set .active) (stage t)
 
-abbrev pub PlaceRises : ClipSet → Samples → Float → Float → Type 0
-PlaceRises set s t u = (j k : Float) → Inside t u j → Inside t u k → T (le j k) → placeRead set s (stage j) ≤ placeRead set s (stage k)
-
-abbrev pub PlaceFalls : ClipSet → Samples → Float → Float → Type 0
-PlaceFalls set s t u = (j k : Float) → Inside t u j → Inside t u k → T (le j k) → placeRead set s (stage k) ≤ placeRead set s (stage j)
-
 module _ (set : ClipSet) (s : Samples) (S : SoundSet set) (A : SoundSamples s) where
-  place-in-mono : (j k : Float) (o : Option Start) → Fits j → Fits k → T (le (mapTime (set .knots) j) (mapTime (set .knots) k)) → placeIn set s (stage j) o ≤ placeIn set s (stage k) o
-  place-in-mono j k none fj fk h = zero-le
-  place-in-mono j k (some a) fj fk h =
-      place-mono (mapTime (set .knots) j) (mapTime (set .knots) k) (map-fits (set .knots) (S .knots) j fj) (map-fits (set .knots) (S .knots) k fk) h (clipTimes s (a .clip)) (clip-fit s A (a .clip))
-
-  -- Where neither a start nor a knot is passed, the place that is read rises or falls all along
-  pub place-turns : (t u : Float) → Fits t → Fits u → T (le t u) → SameStart set t u → Every (Clear t u) (knotTimes (set .knots)) → PlaceRises set s t u ⊎ PlaceFalls set s t u
-  place-turns t u ft fu h p c = elim (map-turns (set .knots) (S .knots) t u ft fu h c) [
-    | inl r ↦ inl (λ j k I J l. rw (at j I, at k J) (place-in-mono j k o (I .ft) (J .ft) (r j k I J l)))
-    | inr r ↦ inr (λ j k I J l. rw (at j I, at k J) (place-in-mono k j o (J .ft) (I .ft) (r j k I J l)))
-  ]
-    where
-      o : Option Start
-      o = getElem? (set .active) (activePosition (set .active) (stage t))
-
-      at : (j : Float) → Inside t u j → placeRead set s (stage j) ≡ placeIn set s (stage j) o
-      at j I = place-at set s j (activePosition (set .active) (stage t)) (p j I)
-
   -- ---- of two zeros, or of any one number
 
   module _ (t u : Float) (ft : Fits t) (fu : Fits u) (a : Alike t u) where

@@ -10,8 +10,7 @@ use lib.ListN.{getD}
 use lib.Ieee.{Float, isNan, eq, lt, le}
 use Rattle.gf.specs.Exactly.{within, within-finite}
 use Rattle.gf.specs.Key.{finite-no-nan, le-trans, le-refl, le-or-lt, le-no-nan, lt→le, eq→le, le-lt-trans, eq→key, key→le}
-use lib.Ieee.Scale.{finite}
-use Rattle.gf.specs.Lerp.{lerp, lerp-fits, lerp-fin, lerp-mono, lerp-anti, lerp-start, start, Doubles, Segment, Inside}
+use Rattle.gf.specs.Lerp.{lerp, lerp-fits, lerp-mono, lerp-anti, lerp-start, start, Doubles, Segment, Inside}
 use Rattle.definitions.specs.declared.Knot.{Knot}
 use Rattle.definitions.specs.Lists.{any}
 use Rattle.definitions.specs.ClipSet.{knotTimes}
@@ -275,25 +274,6 @@ module _ (first : Knot) (rest : List Knot) where
             wide = le-lt-trans (lower (place t) .x) t (upper (place t) .x) (p .fx) ft (q .fx) (in-segment .0) (in-segment .1);
           }
 
-    times-finite : (t : Float) → Fits t → T (not (isNan t)) → T (finite (mapTime (first ∷ rest) t))
-    times-finite t ft nt = go (lt t (first .x)) (le (lastKnot first rest .x) t) refl refl
-      where
-        segment-finite : (lo hi : Knot) → T (finite (lo .y)) → T (finite (lerp (lo .x) (hi .x) (lo .y) (hi .y) t)) → T (finite (onSegment lo hi t))
-        segment-finite lo hi p q = unfold onSegment in either (eq t (lo .x))
-          where
-            either : (b : Bool) → T (finite (cond b (lo .y) (lerp (lo .x) (hi .x) (lo .y) (hi .y) t)))
-            either true = p
-            either false = q
-
-        go : (a b : Bool) → lt t (first .x) ≡ a → le (lastKnot first rest .x) t ≡ b → T (finite (mapTime (first ∷ rest) t))
-        go true b e f = rw (below-first t e) (within-finite 40 (first .y) (sound .0 .by))
-        go false true e f = rw (from-last t e f) (within-finite 40 (lastKnot first rest .y) (last-sound .by))
-        go false false e f =
-            let i = place t in
-            rw (on-segment t e f)
-            (segment-finite (lower i) (upper i) (within-finite 40 (lower i .y) (lower-sound i .by))
-            (lerp-fin (lower i .x) (upper i .x) (lower i .y) (upper i .y) (doubles i) (spanned t ft nt e f) t (inside-segment t ft nt e f)))
-
     -- ---- from t to u no x is passed
 
     module _ (t u : Float) (ft : Fits t) (fu : Fits u) (h : T (le t u)) (clear : Every (Clear t u) (knotTimes (first ∷ rest))) where
@@ -361,11 +341,6 @@ module _ (first : Knot) (rest : List Knot) where
 pub map-fits : (knots : List Knot) → Every SoundKnot knots → (t : Float) → Fits t → Fits (mapTime knots t)
 map-fits [] s t f = unfold mapTime in f
 map-fits (k ∷ rest) s t f = times-fit k rest s t
-
--- the clip time of a finite double is finite
-pub map-finite : (knots : List Knot) → Every SoundKnot knots → (t : Float) → Fits t → T (finite t) → T (finite (mapTime knots t))
-map-finite [] s t f g = unfold mapTime in g
-map-finite (k ∷ rest) s t f g = times-finite k rest s t f (finite-no-nan t g)
 
 -- The clip time on a stretch that passes no knot
 pub map-turns : (knots : List Knot) → Every SoundKnot knots → (t u : Float) → Fits t → Fits u → T (le t u) → Every (Clear t u) (knotTimes knots) → TimeRises knots t u ⊎ TimeFalls knots t u

@@ -1,6 +1,5 @@
 -- The value on a stretch that passes no boundary: held from the lower neighbour, or direct. Assumes nothing.
 use mathlib.Core.Path.{_≡_, refl, sym, ap, ap₂, _∙_, subst}
-use mathlib.Core.Logic.{_⊎_}
 use mathlib.Core.Bool.{Bool, true, false, _||_, cond}
 use mathlib.Core.List.{List, [], _∷_}
 use mathlib.Core.Option.{Option, none, some}
@@ -23,7 +22,7 @@ use Rattle.set_laws.specs.Every.{Every}
 use Rattle.cell_laws.specs.Every.{every-map, every-keep}
 use Rattle.cell_laws.specs.Places.{Fits, Clear}
 use Rattle.cell_laws.specs.Knots.{Alike, alike-eq, knots-fit, clear-parts, clear-alike}
-use Rattle.cell_laws.specs.Direct.{SoundSet, SoundSamples, SameStart, PlaceRises, PlaceFalls, placeRead, place-turns, direct-through, direct-alike}
+use Rattle.cell_laws.specs.Direct.{SoundSet, SoundSamples, SameStart, direct-alike}
 use Rattle.cell_laws.specs.Window.{gathered-fit, window-stays, window-knots, lower-stays, upper-stays}
 
 -- ---- the rule at t, and where it may end
@@ -203,22 +202,6 @@ module _ (set : ClipSet) (s : Samples) (S : SoundSet set) (A : SoundSamples s) w
   module _ (t u : Float) (W : Stretch set s t u) where
     pub stretch-same : SameStart set t u
     stretch-same j I = sym (stretch-start t j (stretch-part t u W j I))
-
-    -- with a lower neighbour, an upper one and no jump: constant
-    pub held-constant : (l : Float) → heldFrom set s (stage t) ≡ some l → (j : Float) → Inside t u j → valueSource set s (stage j) ≡ directSource set s (stage l)
-    held-constant l e j I = value-by t j (stretch-part t u W j I) ∙ ap (λ (o : Option Float). directSource set s (stage (readAs o j))) e
-
-    -- else: direct
-    pub else-direct : heldFrom set s (stage t) ≡ none → (j : Float) → Inside t u j → valueSource set s (stage j) ≡ directSource set s (stage j)
-    else-direct e j I = value-by t j (stretch-part t u W j I) ∙ ap (λ (o : Option Float). directSource set s (stage (readAs o j))) e
-
-    -- there the place read rises or falls all along, and the value goes through it
-    pub stretch-turns : PlaceRises set s t u ⊎ PlaceFalls set s t u
-    stretch-turns = place-turns set s S A t u (W .ft) (W .fu) (W .order) stretch-same (stretch-knots t u W)
-
-    pub value-through : heldFrom set s (stage t) ≡ none → (j k : Float) → Inside t u j → Inside t u k → placeRead set s (stage j) ≡ placeRead set s (stage k) → valueSource set s (stage j) ≡ valueSource set s (stage k)
-    value-through e j k I J q =
-        else-direct e j I ∙ direct-through set s j k (stretch-same j I ∙ sym (stretch-same k J)) q ∙ sym (else-direct e k J)
 
   -- ---- of one number, as the two zeros, the value is one
 

@@ -1,9 +1,8 @@
 -- A set and samples as plain lists, as an operation lends them to the functions that search them; and that the laws' premises hold of them. Assumes nothing.
-use mathlib.Core.Path.{_≡_, refl, sym, ap, ap₂, _∙_, subst}
-use mathlib.Core.Bool.{Bool, true, false, not}
-use mathlib.Core.List.{List, [], _∷_, map}
-use mathlib.Core.Option.{Option, none, some}
-use Prim.Native.Nat.{ℕ, zero, suc, _≤_, _<_}
+use mathlib.Core.Path.{_≡_, refl, ap}
+use mathlib.Core.List.{List, [], _∷_}
+use mathlib.Core.Option.{some}
+use Prim.Native.Nat.{ℕ, zero, suc, _<_}
 use native.Mathlib.Omega.{arith}
 use lib.Dec.{T}
 use lib.ListN.{length, getD, getElem?}
@@ -15,14 +14,13 @@ use Rattle.definitions.specs.Lists.{all, pairsFrom, zipWith}
 use Rattle.definitions.specs.Doubles.{FiniteDouble, ascending}
 use Rattle.definitions.specs.Explicit.{knot}
 use Rattle.definitions.specs.ClipSet.{ClipSet, activeTimes, knotTimes}
-use Rattle.definitions.specs.Samples.{Samples, samplesNumber}
+use Rattle.definitions.specs.Samples.{Samples}
 use Rattle.set_laws.specs.Stored.{Stored, Lt, stored-finite}
 use Rattle.set_laws.specs.Every.{Every, ChainFrom, Chain, every-map}
 use Rattle.cell_laws.specs.Every.{both}
 use Rattle.cell_laws.specs.Places.{Fits}
 use Rattle.cell_laws.specs.Knots.{SoundKnot}
 use Rattle.cell_laws.specs.Direct.{SoundSet, SoundSamples}
-use Rattle.cell_laws.specs.Tracks.{SoundValues}
 use Rattle.set_laws.specs.Sound.{Sound, knotValues}
 use Rattle.set_laws.specs.Accepted.{Accepted}
 
@@ -73,12 +71,6 @@ pub knot-times : (xs ys : List Float) → length xs ≡ length ys → knotTimes 
 knot-times [] ys e = refl
 knot-times (x ∷ xs) [] e = absurd (omega arith)
 knot-times (x ∷ xs) (y ∷ ys) e = ap (λ (l : List Float). x ∷ l) (knot-times xs ys (omega arith))
-
-pub knot-values : (xs ys : List Float) → length xs ≡ length ys → knotValues (knotsOf xs ys) ≡ ys
-knot-values [] [] e = refl
-knot-values [] (y ∷ ys) e = absurd (omega arith)
-knot-values (x ∷ xs) [] e = absurd (omega arith)
-knot-values (x ∷ xs) (y ∷ ys) e = ap (λ (l : List Float). y ∷ l) (knot-values xs ys (omega arith))
 
 -- ---- the laws' premises
 

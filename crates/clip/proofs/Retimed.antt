@@ -6,7 +6,6 @@ use lib.Ieee.{lt}
 use lib.Ieee.Scale.{finite}
 use Rattle.gf.specs.Doubles.{0·0}
 use Rattle.definitions.specs.declared.LayerOffset.{LayerOffset}
-use Rattle.definitions.specs.ClipSet as Definitions
 use Rattle.definitions.specs.Retime.{isIdentity, moved, sorted, retimeStageTimes, movedNumber}
 use Rattle.set_laws.specs.Places.{Fits}
 use Rattle.set_laws.specs.Sound.{Sound}

@@ -1,6 +1,6 @@
 -- Document 01, "Doubles": the neighbours, and lists of times in order. What is asked of one double stands in `Doubles` of the crate `gf`, with its arithmetic.
 -- Assumes nothing.
-use Prim.Native.Nat.{ℕ, _-_}
+use Prim.Native.Nat.{_-_}
 use mathlib.Core.Bool.{Bool, _&&_}
 use mathlib.Core.List.{List}
 use lib.Dec.{T}

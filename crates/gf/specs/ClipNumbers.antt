@@ -1,16 +1,16 @@
 -- A whole double that is not negative, as an index: where its magnitude has w bits the cast loses nothing, and that is a comparison of doubles.
 -- Assumes nothing.
 use mathlib.Core.Path.{_≡_, sym, ap, _∙_, subst}
-use mathlib.Core.Bool.{true, false, _&&_}
-use Prim.Native.Nat.{ℕ, _+_, _-_, _*_, _/_, _^_, _≤_, _<_, min}
-use native.Mathlib.Nat.{one-mul, mul-one, zero-mul, zero-div, mul-pos, div-lt-iff-lt-mul, lt-of-lt-of-le}
+use mathlib.Core.Bool.{true, false}
+use Prim.Native.Nat.{ℕ, _+_, _-_, _*_, _/_, _^_, _<_, min}
+use native.Mathlib.Nat.{one-mul, mul-one, zero-mul, zero-div, mul-pos, div-lt-iff-lt-mul}
 use native.Mathlib.Omega.{arith}
-use lib.Dec.{T, ltb, eqb, eqb→eq, ltb→lt, lt→ltb}
+use lib.Dec.{T, eqb, eqb→eq, ltb→lt, lt→ltb}
 use lib.IntN.{ℤ, pos}
 use lib.Pow.{pow-pos}
 use lib.Ieee.{Float, nan, inf, fin, up, down, lt, le, toUnsigned}
-use lib.Ieee.Fits.{and-l, and-r, down-pos}
-use Rattle.gf.specs.Doubles.{0·0, isWhole, truncated, isClipNumber}
+use lib.Ieee.Fits.{and-l, down-pos}
+use Rattle.gf.specs.Doubles.{0·0, isWhole, truncated}
 
 -- ---- only -0.0 has a sign and is not negative
 
@@ -74,13 +74,3 @@ module _ (w : ℕ) where
     where
       uncapped : (a c : ℕ) → a < c → min a (c - 1) ≡ a
       uncapped a c k = omega arith
-
--- ---- what a clip number is: the premise of the function that turns it into an index
-
-pub clip-number-index : (clips : ℕ) (x : Float) → clips ≤ 0x1_0000_0000_0000_0000 → T (isClipNumber clips x) → T (isWhole x) × T (le 0·0 x) × (truncated x < 0x1_0000_0000_0000_0000)
-unfolding isClipNumber
-clip-number-index clips x h t =
-    let a = isWhole x in
-    let b = le 0·0 x in
-    let c = ltb (truncated x) clips in
-    (and-l a b (and-l (a && b) c t), and-r a b (and-l (a && b) c t), lt-of-lt-of-le (ltb→lt (truncated x) clips (and-r (a && b) c t)) h)

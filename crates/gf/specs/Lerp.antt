@@ -1,15 +1,14 @@
--- Linear interpolation in a segment, each operation rounded: it is finite, keeps or turns the order as the segment rises or falls, and starts at the first value. Assumes nothing.
+-- Linear interpolation in a segment, each operation rounded: it keeps or turns the order as the segment rises or falls, and starts at the first value. Assumes nothing.
 use mathlib.Core.Path.{_≡_, refl}
-use mathlib.Core.Logic.{inl, inr}
 use mathlib.Core.Bool.{Bool}
 use lib.Dec.{T}
 use lib.Ieee.{Float, binary64, add, sub, mul, div, fits, lt, le, eq}
 use lib.Ieee.Fits.{add-fits, sub-fits}
 use lib.Ieee.Scale.{finite}
 use lib.Ieee.Positive.{positive}
-use Rattle.gf.specs.Key.{finite-no-nan, lt→le, le-refl, le-both, le-or-lt, between}
+use Rattle.gf.specs.Key.{finite-no-nan, lt→le, le-refl, le-both, between}
 use Rattle.gf.specs.Ops.{nought, add-mono-right, sub-mono, mul-mono-right, mul-anti-right, div-mono}
-use Rattle.gf.specs.Exactly.{one, sub-nonneg, sub-nonpos, sub-positive, div-nonneg, div-nonpos, div-le-one, mul-nonneg, mul-nonpos, mul-le-self, mul-ge-self, mul-zero-le, mul-zero-ge, add-ge-self, add-le-self, within, within-finite, within-more, add-within, sub-within, power}
+use Rattle.gf.specs.Exactly.{one, sub-nonneg, sub-nonpos, sub-positive, div-nonneg, div-nonpos, div-le-one, mul-nonneg, mul-nonpos, mul-le-self, mul-ge-self, mul-zero-le, mul-zero-ge, add-ge-self, add-le-self, within, within-finite, sub-within, power}
 
 -- where t lies in the segment from x0 to x1, as a number from 0 to 1
 unfoldable pub share : Float → Float → Float → Float
@@ -73,12 +72,6 @@ module _ (x0 x1 y0 y1 : Float) (D : Doubles x0 x1 y0 y1) (S : Segment x0 x1 y0 y
 
   dy-fin : T (finite (sub binary64 y1 y0))
   dy-fin = within-finite 41 (sub binary64 y1 y0) dy-within
-
-  -- y0 + (y1 - y0), which need not be y1
-  end-fin : T (finite (add binary64 y0 (sub binary64 y1 y0)))
-  end-fin =
-      within-finite 42 (add binary64 y0 (sub binary64 y1 y0))
-      (add-within binary64 41 (λ s. power-fits s .1) y0 (sub binary64 y1 y0) (within-more binary64 40 (λ s. power-fits s .0) y0 (D .fy0) (S .by0)) dy-within)
 
   inside-fin : (t : Float) → Inside x0 x1 t → T (finite t)
   inside-fin t I = between x0 t x1 x0-fin x1-fin (I .from) (I .upto)
@@ -151,16 +144,6 @@ module _ (x0 x1 y0 y1 : Float) (D : Doubles x0 x1 y0 y1) (S : Segment x0 x1 y0 y
     rise-fin : (t : Float) → Inside x0 x1 t → T (finite (rise t))
     rise-fin t I = between nought (rise t) (sub binary64 y1 y0) tt dy-fin (rise-up t I) (rise-le t I)
 
-    -- y0 ≤ m(t) ≤ y0 + (y1 - y0)
-    pub lerp-ge : (t : Float) → Inside x0 x1 t → T (le y0 (lerp x0 x1 y0 y1 t))
-    lerp-ge t I = rw (lerp-is t) (add-ge-self binary64 y0 (rise t) (D .fy0) y0-fin (rise-fin t I) (rise-up t I))
-
-    pub lerp-le-end : (t : Float) → Inside x0 x1 t → T (le (lerp x0 x1 y0 y1 t) (add binary64 y0 (sub binary64 y1 y0)))
-    lerp-le-end t I = rw (lerp-is t) (add-mono-right binary64 (rise t) (sub binary64 y1 y0) y0 (rise-fin t I) dy-fin (rise-le t I) y0-fin)
-
-    pub lerp-fin-up : (t : Float) → Inside x0 x1 t → T (finite (lerp x0 x1 y0 y1 t))
-    lerp-fin-up t I = between y0 (lerp x0 x1 y0 y1 t) (add binary64 y0 (sub binary64 y1 y0)) y0-fin end-fin (lerp-ge t I) (lerp-le-end t I)
-
     pub lerp-mono : (t u : Float) → Inside x0 x1 t → Inside x0 x1 u → T (le t u) → T (le (lerp x0 x1 y0 y1 t) (lerp x0 x1 y0 y1 u))
     lerp-mono t u I J h =
         rw (lerp-is t, lerp-is u)
@@ -182,26 +165,8 @@ module _ (x0 x1 y0 y1 : Float) (D : Doubles x0 x1 y0 y1) (S : Segment x0 x1 y0 y
     drop-fin : (t : Float) → Inside x0 x1 t → T (finite (rise t))
     drop-fin t I = between (sub binary64 y1 y0) (rise t) nought dy-fin tt (drop-ge t I) (drop-down t I)
 
-    -- y0 + (y1 - y0) ≤ m(t) ≤ y0
-    pub lerp-le : (t : Float) → Inside x0 x1 t → T (le (lerp x0 x1 y0 y1 t) y0)
-    lerp-le t I = rw (lerp-is t) (add-le-self binary64 y0 (rise t) (D .fy0) y0-fin (drop-fin t I) (drop-down t I))
-
-    pub lerp-ge-end : (t : Float) → Inside x0 x1 t → T (le (add binary64 y0 (sub binary64 y1 y0)) (lerp x0 x1 y0 y1 t))
-    lerp-ge-end t I = rw (lerp-is t) (add-mono-right binary64 (sub binary64 y1 y0) (rise t) y0 dy-fin (drop-fin t I) (drop-ge t I) y0-fin)
-
-    pub lerp-fin-down : (t : Float) → Inside x0 x1 t → T (finite (lerp x0 x1 y0 y1 t))
-    lerp-fin-down t I = between (add binary64 y0 (sub binary64 y1 y0)) (lerp x0 x1 y0 y1 t) y0 end-fin y0-fin (lerp-ge-end t I) (lerp-le t I)
-
     pub lerp-anti : (t u : Float) → Inside x0 x1 t → Inside x0 x1 u → T (le t u) → T (le (lerp x0 x1 y0 y1 u) (lerp x0 x1 y0 y1 t))
     lerp-anti t u I J h =
         rw (lerp-is t, lerp-is u)
         (add-mono-right binary64 (rise u) (rise t) y0 (drop-fin u J) (drop-fin t I)
         (mul-anti-right binary64 (share x0 x1 t) (share x0 x1 u) (sub binary64 y1 y0) (share-fin t I) (share-fin u J) (share-mono t u I J h) dy-fin dy-down) y0-fin)
-
-  -- ---- either way
-
-  pub lerp-fin : (t : Float) → Inside x0 x1 t → T (finite (lerp x0 x1 y0 y1 t))
-  lerp-fin t I = elim (le-or-lt y0 y1 (D .fy0) (D .fy1) (finite-no-nan y0 y0-fin) (finite-no-nan y1 y1-fin)) [
-    | inl up ↦ lerp-fin-up up t I
-    | inr fall ↦ lerp-fin-down (lt→le y1 y0 fall) t I
-  ]

@@ -6,12 +6,12 @@ use native.Mathlib.Nat.{mul-pos, add-mul, mul-add, mul-comm, mul-assoc, mul-left
 use native.Mathlib.Omega.{arith}
 use mathlib.Core.Bool.{Bool, true, false, not, cond}
 use lib.IntN.{ℤ, pos}
-use lib.Dec.{T, ltb, eqb, ltb→lt, lt→ltb, nltb→le, eqb→eq}
-use lib.Ieee.{Float, nan, inf, fin, Format, up, down, round, sum, add, sub, mul, div, neg, lt, le}
+use lib.Dec.{T, ltb, eqb, ltb→lt, nltb→le, eqb→eq}
+use lib.Ieee.{Float, nan, inf, fin, Format, up, down, round, sum, add, sub, mul, div, neg, le}
 use lib.Ieee.Fits.{up-pos}
 use lib.Ieee.Scale.{finite}
-use lib.Ieee.Positive.{num, den, den-pos, positive, first-pos}
-use Rattle.gf.specs.Fraction.{over, under, Cross, le→cross, lt→cross, Rounds, rounds-mono}
+use lib.Ieee.Positive.{num, den, den-pos, positive}
+use Rattle.gf.specs.Fraction.{over, under, Cross, le→cross, Rounds, rounds-mono}
 
 ruleset ring = (add-mul, mul-add, mul-assoc, mul-comm, mul-left-comm)
 
@@ -156,22 +156,10 @@ module _ (A A' x B B' y C C' z : ℕ) (h : A * y + B' * x ≤ B * x + A' * y) wh
       let k : (A * y + B' * x) * (z * z) ≤ (B * x + A' * y) * (z * z) = mul-le-mul-right (z * z) h in
       simp ring (omega (arith, simp ring at k))
 
-  -- c - b ≤ c - a
-  sub-order : (C * y + B' * z) * (z * x) + (C' * x + A * z) * (z * y) ≤ (C * x + A' * z) * (z * y) + (C' * y + B * z) * (z * x)
-  sub-order =
-      let k : (A * y + B' * x) * (z * z) ≤ (B * x + A' * y) * (z * z) = mul-le-mul-right (z * z) h in
-      simp ring (omega (arith, simp ring at k))
-
   -- C' = 0
   mul-order : (A * C + A' * 0) * (y * z) + (B * 0 + B' * C) * (x * z) ≤ (B * C + B' * 0) * (x * z) + (A * 0 + A' * C) * (y * z)
   mul-order =
       let k : (A * y + B' * x) * (C * z) ≤ (B * x + A' * y) * (C * z) = mul-le-mul-right (C * z) h in
-      simp ring (omega (arith, simp ring at k))
-
-  -- C = 0: the order is turned
-  mul-order-neg : (B * 0 + B' * C') * (x * z) + (A * C' + A' * 0) * (y * z) ≤ (A * 0 + A' * C') * (y * z) + (B * C' + B' * 0) * (x * z)
-  mul-order-neg =
-      let k : (A * y + B' * x) * (C' * z) ≤ (B * x + A' * y) * (C' * z) = mul-le-mul-right (C' * z) h in
       simp ring (omega (arith, simp ring at k))
 
   -- C above 0
@@ -216,10 +204,6 @@ module _ (f : Format) (a b c : Float) (p : T (finite a)) (q : T (finite b)) (h :
   k : Cross a b
   k = le→cross a b p q h
 
-  pub add-mono : T (finite c) → T (le (add f a c) (add f b c))
-  add-mono r = rounds-mono f (add f a c) (add f b c) (add-over a c) (add-under a c) (den a * den c) (add-over b c) (add-under b c) (den b * den c) ab bc (add-rounds f a c p r) (add-rounds f b c q r)
-      (add-order (over a) (under a) (den a) (over b) (under b) (den b) (over c) (under c) (den c) k)
-
   pub add-mono-right : T (finite c) → T (le (add f c a) (add f c b))
   add-mono-right r = rounds-mono f (add f c a) (add f c b) (add-over c a) (add-under c a) (den c * den a) (add-over c b) (add-under c b) (den c * den b) ca cb (add-rounds f c a r p) (add-rounds f c b r q)
       (add-order-right (over a) (under a) (den a) (over b) (under b) (den b) (over c) (under c) (den c) k)
@@ -228,18 +212,9 @@ module _ (f : Format) (a b c : Float) (p : T (finite a)) (q : T (finite b)) (h :
   sub-mono r = rounds-mono f (sub f a c) (sub f b c) (sub-over a c) (sub-under a c) (den a * den c) (sub-over b c) (sub-under b c) (den b * den c) ab bc (sub-rounds f a c p r) (sub-rounds f b c q r)
       (add-order (over a) (under a) (den a) (over b) (under b) (den b) (under c) (over c) (den c) k)
 
-  -- in the second operand the order is turned
-  pub sub-anti : T (finite c) → T (le (sub f c b) (sub f c a))
-  sub-anti r = rounds-mono f (sub f c b) (sub f c a) (sub-over c b) (sub-under c b) (den c * den b) (sub-over c a) (sub-under c a) (den c * den a) cb ca (sub-rounds f c b r q) (sub-rounds f c a r p)
-      (sub-order (over a) (under a) (den a) (over b) (under b) (den b) (over c) (under c) (den c) k)
-
   pub mul-mono : T (finite c) → T (le nought c) → T (le (mul f a c) (mul f b c))
   mul-mono r s = rounds-mono f (mul f a c) (mul f b c) (mul-over a c) (mul-under a c) (den a * den c) (mul-over b c) (mul-under b c) (den b * den c) ab bc (mul-rounds f a c p r) (mul-rounds f b c q r)
       (rw (nonneg c r s) (mul-order (over a) (under a) (den a) (over b) (under b) (den b) (over c) (under c) (den c) k))
-
-  pub mul-anti : T (finite c) → T (le c nought) → T (le (mul f b c) (mul f a c))
-  mul-anti r s = rounds-mono f (mul f b c) (mul f a c) (mul-over b c) (mul-under b c) (den b * den c) (mul-over a c) (mul-under a c) (den a * den c) bc ab (mul-rounds f b c q r) (mul-rounds f a c p r)
-      (rw (nonpos c r s) (mul-order-neg (over a) (under a) (den a) (over b) (under b) (den b) (over c) (under c) (den c) k))
 
   pub mul-mono-right : T (finite c) → T (le nought c) → T (le (mul f c a) (mul f c b))
   mul-mono-right r s = rounds-mono f (mul f c a) (mul f c b) (mul-over c a) (mul-under c a) (den c * den a) (mul-over c b) (mul-under c b) (den c * den b) ca cb (mul-rounds f c a r p) (mul-rounds f c b r q)
@@ -253,11 +228,3 @@ module _ (f : Format) (a b c : Float) (p : T (finite a)) (q : T (finite b)) (h :
   div-mono r = rounds-mono f (div f a c) (div f b c) (over a * den c) (under a * den c) (num c * den a) (over b * den c) (under b * den c) (num c * den b) (mul-pos (num-pos c r) (den-pos a)) (mul-pos (num-pos c r) (den-pos b))
       (div-rounds f a c p r) (div-rounds f b c q r)
       (div-order (over a) (under a) (den a) (over b) (under b) (den b) (num c) (under c) (den c) k)
-
--- ---- `positive`, by the comparison
-
-pub lt-positive : (c : Float) → T (finite c) → T (lt nought c) → T (positive c)
-lt-positive nan p h = absurd p
-lt-positive (inf s) p h = absurd p
-lt-positive (fin true m e) p h = absurd (unfold lt in h)
-lt-positive (fin false m e) p h = let k = lt→cross nought (fin false m e) tt tt h in lt→ltb 0 m (first-pos m (up e) (omega arith))

@@ -83,20 +83,3 @@ pub fn total_key(x: f64) -> u64
     }
     0xffff_ffff_ffff_ffff - b
 }
-
-// The lowest finite double.
-pub fn lowest() -> f64
-    ensures { λ r. ⌜ r ≡ Key.ofKey Key.least ⌝ }
-{
-    of_key(0x0010_0000_0000_0001)
-}
-
-// The next lower double, of any finite double but the lowest. Both zeros are one double among the neighbours.
-pub fn next_lower(x: f64) -> f64
-    requires { ⌜ T (not (isNan x)) ⌝ }
-    requires { ⌜ (Key.least < Key.key x) × (Key.key x ≤ Key.most) ⌝ }
-    ensures { λ r. ⌜ r ≡ Key.ofKey (Key.key x - 1) ⌝ }
-{
-    let k = key(x);
-    of_key(k - 1)
-}

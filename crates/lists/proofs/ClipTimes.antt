@@ -12,7 +12,7 @@ use Rattle.definitions.specs.Lists.{zipWith}
 use Rattle.definitions.specs.Explicit.{knot}
 use Rattle.definitions.specs.Timing.{lastAtMost, lastKnot, onSegment, mapTime}
 use Rattle.set_laws.specs.Every.{zip-at}
-use Rattle.set_laws.specs.ClipTime.{last-knot-is}
+use Rattle.set_laws.specs.LastKnot.{last-knot-is}
 use Rattle.cell_laws.specs.Unpacked.{knot-times, zip-length}
 
 pub map-none : (xs ys : List Float) (t : Float) → length xs ≡ 0 → mapTime (zipWith knot xs ys) t ≡ t

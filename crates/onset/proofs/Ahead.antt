@@ -2,11 +2,11 @@
 use mathlib.Core.Path.{_≡_, refl, sym, _∙_, subst}
 use mathlib.Core.Bool.{Bool, true, false, not, cond}
 use mathlib.Core.List.{List, [], _∷_}
-use Prim.Native.Nat.{ℕ, _+_, _-_, _<_}
+use Prim.Native.Nat.{ℕ, _+_, _<_}
 use native.Mathlib.Omega.{arith}
 use lib.Dec.{T}
 use lib.ListN.{length, getD}
-use lib.Ieee.{Float, nan, isNan, lt, le}
+use lib.Ieee.{Float, nan, isNan, lt}
 use borrow.Author.Tests.{ltb-false}
 use Rattle.gf.specs.Key.{key, lt→key, lt-is, key→lt, le-no-nan, lt→le}
 use Rattle.definitions.specs.declared.Knot.{Knot}
@@ -35,9 +35,6 @@ pub in-segment : (cs : List Float) (q : Knot × Knot) (i : ℕ) → i < length c
 unfolding onSegment
 in-segment cs q i h s = one
   where
-    seg : List Float
-    seg = gather (λ (d : Float). onPair d q) cs
-
     all : Every (λ (d : Float). Every (λ (x : Float). In x (gather (λ (e : Float). onPair e q) cs)) (onPair d q)) cs
     all = every-each (λ (x : Float). In x (gather (λ (e : Float). onPair e q) cs)) (λ (d : Float). onPair d q) cs (every-in (gather (λ (e : Float). onPair e q) cs))
 

@@ -1,12 +1,10 @@
 -- Where a run of samples in one segment begins, as the program holds it. Assumes nothing.
-use mathlib.Core.Path.{_≡_}
 use mathlib.Core.List.{List}
 use Prim.Native.Nat.{ℕ, _+_, _-_, _<_}
 use lib.Dec.{T}
 use lib.ListN.{length, getD}
 use lib.Ieee.{Float, nan, lt, le}
 use Rattle.definitions.specs.declared.Knot.{Knot}
-use Rattle.set_laws.specs.Places.{Fits}
 use Rattle.window.specs.declared.Bound.{Bound}
 use Rattle.window.specs.declared.Bound.the-variants as Bounds
 use Rattle.window.specs.Bounds.{In}

@@ -69,9 +69,6 @@ module _ {cs vs : List Float} {ms : List ℕ} (R : Reads cs vs ms) where
 -- ---- what is read
 
 module _ {cs vs : List Float} {ms : List ℕ} {q : Knot × Knot} {floor : Float} {e : Entry} {k hi : ℕ} (R : Passing cs vs ms q floor e k hi) where
-  abbrev v : ℕ → Entry
-  v = passingAt cs vs ms q floor
-
   floor-under : (j : ℕ) → k ≤ j → j ≤ hi → T (le floor (ofKey j))
   floor-under j a b =
       le-trans floor (ofKey k) (ofKey j) (R .ground .fitting) (ofKey-fits k) (ofKey-fits j) (R .under) (ofKey-mono k j (R .keys .low) a (omega (arith, R .keys .high)))

@@ -4,7 +4,7 @@ ghost use mathlib.Core.Bool.{Bool, cond};
 ghost use lib.Dec.{T, ltb};
 ghost use lib.ListN.{length};
 ghost use lib.Ieee.{isNan, lt};
-ghost use Rattle.definitions.specs.Lists.{any, all, zipWith, below};
+ghost use Rattle.definitions.specs.Lists.{any, zipWith};
 ghost use Rattle.definitions.specs.Doubles as Doubles;
 ghost use Rattle.definitions.specs.Samples as Samples;
 ghost use Rattle.sdf.specs.Parts.{partsAscend};

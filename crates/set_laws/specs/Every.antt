@@ -128,14 +128,6 @@ module _ {A B : Type 0} (g : A → B) where
   every-to-map P [] e = tt
   every-to-map P (x ∷ xs) e = (e .0, every-to-map P xs (e .1))
 
-  chain-of-map-from : (R : B → B → Type 0) (x : A) (xs : List A) → ChainFrom R (g x) (map g xs) → ChainFrom (λ (a b : A). R (g a) (g b)) x xs
-  chain-of-map-from R x [] c = tt
-  chain-of-map-from R x (y ∷ ys) c = (c .0, chain-of-map-from R y ys (c .1))
-
-  pub chain-of-map : (R : B → B → Type 0) (xs : List A) → Chain R (map g xs) → Chain (λ (a b : A). R (g a) (g b)) xs
-  chain-of-map R [] c = tt
-  chain-of-map R (x ∷ xs) c = chain-of-map-from R x xs c
-
   chain-to-map-from : (R : B → B → Type 0) (x : A) (xs : List A) → ChainFrom (λ (a b : A). R (g a) (g b)) x xs → ChainFrom R (g x) (map g xs)
   chain-to-map-from R x [] c = tt
   chain-to-map-from R x (y ∷ ys) c = (c .0, chain-to-map-from R y ys (c .1))

@@ -2,7 +2,7 @@
 -- Of ascending times, the one at i is ≤ t exactly if i is below that number (`at-most-is`); so a search that keeps `lo ≤ atMost xs t ≤ hi` needs
 -- no quantifier, and `lastAtMost` is that number less one, and 0 for 0 (`last-is`). Assumes nothing.
 use mathlib.Core.Path.{_≡_, refl, sym, _∙_, subst}
-use Prim.Native.Nat.{ℕ, zero, suc, _-_, _≤_, _<_, zero-le, suc-le-suc}
+use Prim.Native.Nat.{ℕ, zero, suc, _-_, _≤_, _<_, zero-le}
 use native.Mathlib.Nat.{not-suc-le-zero, le-of-suc-le-suc}
 use native.Mathlib.Omega.{arith}
 use mathlib.Core.Bool.{Bool, true, false, _||_, cond, false≢true}
@@ -154,40 +154,5 @@ module _ (t : Float) (ft : T (fits binary64 t)) where
   pub last-inside : (xs : List Float) → Ascending xs → 0 < length xs → lastAtMost xs t < length xs
   last-inside xs a h = omega (arith, last-is xs a, at-most-length xs t)
 
-  -- "the first if none": the first is above t
-  pub last-below : (xs : List Float) (d : Float) → Ascending xs → 0 < length xs → le (getD xs 0 d) t ≡ false → lastAtMost xs t ≡ 0
-  last-below xs d a h e = omega (arith, last-is xs a, up-to t ft d xs a 0 h e)
-
-  -- else the entry is ≤ t, and every later one is above it
-  pub last-at-most : (xs : List Float) (d : Float) → Ascending xs → 0 < length xs → le (getD xs 0 d) t ≡ true → le (getD xs (lastAtMost xs t) d) t ≡ true
-  last-at-most xs d a h e =
-      at-most-is t ft d xs a (lastAtMost xs t) (last-inside xs a h) ∙ lt-ltb (lastAtMost xs t) (atMost xs t) (omega (arith, last-is xs a, beyond t ft d xs a 0 h e))
-
   pub last-later : (xs : List Float) (d : Float) → Ascending xs → (i : ℕ) → lastAtMost xs t < i → i < length xs → le (getD xs i d) t ≡ false
   last-later xs d a i l h = at-most-is t ft d xs a i h ∙ le-ltb i (atMost xs t) (omega (arith, last-is xs a))
-
--- ---- for any list: where the times before n are ≤ t, and none from n on is. It is what a binary search ends with.
-
-abbrev pub AllAtMost : List Float → Float → ℕ → Type 0
-AllAtMost xs t n = (i : ℕ) (d : Float) → i < n → le (getD xs i d) t ≡ true
-
-abbrev pub NoneFrom : List Float → Float → ℕ → Type 0
-NoneFrom xs t n = (i : ℕ) (d : Float) → n ≤ i → i < length xs → le (getD xs i d) t ≡ false
-
-no-any : (t : Float) (xs : List Float) → NoneFrom xs t 0 → any (λ (y : Float). le y t) xs ≡ false
-no-any t [] g = refl
-no-any t (x ∷ xs) g = rw (g 0 x zero-le (omega arith)) (no-any t xs (λ i d l h. g (suc i) d zero-le (suc-le-suc h)))
-
-yes-any : (t : Float) (xs : List Float) (n : ℕ) → suc n ≤ length xs → AllAtMost xs t (suc n) → any (λ (y : Float). le y t) xs ≡ true
-yes-any t [] n l f = absurd (not-suc-le-zero l)
-yes-any t (x ∷ xs) n l f = rw (f 0 x (omega arith))
-
-pub last-found : (xs : List Float) (t : Float) (n : ℕ) → n ≤ length xs → AllAtMost xs t n → NoneFrom xs t n → lastAtMost xs t ≡ n - 1
-last-found [] t n l f g = rw (last-nil t) (omega arith)
-last-found (x ∷ xs) t zero l f g = last-none x xs t (no-any t xs (λ i d k h. g (suc i) d zero-le (suc-le-suc h)))
-last-found (x ∷ xs) t (suc zero) l f g = last-none x xs t (no-any t xs (λ i d k h. g (suc i) d (suc-le-suc zero-le) (suc-le-suc h)))
-last-found (x ∷ xs) t (suc (suc n)) l f g =
-    let k = le-of-suc-le-suc l in
-    let f′ : AllAtMost xs t (suc n) = λ i d h. f (suc i) d (suc-le-suc h) in
-    let e = last-found xs t (suc n) k f′ (λ i d j h. g (suc i) d (suc-le-suc j) (suc-le-suc h)) in
-    rw (last-some x xs t (yes-any t xs n k f′)) (omega arith)

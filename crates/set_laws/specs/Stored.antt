@@ -3,7 +3,7 @@ use mathlib.Core.Path.{_≡_, refl, ap, subst}
 use Prim.Native.Nat.{ℕ, zero, suc, _+_, _-_, _%_, _≤_, _<_}
 use native.Mathlib.Nat.{not-suc-le-zero, le-of-suc-le-suc}
 use native.Mathlib.Omega.{arith}
-use mathlib.Core.Bool.{Bool, true, false, not, _&&_, _||_, cond}
+use mathlib.Core.Bool.{Bool, true, false, not, _||_, cond}
 use mathlib.Core.List.{List, [], _∷_}
 use lib.Dec.{T, ltb}
 use lib.ListN.{length, getD}
@@ -13,9 +13,9 @@ use Rattle.gf.specs.Key.{key, bits-lt, key→le, lt→le, finite-no-nan}
 use Rattle.gf.specs.Exactly.{within-finite}
 use Rattle.definitions.specs.Lists.{pairs}
 use Rattle.gf.specs.Doubles.{storable, totalKey}
-use Rattle.definitions.specs.Doubles.{FiniteDouble, ascending, twoEqual, threeEqual}
+use Rattle.definitions.specs.Doubles.{FiniteDouble, ascending, twoEqual}
 use Rattle.definitions.specs.ClipSet.{anyUnstorable}
-use Rattle.set_laws.specs.Every.{Every, Chain, every-map, every-both, any-every, any-not-every, all-every, chain-at, chain-map, chain-both, pairs-chain}
+use Rattle.set_laws.specs.Every.{Every, Chain, every-map, every-both, any-every, any-not-every, all-every, chain-map, chain-both, pairs-chain}
 use Rattle.set_laws.specs.Places.{Fits, Le, Ascending}
 
 -- a double that fits its format and is of size 2^40 at most
@@ -92,15 +92,3 @@ module _ {A : Type 0} where
   pairs-at (x ∷ []) i d h = absurd (not-suc-le-zero (le-of-suc-le-suc h))
   pairs-at (x ∷ y ∷ ys) zero d h = refl
   pairs-at (x ∷ y ∷ ys) (suc i) d h = pairs-at (y ∷ ys) i d (le-of-suc-le-suc h)
-
--- of three neighbours two are unequal
-pub three-apart : (xs : List Float) → threeEqual xs ≡ false → Chain (λ (p q : Float × Float). (eq (p .0) (p .1) && eq (q .0) (q .1)) ≡ false) (pairs xs)
-three-apart xs e =
-    pairs-chain (λ (w : (Float × Float) × (Float × Float)). (eq (w .0 .0) (w .0 .1) && eq (w .1 .0) (w .1 .1)) ≡ false) (pairs xs)
-    (any-every (λ (w : (Float × Float) × (Float × Float)). eq (w .0 .0) (w .0 .1) && eq (w .1 .0) (w .1 .1)) (pairs (pairs xs)) e)
-
-pub three-apart-at : (xs : List Float) (i : ℕ) (d : Float) → threeEqual xs ≡ false → suc (suc i) < length xs → (eq (getD xs i d) (getD xs (suc i) d) && eq (getD xs (suc i) d) (getD xs (suc (suc i)) d)) ≡ false
-three-apart-at [] i d e h = absurd (not-suc-le-zero h)
-three-apart-at (x ∷ xs) i d e h =
-    rw (pairs-at (x ∷ xs) i d (omega arith), pairs-at (x ∷ xs) (suc i) d h) at
-    (chain-at (λ (p q : Float × Float). (eq (p .0) (p .1) && eq (q .0) (q .1)) ≡ false) (pairs (x ∷ xs)) i (d, d) (three-apart (x ∷ xs) e) (omega (arith, length-pairs x xs)))

@@ -86,9 +86,6 @@ pub told-none : (b : Bound) → b ≡ Nothing → Told b
 told-none b q = subst Told (sym q) tt
 
 module _ (h : Float) (told : T (isZero h) → ⊥) (fh : FiniteDouble h) (x : Float) (fx : FiniteDouble x) where
-  told-same : T (eq x h) → x ≡ h
-  told-same e = elim (same-or-zeros binary64 x h (fx .fitting) (fh .fitting) e) [ inl q ↦ q | inr z ↦ absurd (told (z .1)) ]
-
   told-order : key h ≤ key x → totalKey h ≤ totalKey x
   told-order k = elim (decLe (totalKey h) (totalKey x)) [
     | yes r ↦ r

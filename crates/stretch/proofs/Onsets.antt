@@ -18,11 +18,10 @@ use Rattle.definitions.specs.declared.Source.{Source}
 use Rattle.definitions.specs.declared.Source.the-variants.{Sample as sample}
 use Rattle.definitions.specs.Lists.{any}
 use Rattle.definitions.specs.Doubles.{FiniteDouble}
-use Rattle.definitions.specs.Explicit.{knot}
 use Rattle.definitions.specs.ClipSet.{ClipSet, stage}
 use Rattle.definitions.specs.Timing.{lastAtMost}
 use Rattle.definitions.specs.Samples.{Samples, clipBegin, clipEnd}
-use Rattle.definitions.specs.Value.{marked, says, valueInSet, directSource, gathered, inverse}
+use Rattle.definitions.specs.Value.{marked, says, valueInSet, directSource, gathered}
 use Rattle.definitions.specs.Track.{Entry, entryOf}
 use Rattle.set_laws.specs.Tests.{is-true, is-false, holds}
 use Rattle.set_laws.specs.Every.{Every, every-at, every-take, every-drop}
@@ -34,7 +33,6 @@ use Rattle.cell_laws.specs.Window.{gathered-fit}
 use Rattle.cell_laws.specs.Zeros.{zero-direct}
 use Rattle.cell_laws.specs.Unpacked.{Ready, setOf, samplesOf, knotsOf}
 use Rattle.window.specs.declared.Bound.the-variants.{At, Nothing}
-use Rattle.window.specs.declared.Bounds.{Bounds}
 use Rattle.window.specs.Bounds.{NeighboursAre}
 use Rattle.window.specs.Near.{Segment}
 use Rattle.window.specs.Parts.{partOf, last-short, ready-clip, ready-readable, ready-starts}
@@ -74,9 +72,6 @@ module _ {starts : List Float} {clips : List ℕ} {xs ys blocks : List Float} {m
 
   abbrev s : Samples
   s = samplesOf times values marks ends
-
-  abbrev c : ℕ
-  c = w .clip
 
   -- ---- the window's ends and its samples
 
@@ -235,10 +230,6 @@ module _ {starts : List Float} {clips : List ℕ} {xs ys blocks : List Float} {m
 
         at : p ≡ lastAtMost starts (ofKey j)
         at = sym (in-window (ofKey j) nj (omega (arith, H .begun, mu, kj)) (omega (arith, kj)))
-
-        -- held from its lower neighbour
-        bounds : Bounds
-        bounds = record { lower = At (H .m); upper = At (H .n) }
 
         finite-j : FiniteDouble (ofKey j)
         finite-j = record { fitting = ofKey-fits j; finitely = ofKey-finite j jl g }

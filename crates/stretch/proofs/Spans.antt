@@ -6,11 +6,11 @@ use Prim.Native.Nat.{ℕ, _+_, _-_, _≤_, _<_, min}
 use native.Mathlib.Nat.{le-of-eq}
 use native.Mathlib.Omega.{arith}
 use lib.Dec.{T}
-use lib.ListN.{length, getD, take, drop, length-drop}
+use lib.ListN.{length, getD, drop, length-drop}
 use lib.Seq.{getD-take, getD-drop, length-take-le}
 use lib.Ieee.{Float, le}
 use Rattle.gf.specs.Doubles.{0·0}
-use Rattle.gf.specs.Key.{ofKey, least, most, ofKey-fits, ofKey-mono}
+use Rattle.gf.specs.Key.{ofKey, ofKey-fits, ofKey-mono}
 use Rattle.gf.specs.Lerp.{Inside}
 use Rattle.definitions.specs.declared.Manifest.{Manifest}
 use Rattle.definitions.specs.declared.Source.{Source}
@@ -19,7 +19,7 @@ use Rattle.definitions.specs.Samples.{Samples, clipBegin, clipEnd, clipTimes}
 use Rattle.definitions.specs.Value.{marked, says, valueInSet}
 use Rattle.definitions.specs.Track.{Entry, entryOf}
 use Rattle.set_laws.specs.Every.{every-take, every-drop}
-use Rattle.set_laws.specs.Places.{Fits, Ascending}
+use Rattle.set_laws.specs.Places.{Fits}
 use Rattle.track_laws.specs.Laws.{Agree}
 use Rattle.cell_laws.specs.Direct.{SoundSet, SoundSamples}
 use Rattle.cell_laws.specs.Stretches.{Stretch, boundaries}
@@ -31,14 +31,14 @@ use Rattle.window.specs.Parts.{ready-readable, last-short}
 use Rattle.window.specs.declared.Bound.{Bound}
 use Rattle.steps.specs.declared.line.Line.{Line}
 use Rattle.steps.specs.Lines.{lineIs, placeOn}
-use Rattle.reading.specs.Readings.{Turns, Reads, readingAt}
+use Rattle.reading.specs.Readings.{Turns, readingAt}
 use Rattle.value.specs.Says.{saysIn, Sayable, says-ready, value-in}
 use Rattle.cell.specs.declared.Cell.{Cell}
 use Rattle.cell.specs.declared.Cell.the-variants.{Constant, Reading}
 use Rattle.cell.specs.Pieces.{cellIs, Sampled, PieceIs}
+use Rattle.cell.specs.EndKeys.{endKey}
 use Rattle.cell.proofs.Lent.{sound, samples}
-use Rattle.stop.specs.Stops.{endKey}
-use Rattle.stop.proofs.Halts.{hi-keys, hi-clear, same-place}
+use Rattle.cell.proofs.LastKeys.{hi-keys, hi-clear, same-place}
 use Rattle.stretch.specs.Runs.{part, Run, Runs, readOn, saysOn}
 
 -- ---- the place that a cell reads turns one way

@@ -6,6 +6,8 @@ pub mod fill;
 pub mod plain;
 
 use cell::Cell;
+use cell::end::end_key;
+use cell::end::lesser;
 use cell::piece_at;
 use cell::spot::Spot;
 use cell::spot::spot_at;
@@ -20,8 +22,6 @@ use steps::entry::Entry;
 use steps::entry::entry_of;
 use steps::line::Line;
 use steps::line::place_on;
-use stop::end_key;
-use stop::lesser;
 use value::value::says;
 use window::part::clip_begin;
 use window::part::clip_end;

@@ -8,7 +8,6 @@ use crate::words::after;
 use crate::words::closed;
 use crate::words::skip_blanks;
 ghost use Prim.Native.Nat.{_≤_};
-ghost use lib.ListN.{length};
 
 pub struct Listed {
     pub at: usize,

@@ -17,7 +17,6 @@ use Rattle.cell_laws.specs.Direct.{SoundSet, SoundSamples}
 use Rattle.cell_laws.specs.Keys.{Keys, entryAtKey}
 use Rattle.cell_laws.specs.Tracks.{SoundValues, entry-same, entries-alike}
 use Rattle.cell_laws.specs.Unpacked.{setOf, samplesOf}
-use Rattle.steps.specs.declared.entry.Entry as declared
 use Rattle.reading.specs.declared.walk.Went.{Went}
 use Rattle.reading.specs.Walks.{outputs, written, Room, Walked}
 use Rattle.reading.proofs.Walking.{Reaches}

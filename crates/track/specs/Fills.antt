@@ -1,11 +1,8 @@
 -- The walk over the changes of the value that stops when its outputs are full: where it stands, and what it promises. Assumes nothing.
-use mathlib.Core.Path.{_≡_, refl, sym, ap, _∙_}
-use mathlib.Core.Bool.{Bool, true, false}
+use mathlib.Core.Path.{_≡_, sym, ap, _∙_}
+use mathlib.Core.Bool.{true, false}
 use mathlib.Core.List.{List, _++_}
 use Prim.Native.Nat.{ℕ, _+_, _≤_, _<_}
-use native.Mathlib.Omega.{arith}
-use borrow.Author.Tests.{eq-eqb, ne-eqb}
-use lib.Dec.{eqb}
 use lib.ListN.{length, length-append}
 use lib.Ieee.{Float}
 use Rattle.definitions.specs.declared.Manifest.{Manifest}
@@ -56,11 +53,3 @@ module _ {starts : List Float} {clips : List ℕ} {xs ys blocks : List Float} {m
 
   pub passed-length : length (changesOf (setOf (length ends) starts clips xs ys blocks m) (samplesOf times values marks ends) from top) ≡ r .count + length (changesOf (setOf (length ends) starts clips xs ys blocks m) (samplesOf times values marks ends) (r .cursor .key) top)
   passed-length = ap length passed-first ∙ length-append (changesOf (setOf (length ends) starts clips xs ys blocks m) (samplesOf times values marks ends) from (r .cursor .key)) (changesOf (setOf (length ends) starts clips xs ys blocks m) (samplesOf times values marks ends) (r .cursor .key) top) ∙ ap (λ (n : ℕ). n + length (changesOf (setOf (length ends) starts clips xs ys blocks m) (samplesOf times values marks ends) (r .cursor .key) top)) (sym (P .count))
-
-  -- done exactly if all are passed
-  pub passed-done : r .done ≡ eqb (r .count) (length (changesOf (setOf (length ends) starts clips xs ys blocks m) (samplesOf times values marks ends) from top))
-  passed-done = go (r .done) refl
-    where
-      go : (b : Bool) → r .done ≡ b → b ≡ eqb (r .count) (length (changesOf (setOf (length ends) starts clips xs ys blocks m) (samplesOf times values marks ends) from top))
-      go true d = sym (eq-eqb (r .count) (length (changesOf (setOf (length ends) starts clips xs ys blocks m) (samplesOf times values marks ends) from top)) (P .count ∙ ap (λ (j : ℕ). length (changesOf (setOf (length ends) starts clips xs ys blocks m) (samplesOf times values marks ends) from j)) (P .whole d)))
-      go false d = sym (ne-eqb (r .count) (length (changesOf (setOf (length ends) starts clips xs ys blocks m) (samplesOf times values marks ends) from top)) (λ e. let a = P .more d in let l = passed-length in omega arith))

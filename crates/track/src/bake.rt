@@ -1,12 +1,12 @@
 // The bake: the head and the changes of the value, counted first and then written.
 use crate::count::has_room;
+use crate::entry::entry_at;
 use crate::fill::Cursor;
 use crate::fill::fill;
 use crate::fill::shortest;
 use cell::spot::no_spot;
 use definitions::Manifest;
 use near::tops::tops_of;
-use stop::entry::entry_at;
 ghost use lib.ListN.{length};
 ghost use Rattle.cell_laws.specs.Unpacked.{setOf, samplesOf, Ready};
 ghost use Rattle.track.specs.Bakes.{outputs, BakeIs};

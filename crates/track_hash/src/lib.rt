@@ -5,7 +5,7 @@ use lines::reply;
 use near::tops::tops_of;
 use standing::Counts;
 use steps::entry::Entry;
-use stop::entry::entry_at;
+use track::entry::entry_at;
 use track::fill::Cursor;
 use track::fill::Filled;
 use track::fill::fill;

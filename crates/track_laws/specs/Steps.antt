@@ -64,9 +64,6 @@ module _ {A : Type 0} {v : ℕ → A} where
   pub level-through : {f : ℕ → ℕ} → Through f v → (a b : ℕ) → Level f a b → Level v a b
   level-through t a b l k p q = t k a (l k p q)
 
-  pub step-stop : {f : ℕ → ℕ} {a top m : ℕ} → Through f v → StepAt f a top m → StopAt v a top m
-  step-stop {a = a} {m = m} t s = record { above = s .above; within = s .within; level = level-through t a (m - 1) (s .level) }
-
   -- v is still up to a, and further while it is level from there
   pub still-level : (k a b : ℕ) → k ≤ a → Still v k a → Level v a b → Still v k b
   still-level k a b h s g j p q = go (decLe j a)

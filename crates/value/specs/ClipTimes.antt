@@ -13,7 +13,7 @@ use Rattle.definitions.specs.Explicit.{knot}
 use Rattle.definitions.specs.Timing.{lastAtMost, lastKnot, onSegment, mapTime}
 use Rattle.set_laws.specs.Tests.{is-false, holds}
 use Rattle.set_laws.specs.Every.{zip-at}
-use Rattle.set_laws.specs.ClipTime.{last-knot-is}
+use Rattle.set_laws.specs.LastKnot.{last-knot-is}
 use Rattle.set_laws.specs.Places.{Ascending, beyond, up-to, last-is}
 use Rattle.cell_laws.specs.Places.{Fits}
 use Rattle.cell_laws.specs.Unpacked.{knotsOf, knot-times, zip-length}

@@ -13,8 +13,7 @@ use Rattle.definitions.specs.Explicit.{knot}
 use Rattle.definitions.specs.ClipSet.{clip}
 use Rattle.definitions.specs.Value.{onPair, inverse, spans, stageTimesForClipTime}
 use Rattle.set_laws.specs.Every.{Every, zip-at}
-use Rattle.cell_laws.specs.Every.{every-map, every-append, every-left, every-right, every-kept}
-use Rattle.cell_laws.specs.Gathers.{every-swap}
+use Rattle.cell_laws.specs.Every.{every-map, every-append, every-left, every-right, every-kept, every-swap}
 use Rattle.cell_laws.specs.Unpacked.{knotsOf, zip-length}
 use Rattle.lists.specs.Fronts.{front, no-front}
 use Rattle.window.specs.declared.Bounds.{Bounds}

@@ -1,6 +1,6 @@
 -- The pairs of neighbours from a place on, as a loop goes through them, and the jump test by the x alone. Assumes nothing.
-use mathlib.Core.Path.{_≡_, refl, ap, _∙_}
-use mathlib.Core.Bool.{Bool, true, false, _&&_, _||_}
+use mathlib.Core.Path.{_≡_, refl, ap}
+use mathlib.Core.Bool.{Bool, _&&_, _||_}
 use mathlib.Core.List.{List, [], _∷_}
 use Prim.Native.Nat.{ℕ, _+_, _≤_, _<_}
 use native.Mathlib.Omega.{arith}
@@ -25,17 +25,6 @@ module _ {A : Type 0} where
       go [] h = refl
       go (x ∷ []) h = refl
       go (x ∷ y ∷ k) h = absurd (omega arith)
-
--- a test of the pairs from i on
-module _ {A : Type 0} (p : A × A → Bool) (l : List A) (i : ℕ) (d : A) where
-  pub pair-here : i + 1 < length l → p (getD l i d, getD l (i + 1) d) ≡ true → any p (pairs (drop i l)) ≡ true
-  pair-here h e = ap (any p) (pairs-front l i d h) ∙ ap (λ (b : Bool). b || any p (pairs (drop (i + 1) l))) e
-
-  pub pair-later : i + 1 < length l → p (getD l i d, getD l (i + 1) d) ≡ false → any p (pairs (drop i l)) ≡ any p (pairs (drop (i + 1) l))
-  pair-later h e = ap (any p) (pairs-front l i d h) ∙ ap (λ (b : Bool). b || any p (pairs (drop (i + 1) l))) e
-
-  pub pair-end : length l ≤ i + 1 → any p (pairs (drop i l)) ≡ false
-  pair-end h = ap (any p) (pairs-end l i d h)
 
 -- ---- a jump
 

@@ -20,7 +20,7 @@ use Rattle.definitions.specs.Value.{contains, timeOr, window, startOf, contribu
 use Rattle.cell_laws.specs.Unpacked.{start, activeOf, knotsOf, setOf, samplesOf, zip-here, zip-length, knot-times, Ready}
 use Rattle.window.specs.declared.Bounds.{Bounds}
 use Rattle.window.specs.Parts.{partOf}
-use Rattle.window.specs.Bounds.{inside, withTime, nothing, Scanned, scanned-none, scanned-one, scanned-then}
+use Rattle.window.specs.Bounds.{inside, withTime, Scanned, scanned-none, scanned-one, scanned-then}
 use Rattle.window.specs.Inverses.{inversesOf}
 
 -- ---- the window

@@ -1,6 +1,6 @@
 -- `cell::piece_at` meets its contract: each way out has a law of cells. Assumes nothing.
 use mathlib.Core.Path.{sym, _∙_}
-use Prim.Native.Nat.{_≤_, _<_}
+use Prim.Native.Nat.{_<_}
 use native.Mathlib.Omega.{arith}
 use lib.ListN.{length}
 use Rattle.window.specs.Parts.{ready-readable}

@@ -3,10 +3,9 @@ use mathlib.Core.Path.{_≡_, refl, sym, subst}
 use mathlib.Core.Bool.{Bool, true, false, not, false≢true}
 use native.Mathlib.Omega.{arith}
 use lib.Dec.{T}
-use lib.Ieee.{Float, binary64, fits}
+use lib.Ieee.{binary64, fits}
 use denote.Ref.{now}
 use Rattle.gf.specs.Key.{le-no-nan, lt→le}
-use Rattle.window.specs.declared.Bound.{Bound}
 use Rattle.window.specs.Bounds.{LowerIs}
 use Rattle.near.specs.Windowed.{samplesIn, windowTimes}
 use Rattle.value.specs.ClipTimes.{OnSegment}

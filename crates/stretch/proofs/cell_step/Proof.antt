@@ -1,11 +1,10 @@
 -- `stretch::cell_step` meets its contract: the cell of k up to its end, and what it reads at k is the value. Assumes nothing.
-use mathlib.Core.Path.{_≡_, refl, sym, ap, _∙_, subst}
+use mathlib.Core.Path.{_≡_, sym, ap, _∙_, subst}
 use Prim.Native.Nat.{ℕ, _-_, min}
 use native.Mathlib.Omega.{arith}
 use lib.ListN.{length}
 use lib.Ieee.{Float}
 use Rattle.gf.specs.Key.{ofKey, ofKey-fits, ofKey-finite}
-use Rattle.definitions.specs.declared.Source.{Source}
 use Rattle.definitions.specs.Doubles.{FiniteDouble}
 use Rattle.definitions.specs.ClipSet.{ClipSet}
 use Rattle.definitions.specs.Samples.{Samples}
@@ -16,11 +15,11 @@ use Rattle.cell_laws.specs.Unpacked.{setOf, samplesOf}
 use Rattle.steps.specs.Entries.{entryIs}
 use Rattle.value.specs.Says.{saysIn, Sayable, ready-marks}
 use Rattle.cell.specs.Pieces.{PieceIs}
+use Rattle.cell.specs.EndKeys.{endKey}
 use Rattle.cell.specs.Spots.{SpotAt}
 use Rattle.cell.proofs.Lent.{sound, samples}
-use Rattle.stop.specs.Stops.{endKey}
-use Rattle.stop.proofs.Halts.{end-numbered, end-later}
-use Rattle.stretch.specs.Runs.{Runs, readOn, saysOn}
+use Rattle.cell.proofs.LastKeys.{end-numbered, end-later}
+use Rattle.stretch.specs.Runs.{Runs, saysOn}
 use Rattle.stretch.proofs.Spans.{span-keys, span-sayable, span-here, span-runs, span-says}
 use borrow.Author.Needs.{needs}
 use Rattle.stretch.proofs.cell_step.Statement.{statement}

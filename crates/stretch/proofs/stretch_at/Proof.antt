@@ -10,10 +10,9 @@ use Rattle.gf.specs.Key.{ofKey, ofKey-fits, ofKey-finite}
 use Rattle.definitions.specs.Doubles.{FiniteDouble}
 use Rattle.set_laws.specs.Tests.{holds, is-true}
 use Rattle.cell_laws.specs.Every.{both-l, both-r}
-use Rattle.value.specs.Handed.{WindowIs, window-lent, window-nears}
+use Rattle.value.specs.Handed.{window-lent, window-nears}
 use Rattle.cell.specs.Spots.{SpotAt}
 use Rattle.cell.proofs.Lent.{spot-window}
-use Rattle.onset.specs.declared.Onset.{Onset}
 use Rattle.onset.specs.Begins.{OnsetIs}
 use Rattle.stretch.proofs.Onsets.{window-least}
 use borrow.Author.Needs.{needs}

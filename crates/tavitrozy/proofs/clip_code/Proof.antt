@@ -1,5 +1,5 @@
 -- `tavitrozy::clip_code` meets its contract: each arm is given which case the reply is. Assumes nothing.
-use mathlib.Core.Path.{sym, ap, _∙_}
+use mathlib.Core.Path.{sym, ap}
 use borrow.Author.Needs.{needs}
 use Rattle.tavitrozy.specs.Codes.{clipCode}
 use Rattle.tavitrozy.proofs.clip_code.Statement.{statement}

@@ -1,5 +1,5 @@
 -- `tavitrozy::time_code` meets its contract: each arm is given which case the reply is. Assumes nothing.
-use mathlib.Core.Path.{sym, ap, _∙_}
+use mathlib.Core.Path.{sym, ap}
 use borrow.Author.Needs.{needs}
 use lib.Ieee.{ofBits}
 use Rattle.tavitrozy.specs.Codes.{timeCode}

@@ -9,12 +9,6 @@ use borrow.Author.Needs.{needs}
 use Rattle.normal_form.proofs.merging.write.Statement.{statement}
 use Rattle.normal_form.proofs.merging.write.Tie as tie
 
-abbrev entry : tie.Then1 → tie.Start
-entry c = c .before .before .before .before .before .before .before .before .before
-
-abbrev entry-room : tie.Else3 → tie.Start
-entry-room c = c .before .before .before .before .before .before .before .before .before .before .before
-
 abbrev lent : tie.Start → Outputs
 lent e = outputs (e .args .outtimes .now) (e .args .outvalues .now) (e .args .outmarks .now)
 

@@ -1,11 +1,8 @@
-// The value at a key, and the end of a cell by its key.
-
-pub mod entry;
-
+// The end of a cell by its key.
 use window::Bound;
 ghost use mathlib.Core.Path.{_≡_};
 ghost use Prim.Native.Nat.{min};
-ghost use Rattle.stop.specs.Stops.{Numbered, endKey};
+ghost use Rattle.cell.specs.EndKeys.{Numbered, endKey};
 
 pub fn lesser(a: u64, b: u64) -> u64
     ensures { λ r. ⌜ r ≡ min a b ⌝ }

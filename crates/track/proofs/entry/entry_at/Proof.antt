@@ -10,8 +10,8 @@ use Rattle.definitions.specs.Track.{entryOf}
 use Rattle.definitions.specs.Value.{valueInSet}
 use Rattle.cell_laws.specs.Unpacked.{setOf, samplesOf}
 use borrow.Author.Needs.{needs}
-use Rattle.stop.proofs.entry.entry_at.Statement.{statement}
-use Rattle.stop.proofs.entry.entry_at.Tie as tie
+use Rattle.track.proofs.entry.entry_at.Statement.{statement}
+use Rattle.track.proofs.entry.entry_at.Tie as tie
 
 of-key-requires : tie.Need-of-key-requires
 of-key-requires c κs = search needs

@@ -1,9 +1,9 @@
--- `change::end_key` meets its contract. Assumes nothing.
+-- `end::end_key` meets its contract. Assumes nothing.
 use mathlib.Core.Path.{sym, ap, _∙_, subst}
-use Rattle.stop.specs.Stops.{Numbered, endKey}
+use Rattle.cell.specs.EndKeys.{Numbered, endKey}
 use borrow.Author.Needs.{needs}
-use Rattle.stop.proofs.end_key.Statement.{statement}
-use Rattle.stop.proofs.end_key.Tie as tie
+use Rattle.cell.proofs.end.end_key.Statement.{statement}
+use Rattle.cell.proofs.end.end_key.Tie as tie
 
 enum-known-end : tie.Need-enum-known-end
 enum-known-end c = search needs

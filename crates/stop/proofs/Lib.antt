@@ -1,2 +1,0 @@
--- Laws that the proofs of src/ cite.
-pub mod Halts
