@@ -11,13 +11,14 @@ use Rattle.definitions.specs.ClipSet.{ClipSet, stage}
 use Rattle.definitions.specs.Samples.{Samples}
 use Rattle.definitions.specs.Value.{valueInSet}
 use Rattle.definitions.specs.Track.{Entry, alike, differs}
+use Rattle.definitions.proofs.Tracks.{alike-refl}
 use Rattle.track_laws.specs.Track.{Still, ChangeAt}
 use Rattle.track_laws.specs.Steps.{StopAt, Level, still-level, change-stop, still-stop}
 use Rattle.track_laws.specs.declared.Next.{Next}
 use Rattle.track_laws.specs.declared.Next.the-variants.{At, Nothing}
 use Rattle.cell_laws.specs.Direct.{SoundSet, SoundSamples}
 use Rattle.cell_laws.specs.Keys.{entryAtKey}
-use Rattle.cell_laws.specs.Tracks.{SoundValues, alike-refl, entries-alike, differs-changes, changes-differs}
+use Rattle.cell_laws.specs.Tracks.{SoundValues, entries-alike, differs-changes, changes-differs}
 
 -- the next change of v above k and up to top, or none
 abbrev pub NextOf : {A : Type 0} → (ℕ → A) → ℕ → ℕ → Next → Type 0
