@@ -1,14 +1,14 @@
 -- The track of the value over keys, of the crate `track_laws`, written out is the track of document 01; so there is one, and it is the only one. Assumes nothing.
 use mathlib.Core.Path.{_≡_, refl, sym, ap, ap₂, _∙_, subst}
 use mathlib.Core.Logic.{inl, inr, ⊎-elim}
-use mathlib.Core.Bool.{Bool, true, false, not, _||_, cond, Bool-discrete}
+use mathlib.Core.Bool.{Bool, true, false, not, cond, Bool-discrete}
 use mathlib.Core.List.{List, [], _∷_, map, List·Memᴰ, List·Memᴰ·head, List·Memᴰ·tail, List·Memᴰ·not-nil, List·Memᴰ·cases-cons}
 use Prim.Native.Nat.{ℕ, _+_, _-_, _≤_, _<_}
 use native.Mathlib.Nat.{le-of-eq}
 use native.Mathlib.Decide.{ℕ-discrete}
 use native.Mathlib.Omega.{arith}
 use lib.IntN.{ℤ, ℤ-discrete}
-use lib.Dec.{T, T-not, not-T, leb, eqb, eqb→eq, eqb-refl, lit≤}
+use lib.Dec.{T, T-not, not-T, leb, eqb, eqb→eq, lit≤}
 use lib.ListN.{getD}
 use lib.Ieee.{Float, nan, inf, fin, binary64, fits, isNan, eq, lt, le, toBits}
 use Rattle.gf.specs.Units.{same-bits}
@@ -23,8 +23,9 @@ use Rattle.definitions.specs.ClipSet.{ClipSet, markValue, stage}
 use Rattle.definitions.specs.Samples.{Samples, clipBegin}
 use Rattle.definitions.specs.declared.Source.{Source}
 use Rattle.definitions.specs.declared.Source.the-variants.{Sample as sample, Default as default, Blocked as blocked, Absent as absent}
-use Rattle.definitions.specs.Value.{says, valueSource, valueInSet}
+use Rattle.definitions.specs.Value.{marked, says, valueSource, valueInSet}
 use Rattle.definitions.specs.Track.{Entry, entryOf, alike, Change, Track, changeTimes, readTrack, readFrom, valueAt, differs, changeAt, IsChange, TrackOf}
+use Rattle.definitions.proofs.Tracks.{alike-refl}
 use Rattle.track_laws.specs.Track as steps
 use Rattle.track_laws.specs.Laws.{held-low, held-rest, rising-has, track-of, track-unique}
 use Rattle.set_laws.specs.Every.{Every}
@@ -49,26 +50,23 @@ zero-fits : Fits 0·0
 unfolding fits
 zero-fits = tt
 
+pub marked-fits : (vs : List Float) → Every Fits vs → (mark at : ℕ) → ValueFits (marked mark (getD vs at 0·0))
+marked-fits vs f mark at = go (eqb mark markValue)
+  where
+    go : (b : Bool) → ValueFits (cond b (Value (getD vs at 0·0)) Blocked)
+    go true = every-getD Fits vs at 0·0 f zero-fits
+    go false = tt
+
 value-fits : (set : ClipSet) (s : Samples) → SoundValues set s → (r : Source) → ValueFits (says set s r)
 unfolding says
-value-fits set s F (sample c i) = go (eqb (getD (s .marks) (clipBegin (s .ends) c + i) 0) markValue)
-  where
-    go : (b : Bool) → ValueFits (cond b (Value (getD (s .values) (clipBegin (s .ends) c + i) 0·0)) Blocked)
-    go true = every-getD Fits (s .values) (clipBegin (s .ends) c + i) 0·0 (F .values) zero-fits
-    go false = tt
+value-fits set s F (sample c i) = let at = clipBegin (s .ends) c + i in marked-fits (s .values) (F .values) (getD (s .marks) at 0) at
 value-fits set s F default = F .default
 value-fits set s F blocked = tt
 value-fits set s F absent = tt
 
-pub alike-refl : (e : Entry) → T (alike e e)
-unfolding alike
-alike-refl e =
-    let b = toBits binary64 (e .value) in
-    both (eqb (e .mark) (e .mark)) (not (eqb (e .mark) markValue) || eqb b b) (eqb-refl (e .mark)) (or-r (not (eqb (e .mark) markValue)) (eqb b b) (eqb-refl b))
-
-pub alike-same : (a b : Answer) → ValueFits a → ValueFits b → T (alike (entryOf a) (entryOf b)) → a ≡ b
+pub alike-same : (a b : Answer) → ValueFits a → ValueFits b → T (alike (entryOf a) (entryOf b)) → entryOf a ≡ entryOf b
 unfolding alike entryOf
-alike-same (Value v) (Value w) f g h = ap Value (same-bits binary64 v w f g (eqb→eq (toBits binary64 v) (toBits binary64 w) h))
+alike-same (Value v) (Value w) f g h = ap (λ (x : Float). entryOf (Value x)) (same-bits binary64 v w f g (eqb→eq (toBits binary64 v) (toBits binary64 w) h))
 alike-same (Value v) Blocked f g h = absurd h
 alike-same (Value v) Absent f g h = absurd h
 alike-same Blocked (Value w) f g h = absurd h
@@ -197,7 +195,7 @@ written-each P (d ∷ cs) h c m = ⊎-elim (λ e. subst P (sym e) (h .0)) (λ n.
 module _ (set : ClipSet) (s : Samples) (S : SoundSet set) (A : SoundSamples s) (F : SoundValues set s) where
   pub entries-alike : (a b : StageTime) → T (alike (entryOf (valueInSet set s a)) (entryOf (valueInSet set s b))) → entryOf (valueInSet set s a) ≡ entryOf (valueInSet set s b)
   unfolding valueInSet
-  entries-alike a b h = ap entryOf (alike-same (says set s (valueSource set s a)) (says set s (valueSource set s b)) (value-fits set s F (valueSource set s a)) (value-fits set s F (valueSource set s b)) h)
+  entries-alike a b h = alike-same (says set s (valueSource set s a)) (says set s (valueSource set s b)) (value-fits set s F (valueSource set s a)) (value-fits set s F (valueSource set s b)) h
 
   -- 01's difference at a finite double is a change at its key
   pub differs-changes : (t : Float) → FiniteDouble t → T (differs (valueInSet set s) t) → steps.ChangesAt (entryAtKey set s) (key t)

@@ -5,11 +5,12 @@ use mathlib.Core.List.{List, [], _∷_, reverse, reverse-append}
 use mathlib.Core.Option.{Option, none, some}
 use Prim.Native.Nat.{ℕ, suc, _+_, _-_, _≤_, _<_}
 use native.Mathlib.Omega.{arith}
-use lib.ListN.{length, getD, take, drop, length-drop}
-use lib.Seq.{take-suc, length-take-le}
+use lib.ListN.{length, getD, take, drop}
+use lib.Seq.{take-suc}
 use lib.Ieee.{Float, nan, eq}
 use Rattle.definitions.specs.declared.Manifest.{Manifest}
 use Rattle.definitions.specs.declared.Start.{Start}
+use Rattle.definitions.specs.declared.Answer.{Answer}
 use Rattle.definitions.specs.declared.Source.{Source}
 use Rattle.definitions.specs.declared.Source.the-variants.{Sample as sample}
 use Rattle.definitions.specs.Lists.{any}
@@ -20,6 +21,8 @@ use Rattle.definitions.specs.Value.{blockedAt, sampleOf, readClip, firstReading
 use Rattle.cell_laws.specs.Unpacked.{start, activeOf, knotsOf, setOf, samplesOf, Ready}
 use Rattle.lists.specs.Fronts.{front, no-front}
 use Rattle.window.specs.Parts.{partOf, Readable, ready-active, ready-start}
+use Rattle.look.specs.Reads.{markedAt, told, heldReading, place-none, place-some}
+use Rattle.look.specs.Reads as look
 use Rattle.direct.specs.declared.Reading.{Reading}
 use Rattle.direct.specs.declared.Reading.the-variants.{Of, Nothing}
 
@@ -35,26 +38,37 @@ readPart xs ys times ends c t = sampleOf c (heldPlace (partOf times ends c) (cli
 
 module _ (xs ys times : List Float) (ends : List ℕ) (c : ℕ) (t : Float) where
   pub read-none : clipBegin ends c ≡ clipEnd ends c → none ≡ readPart xs ys times ends c t
-  unfolding heldPlace
-  read-none e = sym (ap (λ (l : List Float). sampleOf c (heldPlace l (clip (mapTime (knotsOf xs ys) t)))) (empty (clipEnd ends c) (clipBegin ends c) e) ∙ nothing)
-    where
-      nothing : sampleOf c (heldPlace [] (clip (mapTime (knotsOf xs ys) t))) ≡ none
-      nothing = refl
-
-      empty : (e b : ℕ) → b ≡ e → take (e - b) (drop b times) ≡ []
-      empty e b q = let z : e - b ≡ 0 = omega arith in rw z
+  read-none e = ap (sampleOf c) (place-none times (clipBegin ends c) (clipEnd ends c) (mapTime (knotsOf xs ys) t) e)
 
   pub read-some : Readable xs ys times ends → c < length ends → (clipBegin ends c ≡ clipEnd ends c → ⊥)
       → some (sample c (lastAtMost (partOf times ends c) (mapTime (knotsOf xs ys) t))) ≡ readPart xs ys times ends c t
-  unfolding heldPlace
-  read-some R h n = sym (ap (sampleOf c) (held (partOf times ends c) long))
-    where
-      long : 0 < length (partOf times ends c)
-      long = rw (length-take-le (clipEnd ends c - clipBegin ends c) (drop (clipBegin ends c) times) (omega (arith, length-drop (clipBegin ends c) times, R .inside c h))) (omega (arith, R .from c h, n))
+  read-some R h n = ap (sampleOf c) (place-some times (clipBegin ends c) (clipEnd ends c) (mapTime (knotsOf xs ys) t) (omega (arith, R .from c h, n)) (R .inside c h))
 
-      held : (l : List Float) → 0 < length l → heldPlace l (clip (mapTime (knotsOf xs ys) t)) ≡ some (lastAtMost l (mapTime (knotsOf xs ys) t))
-      held [] h = absurd (omega arith)
-      held (x ∷ l) h = refl
+-- its place, with what the sample there says
+abbrev pub heldPart : List Float → List Float → List Float → List Float → List ℕ → List ℕ → ℕ → Float → Option (ℕ × Answer)
+heldPart xs ys times values marks ends c t = heldReading times values marks (clipBegin ends c) (clipEnd ends c) (mapTime (knotsOf xs ys) t)
+
+module _ (xs ys times values : List Float) (marks ends : List ℕ) (c : ℕ) (t : Float) where
+  pub part-read : (i : ℕ) (a : Answer) → some (i, a) ≡ heldPart xs ys times values marks ends c t → some (sample c i) ≡ readPart xs ys times ends c t
+  part-read i a e = go (heldPlace (partOf times ends c) (clip (mapTime (knotsOf xs ys) t))) e
+    where
+      go : (o : Option ℕ) → some (i, a) ≡ told values marks (clipBegin ends c) o → some (sample c i) ≡ sampleOf c o
+      go none e = let z : _≡_ {A = ℕ} 0 1 = cc in absurd (omega arith)
+      go (some j) e = let z : _≡_ {A = ℕ × Answer} (i, a) (j, markedAt values marks (clipBegin ends c + j)) = cc in ap (λ (x : ℕ × Answer). some (sample c (x .0))) z
+
+  pub part-none : none ≡ heldPart xs ys times values marks ends c t → none ≡ readPart xs ys times ends c t
+  part-none e = go (heldPlace (partOf times ends c) (clip (mapTime (knotsOf xs ys) t))) e
+    where
+      go : (o : Option ℕ) → none ≡ told values marks (clipBegin ends c) o → none ≡ sampleOf c o
+      go none e = refl
+      go (some j) e = let z : _≡_ {A = ℕ} 0 1 = cc in absurd (omega arith)
+
+  -- a clip's two ends, as a look asks for them
+  pub part-looked : Readable xs ys times ends → c < length ends → length values ≡ length times → length marks ≡ length times
+      → (begin end : ℕ) → begin ≡ clipBegin ends c → end ≡ clipEnd ends c → look.Readable times values marks begin end
+  part-looked R h v m begin end p q =
+      let i = R .inside c h in
+      rw (p, q) (record { from = R .from c h; inside = i; rising = R .rising c h; values-reach = omega arith; marks-reach = omega arith })
 
 -- ---- a start as the search for a missing value sees it
 

@@ -2,6 +2,7 @@
 
 use definitions::Manifest;
 use definitions::Source;
+use look::Held;
 use window::part::clip_begin;
 use window::part::clip_end;
 ghost use mathlib.Core.Path.{_≡_};
@@ -14,7 +15,8 @@ ghost use Rattle.definitions.specs.Lists.{any};
 ghost use Rattle.definitions.specs.Value.{_orElse_, firstReading, manifestDefault, gapSource};
 ghost use Rattle.cell_laws.specs.Unpacked.{start, activeOf, setOf, samplesOf, Ready};
 ghost use Rattle.window.specs.Parts.{Readable};
-ghost use Rattle.direct.specs.Reads.{readingIs, readPart, readStart};
+ghost use Rattle.look.specs.Reads.{heldIs};
+ghost use Rattle.direct.specs.Reads.{readingIs, heldPart, readStart};
 
 // A sample that is read: its clip, and its place counted from the clip's first.
 pub enum Reading {
@@ -55,19 +57,28 @@ pub fn contributes(blocks: &[f64], m: Manifest, start: f64) -> bool
     true
 }
 
-// The held reading of a clip at the clip time of `t`, nothing for a clip without samples.
-pub fn read_clip(xs: &[f64], ys: &[f64], times: &[f64], ends: &[u64], clip: u64, t: f64) -> Reading
+// The held reading of a clip at the clip time of `t`, nothing for a clip without samples, for which no clip time is searched.
+pub fn read_clip(
+    xs: &[f64],
+    ys: &[f64],
+    times: &[f64],
+    values: &[f64],
+    marks: &[u8],
+    ends: &[u64],
+    clip: u64,
+    t: f64,
+) -> Held
     requires { ⌜ Readable (now xs) (now ys) (now times) (now ends) ⌝ ∗ ⌜ clip < length (now ends) ⌝ }
-    ensures { λ r. ⌜ readingIs r ≡ readPart (now (xs .entry)) (now (ys .entry)) (now (times .entry)) (now (ends .entry)) clip t ⌝ }
+    requires { ⌜ length (now values) ≡ length (now times) ⌝ ∗ ⌜ length (now marks) ≡ length (now times) ⌝ }
+    ensures { λ r. ⌜ heldIs r ≡ heldPart (now (xs .entry)) (now (ys .entry)) (now (times .entry)) (now (values .entry)) (now (marks .entry)) (now (ends .entry)) clip t ⌝ }
 {
     let begin = clip_begin(ends, clip);
     let end = clip_end(ends, clip);
     if begin == end {
-        return Reading::Nothing;
+        return Held::Nothing;
     }
     let c = lists::map_time(xs, ys, t);
-    let place = lists::last_at_most(&times[begin..end], c);
-    Reading::Of(clip, place as u64)
+    look::read_clip(times, values, marks, begin, end, c)
 }
 
 // What a start gives to the search: the reading of its clip at its own clip time, unless a block equals the start.
@@ -91,7 +102,11 @@ fn read_start(
     if blocked_at(blocks, time) {
         return Reading::Nothing;
     }
-    read_clip(xs, ys, times, ends, clips[i], time)
+    let clip = clips[i];
+    let Held::At(place, _) = read_clip(xs, ys, times, values, marks, ends, clip, time) else {
+        return Reading::Nothing;
+    };
+    Reading::Of(clip, place as u64)
 }
 
 // The nearest reading of a start before the place `p`.

@@ -71,10 +71,13 @@ module _ (κs : Lfts 3) (d : Look) where
   Lent X = fsep OwnTimes (fsep OwnValues (fsep OwnMarks X))
 
   module _ {M : Type 1} (𝓤 : URA M) (H : Heap 𝓤) (A : Atoms 𝓤) (W : Given 𝓤 H A) where
+    pub twice : ent 𝓤 (sem 𝓤 H A Own) (sep 𝓤 (sem 𝓤 H A Own) (sem 𝓤 H A Own))
+    twice = LL.copy (D κs) (T′.the-copy (namedLft 3 0 tt κs) (namedLft 3 1 tt κs) (namedLft 3 2 tt κs)) 𝓤 H A W .twice d (T′.lowered d ∷ [])
+
     pub opened : ent 𝓤 (sem 𝓤 H A Own) (sep 𝓤 (sem 𝓤 H A (all-own (D κs .parts) (L κs) fields)) (sem 𝓤 H A Own))
     opened =
         qed W (‵ Own ∷ []) ∵
-        use1 W (‵ Own ⊛ ‵ Own) (LL.copy (D κs) (T′.the-copy (namedLft 3 0 tt κs) (namedLft 3 1 tt κs) (namedLft 3 2 tt κs)) 𝓤 H A W .twice d (T′.lowered d ∷ [])) $ split ! $
+        use1 W (‵ Own ⊛ ‵ Own) twice $ split ! $
         use1 W (given (T′.lowered d ∷ [] ≡ T′.lowered d ∷ []) (‵ (all-own (D κs .parts) (L κs) fields))) (own-open 𝓤 H A W (D κs) (L κs) fields (T′.lowered d)) $ learn ! (λ _.
         frame ! $ done !)
 

@@ -1,3 +1,2 @@
--- What the contracts cite, and the same in the definitions' terms.
+-- What the contracts cite.
 pub mod Reads
-pub mod Clips

@@ -1,7 +1,7 @@
 -- A clip's part of the lent lists by its two ends, and what is read of it. Assumes nothing.
 use Prim.Native.Nat.{ℕ, zero, suc, _+_, _-_, _≤_, _<_}
 use native.Mathlib.Omega.{arith}
-use mathlib.Core.Path.{_≡_, refl, sym}
+use mathlib.Core.Path.{_≡_, refl, ap, _∙_}
 use mathlib.Core.List.{List, [], _∷_}
 use mathlib.Core.Option.{Option, none, some}
 use lib.ListN.{length, getD, take, drop, length-drop}
@@ -10,7 +10,7 @@ use lib.Dec.{T}
 use lib.Ieee.{Float, nan, binary64, fits}
 use borrow.Author.Tests.{ne-eqb}
 use Rattle.definitions.specs.declared.Answer.{Answer}
-use Rattle.definitions.specs.declared.Answer.the-variants.{Value, Blocked, Absent}
+use Rattle.definitions.specs.declared.Answer.the-variants.{Value, Blocked}
 use Rattle.definitions.specs.ClipSet.{clip}
 use Rattle.definitions.specs.Timing.{lastAtMost}
 use Rattle.definitions.specs.Samples.{heldPlace}
@@ -24,63 +24,72 @@ use Rattle.look.specs.declared.Held.the-variants.{At, Nothing}
 abbrev pub part : List Float → ℕ → ℕ → List Float
 part times begin end = take (end - begin) (drop begin times)
 
--- ends between which a held reading finds its place
-pub record Searchable (times : List Float) (begin end : ℕ) : Type 0 where
-  pub from : begin ≤ end
-  pub inside : end ≤ length times
-  pub rising : Ascending (part times begin end)
-
 -- a place that both lists have
 pub record Inside (values : List Float) (marks : List ℕ) (at : ℕ) : Type 0 where
   pub value : at < length values
   pub mark : at < length marks
 
--- ends between which each place has its value and its mark
+-- ends between which a held reading finds its place, which has a value and a mark
 pub record Readable (times values : List Float) (marks : List ℕ) (begin end : ℕ) : Type 0 where
-  pub search : Searchable times begin end
+  pub from : begin ≤ end
+  pub inside : end ≤ length times
+  pub rising : Ascending (part times begin end)
   pub values-reach : end ≤ length values
   pub marks-reach : end ≤ length marks
-
--- a place of the code, in the definitions' terms
-abbrev pub heldIs : Held → Option ℕ
-heldIs (At i) = some i
-heldIs Nothing = none
 
 -- what the sample at a place of the lists says
 abbrev pub markedAt : List Float → List ℕ → ℕ → Answer
 markedAt values marks at = marked (getD marks at 0) (getD values at 0·0)
 
--- what the sample at a place counted from the clip's first says, and absent where there is none
-abbrev pub heldAnswer : List Float → List ℕ → ℕ → Option ℕ → Answer
-heldAnswer values marks begin none = Absent
-heldAnswer values marks begin (some i) = markedAt values marks (begin + i)
+-- a held reading of the code: a place and an answer, or none
+abbrev pub heldIs : Held → Option (ℕ × Answer)
+heldIs (At i a) = some (i, a)
+heldIs Nothing = none
+
+-- a place counted from the clip's first sample, with what the sample there says
+abbrev pub told : List Float → List ℕ → ℕ → Option ℕ → Option (ℕ × Answer)
+told values marks begin none = none
+told values marks begin (some i) = some (i, markedAt values marks (begin + i))
+
+-- the held reading at the clip time t of the samples from one end to the other
+abbrev pub heldReading : List Float → List Float → List ℕ → ℕ → ℕ → Float → Option (ℕ × Answer)
+heldReading times values marks begin end t = told values marks begin (heldPlace (part times begin end) (clip t))
 
 -- ---- what the code finds
 
 module _ (times : List Float) (begin end : ℕ) (t : Float) where
-  pub held-none : begin ≡ end → none ≡ heldPlace (part times begin end) (clip t)
+  pub place-none : begin ≡ end → none ≡ heldPlace (part times begin end) (clip t)
   unfolding heldPlace
-  held-none e = let z : end - begin ≡ 0 = omega arith in rw z
+  place-none e = let z : end - begin ≡ 0 = omega arith in rw z
 
-  part-length : Searchable times begin end → length (part times begin end) ≡ end - begin
-  part-length s = length-take-le (end - begin) (drop begin times) (omega (arith, length-drop begin times, s .inside))
+  part-length : end ≤ length times → length (part times begin end) ≡ end - begin
+  part-length h = length-take-le (end - begin) (drop begin times) (omega (arith, length-drop begin times))
 
-  pub held-some : Searchable times begin end → (begin ≡ end → ⊥) → some (lastAtMost (part times begin end) t) ≡ heldPlace (part times begin end) (clip t)
+  pub place-some : begin < end → end ≤ length times → some (lastAtMost (part times begin end) t) ≡ heldPlace (part times begin end) (clip t)
   unfolding heldPlace
-  held-some s n = sym (held (part times begin end) (omega (arith, part-length s, s .from, n)))
+  place-some h k = held (part times begin end) (omega (arith, part-length k))
     where
-      held : (l : List Float) → 0 < length l → heldPlace l (clip t) ≡ some (lastAtMost l t)
+      held : (l : List Float) → 0 < length l → some (lastAtMost l t) ≡ heldPlace l (clip t)
       held [] h = absurd (omega arith)
       held (x ∷ l) h = refl
 
-  -- the place of a held reading lies before the end
-  pub held-inside : T (fits binary64 t) → Searchable times begin end → (i : ℕ) → some i ≡ heldPlace (part times begin end) (clip t) → begin + i < end
-  unfolding heldPlace
-  held-inside ft s i e = omega (arith, part-length s, below (part times begin end) (s .rising) e)
-    where
-      below : (l : List Float) → Ascending l → some i ≡ heldPlace l (clip t) → i < length l
-      below [] a e = let z : _≡_ {A = ℕ} 0 1 = cc in absurd (omega arith)
-      below (x ∷ l) a e = let z : i ≡ lastAtMost (x ∷ l) t = cc in omega (arith, last-inside t ft (x ∷ l) a (omega arith))
+module _ (times values : List Float) (marks : List ℕ) (begin end : ℕ) (t : Float) where
+  pub held-none : begin ≡ end → none ≡ heldReading times values marks begin end t
+  held-none e = ap (told values marks begin) (place-none times begin end t e)
+
+  module _ (R : Readable times values marks begin end) (n : begin ≡ end → ⊥) (i : ℕ) (e : i ≡ lastAtMost (part times begin end) t) where
+    less : begin < end
+    less = omega (arith, R .from, n)
+
+    pub held-some : some (i, markedAt values marks (begin + i)) ≡ heldReading times values marks begin end t
+    held-some = ap (λ (j : ℕ). told values marks begin (some j)) e ∙ ap (told values marks begin) (place-some times begin end t less (R .inside))
+
+    -- the place lies before the end
+    pub held-inside : T (fits binary64 t) → Inside values marks (begin + i)
+    held-inside ft =
+        let l = part-length times begin end t (R .inside) in
+        let h : begin + i < end = omega (arith, less, last-inside t ft (part times begin end) (R .rising) (omega (arith, less))) in
+        record { value = omega (arith, R .values-reach); mark = omega (arith, R .marks-reach) }
 
 -- a place that a list has holds the same whatever stands in for one that it has not
 unlike : (l : List Float) (i : ℕ) (d e : Float) → i < length l → getD l i d ≡ getD l i e

@@ -2,9 +2,7 @@
 use definitions::Answer;
 ghost use mathlib.Core.Path.{_≡_};
 ghost use Prim.Native.Nat.{_+_};
-ghost use Rattle.definitions.specs.ClipSet.{clip};
-ghost use Rattle.definitions.specs.Samples.{heldPlace};
-ghost use Rattle.look.specs.Reads.{part, Searchable, Inside, Readable, heldIs, markedAt, heldAnswer};
+ghost use Rattle.look.specs.Reads.{Inside, Readable, markedAt, heldIs, heldReading};
 
 // The borrow checker covers no function over a struct that holds references, so those below only take the look apart,
 // and leave the work to a covered function of plain lists. Each list has a lifetime of its own, as its lender has.
@@ -16,21 +14,10 @@ pub struct Look<'t, 'v, 'm> {
     pub end: usize,
 }
 
-// The place of a held reading, counted from the clip's first sample; nothing in a clip without samples.
+// A held reading: the place of its sample, counted from the clip's first, and what the sample says; nothing in a clip without samples.
 pub enum Held {
-    At(usize),
+    At(usize, Answer),
     Nothing,
-}
-
-// The held reading at the clip time `t`, of the times from `begin` to `end`.
-fn held_place(times: &[f64], begin: usize, end: usize, t: f64) -> Held
-    requires { ⌜ Searchable (now times) begin end ⌝ }
-    ensures { λ r. ⌜ heldIs r ≡ heldPlace (part (now (times .entry)) begin end) (clip t) ⌝ }
-{
-    if begin == end {
-        return Held::Nothing;
-    }
-    Held::At(lists::last_at_most(&times[begin..end], t))
 }
 
 // What the sample at a place behind `begin` says. A block read is a reading.
@@ -43,6 +30,26 @@ fn marked_at(values: &[f64], marks: &[u8], begin: usize, place: usize) -> Answer
         return Answer::Value(values[at]);
     }
     Answer::Blocked
+}
+
+// The held reading at the clip time `t`, of the samples from `begin` to `end`.
+fn held_reading(
+    times: &[f64],
+    values: &[f64],
+    marks: &[u8],
+    begin: usize,
+    end: usize,
+    t: f64,
+) -> Held
+    requires { ⌜ Readable (now times) (now values) (now marks) begin end ⌝ }
+    ensures { λ r. ⌜ heldIs r ≡ heldReading (now (times .entry)) (now (values .entry)) (now (marks .entry)) begin end t ⌝ }
+{
+    if begin == end {
+        return Held::Nothing;
+    }
+    let place = lists::last_at_most(&times[begin..end], t);
+    let answer = marked_at(values, marks, begin, place);
+    Held::At(place, answer)
 }
 
 // A look at the samples from `begin` to `end`.
@@ -65,12 +72,12 @@ pub fn over<'t, 'v, 'm>(
 }
 
 impl<'t, 'v, 'm> Look<'t, 'v, 'm> {
-    // The place of the held reading at the clip time `t`.
-    pub fn place(self, t: f64) -> Held
-        requires { ⌜ Searchable (now (self .times)) (self .begin) (self .end) ⌝ }
-        ensures { λ r. ⌜ heldIs r ≡ heldPlace (part (now (self .entry .times)) (self .entry .begin) (self .entry .end)) (clip t) ⌝ }
+    // The held reading at the clip time `t`.
+    pub fn read(self, t: f64) -> Held
+        requires { ⌜ Readable (now (self .times)) (now (self .values)) (now (self .marks)) (self .begin) (self .end) ⌝ }
+        ensures { λ r. ⌜ heldIs r ≡ heldReading (now (self .entry .times)) (now (self .entry .values)) (now (self .entry .marks)) (self .entry .begin) (self .entry .end) t ⌝ }
     {
-        held_place(self.times, self.begin, self.end, t)
+        held_reading(self.times, self.values, self.marks, self.begin, self.end, t)
     }
 
     // What the sample at a place of the clip says.
@@ -82,8 +89,8 @@ impl<'t, 'v, 'm> Look<'t, 'v, 'm> {
     }
 }
 
-// The place of the held reading at the clip time `t`, in the clip from `begin` to `end`.
-pub fn place_in(
+// The held reading at the clip time `t`, in the clip from `begin` to `end`.
+pub fn read_clip(
     times: &[f64],
     values: &[f64],
     marks: &[u8],
@@ -91,10 +98,10 @@ pub fn place_in(
     end: usize,
     t: f64,
 ) -> Held
-    requires { ⌜ Searchable (now times) begin end ⌝ }
-    ensures { λ r. ⌜ heldIs r ≡ heldPlace (part (now (times .entry)) begin end) (clip t) ⌝ }
+    requires { ⌜ Readable (now times) (now values) (now marks) begin end ⌝ }
+    ensures { λ r. ⌜ heldIs r ≡ heldReading (now (times .entry)) (now (values .entry)) (now (marks .entry)) begin end t ⌝ }
 {
-    over(times, values, marks, begin, end).place(t)
+    over(times, values, marks, begin, end).read(t)
 }
 
 // What the sample at a place of the clip from `begin` to `end` says.
@@ -110,22 +117,4 @@ pub fn answer_in(
     ensures { λ r. ⌜ r ≡ markedAt (now (values .entry)) (now (marks .entry)) (begin + place) ⌝ }
 {
     over(times, values, marks, begin, end).answer(place)
-}
-
-// A clip's held reading at the clip time `t`: what its sample says, and absent in a clip without samples.
-pub fn read_clip(
-    times: &[f64],
-    values: &[f64],
-    marks: &[u8],
-    begin: usize,
-    end: usize,
-    t: f64,
-) -> Answer
-    requires { ⌜ Readable (now times) (now values) (now marks) begin end ⌝ }
-    ensures { λ r. ⌜ r ≡ heldAnswer (now (values .entry)) (now (marks .entry)) begin (heldPlace (part (now (times .entry)) begin end) (clip t)) ⌝ }
-{
-    let Held::At(place) = place_in(times, values, marks, begin, end, t) else {
-        return Answer::Absent;
-    };
-    answer_in(times, values, marks, begin, end, place)
 }

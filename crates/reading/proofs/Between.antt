@@ -1,35 +1,33 @@
 -- A run of samples that are passed in one segment: between two inverse times what is read stays, at each it is what the line gives there. Assumes nothing.
 use mathlib.Core.Path.{_≡_, refl, sym, ap, _∙_, subst}
-use mathlib.Core.Bool.{Bool, true, false, cond}
+use mathlib.Core.Bool.{Bool, cond}
 use mathlib.Core.List.{List, [], _∷_, _++_}
 use Prim.Native.Nat.{ℕ, zero, suc, _-_, _≤_, _<_}
 use native.Mathlib.Omega.{arith}
 use native.Mathlib.Decide.{decLe}
-use lib.Dec.{T, eqb}
+use lib.Dec.{T}
 use lib.ListN.{length, getD}
-use lib.Ieee.{Float, nan, fits, le, eq}
+use lib.Ieee.{Float, nan, le, eq}
 use Rattle.gf.specs.Key.{key, ofKey, least, most, key-ofKey, ofKey-fits, ofKey-no-nan, ofKey-mono, le→key, key→le, key→eq, le-trans, le-no-nan}
-use Rattle.gf.specs.Doubles.{0·0}
-use Rattle.definitions.specs.declared.Answer.the-variants.{Value, Blocked}
 use Rattle.definitions.specs.declared.Knot.{Knot}
 use Rattle.definitions.specs.Lists.{any, gather}
 use Rattle.definitions.specs.Value.{spans, inverse, onPair, greatest}
-use Rattle.definitions.specs.Track.{Entry, entryOf, alike}
+use Rattle.definitions.specs.Track.{Entry}
 use Rattle.set_laws.specs.Tests.{is-true}
 use Rattle.set_laws.specs.Every.{Every, every-map}
 use Rattle.set_laws.specs.Places.{Fits}
 use Rattle.track_laws.specs.Steps.{Level}
-use Rattle.cell_laws.specs.Every.{every-getD, or-l, or-r}
+use Rattle.cell_laws.specs.Every.{or-l, or-r}
 use Rattle.cell_laws.specs.Ends.{Number}
 use Rattle.cell_laws.specs.Keys.{none-passed}
 use Rattle.cell_laws.specs.Neighbours.{IsLower}
 use Rattle.cell_laws.specs.Places.{keep-le-same}
-use Rattle.cell_laws.specs.Tracks.{alike-same}
 use Rattle.window.specs.Inverses.{onSegment}
 use Rattle.steps.specs.Lines.{placeOn}
-use Rattle.reading.specs.Readings.{Reads, entryAt, readingAt}
+use Rattle.reading.specs.Readings.{readingAt}
 use Rattle.reading.specs.Passages.{lineOn, passedBy, passingAt, Passing, spanned, inverseKey, PassedAt, segment-fits, passing-lower}
 use Rattle.reading.proofs.Passages.{span-number}
+use Rattle.reading.proofs.Readings.{entry-alike}
 use Rattle.reading.proofs.Walking.{Reaches}
 
 -- ---- a sample's inverse time is one of the segment's
@@ -45,26 +43,6 @@ any-time p q (c ∷ cs) zero l s h =
     subst (λ (b : Bool). T (any p (cond b (inverse (q .0) (q .1) c ∷ []) [] ++ gather (λ (x : Float). onPair x q) cs))) (sym (is-true (spans (q .0 .y) (q .1 .y) c) s))
     (or-l (p (inverse (q .0) (q .1) c)) (any p (gather (λ (x : Float). onPair x q) cs)) h)
 any-time p q (c ∷ cs) (suc i) l s h = any-behind p (onPair c q) (gather (λ (x : Float). onPair x q) cs) (any-time p q cs i (omega arith) s h)
-
--- ---- alike entries are one
-
-zero-fits : Fits 0·0
-unfolding fits
-zero-fits = tt
-
-module _ {cs vs : List Float} {ms : List ℕ} (R : Reads cs vs ms) where
-  entry-alike : (p r : ℕ) → T (alike (entryAt vs ms p) (entryAt vs ms r)) → entryAt vs ms p ≡ entryAt vs ms r
-  entry-alike p r h = ap entryOf (go (eqb (getD ms p 0) 0) (eqb (getD ms r 0) 0) h)
-    where
-      fit : (i : ℕ) → Fits (getD vs i 0·0)
-      fit i = every-getD Fits vs i 0·0 (R .numbers) zero-fits
-
-      go : (b c : Bool) → T (alike (entryOf (cond b (Value (getD vs p 0·0)) Blocked)) (entryOf (cond c (Value (getD vs r 0·0)) Blocked)))
-          → cond b (Value (getD vs p 0·0)) Blocked ≡ cond c (Value (getD vs r 0·0)) Blocked
-      go true true h = alike-same (Value (getD vs p 0·0)) (Value (getD vs r 0·0)) (fit p) (fit r) h
-      go true false h = alike-same (Value (getD vs p 0·0)) Blocked (fit p) tt h
-      go false true h = alike-same Blocked (Value (getD vs r 0·0)) tt (fit r) h
-      go false false h = refl
 
 -- ---- what is read
 

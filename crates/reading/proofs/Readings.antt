@@ -1,23 +1,21 @@
 -- A clip's samples that are read along a line: the entry at a place, and what a step of the place tells of what is read. Assumes nothing.
-use mathlib.Core.Path.{_≡_, refl, sym, ap, _∙_}
+use mathlib.Core.Path.{_≡_, refl, ap}
 use mathlib.Core.Logic.{inl, inr}
-use mathlib.Core.Bool.{Bool, true, false, cond}
 use mathlib.Core.List.{List, [], _∷_}
 use Prim.Native.Nat.{ℕ, zero, suc, _≤_, _<_}
 use native.Mathlib.Omega.{arith}
-use borrow.Author.Tests.{eq-eqb, ne-eqb}
-use lib.Dec.{T, eqb}
+use borrow.Author.Tests.{ne-eqb}
+use lib.Dec.{T}
 use lib.ListN.{length, getD}
-use lib.Ieee.{Float, nan, fits, ofBits, binary64}
+use lib.Ieee.{Float, nan}
 use Rattle.gf.specs.Key.{ofKey}
 use Rattle.gf.specs.Doubles.{0·0}
 use Rattle.definitions.specs.declared.Answer.the-variants.{Value, Blocked}
-use Rattle.definitions.specs.Track.{Entry, entryOf, alike}
-use Rattle.set_laws.specs.Places.{Fits}
+use Rattle.definitions.specs.Value.{marked}
+use Rattle.definitions.specs.Track.{Entry, alike}
 use Rattle.track_laws.specs.Steps.{Once, Level, Through, StepAt, grows-once, falls-once, level-through}
-use Rattle.cell_laws.specs.Every.{every-getD}
 use Rattle.cell_laws.specs.Knots as Knots
-use Rattle.cell_laws.specs.Tracks.{alike-same}
+use Rattle.cell_laws.specs.Tracks.{marked-fits, alike-same}
 use Rattle.window.specs.Parts.{last-short}
 use Rattle.steps.specs.declared.line.Line.{Line}
 use Rattle.steps.specs.Lines.{lineIs, placeOn}
@@ -31,16 +29,18 @@ getD-any [] i d e h = absurd (omega arith)
 getD-any (x ∷ l) zero d e h = refl
 getD-any (x ∷ l) (suc i) d e h = getD-any l i d e (omega arith)
 
+-- what the sample at a place says, by the test of its mark
 module _ (vs : List Float) (ms : List ℕ) (p : ℕ) where
-  pub sample-value : p < length vs → getD ms p 0 ≡ 0 → _≡_ {A = Entry} (record { value = getD vs p nan; mark = 0 }) (entryAt vs ms p)
-  unfolding entryOf
-  sample-value h e =
-      ap (λ (v : Float). entryOf (Value v)) (getD-any vs p nan 0·0 h)
-      ∙ sym (ap (λ (b : Bool). entryOf (cond b (Value (getD vs p 0·0)) Blocked)) (eq-eqb (getD ms p 0) 0 e))
+  pub sample-value : p < length vs → getD ms p 0 ≡ 0 → Value (getD vs p nan) ≡ marked (getD ms p 0) (getD vs p 0·0)
+  sample-value h e = rw (e, getD-any vs p nan 0·0 h)
 
-  pub sample-blocked : (getD ms p 0 ≡ 0 → ⊥) → _≡_ {A = Entry} (record { value = ofBits binary64 0; mark = 1 }) (entryAt vs ms p)
-  unfolding entryOf ofBits
-  sample-blocked n = sym (ap (λ (b : Bool). entryOf (cond b (Value (getD vs p 0·0)) Blocked)) (ne-eqb (getD ms p 0) 0 n))
+  pub sample-blocked : (getD ms p 0 ≡ 0 → ⊥) → Blocked ≡ marked (getD ms p 0) (getD vs p 0·0)
+  sample-blocked n = rw (ne-eqb (getD ms p 0) 0 n)
+
+-- alike entries are one
+pub entry-alike : {ts vs : List Float} {ms : List ℕ} → Reads ts vs ms → (p r : ℕ) → T (alike (entryAt vs ms p) (entryAt vs ms r)) → entryAt vs ms p ≡ entryAt vs ms r
+entry-alike {vs = vs} {ms} R p r h =
+    alike-same (marked (getD ms p 0) (getD vs p 0·0)) (marked (getD ms r 0) (getD vs r 0·0)) (marked-fits vs (R .numbers) (getD ms p 0) p) (marked-fits vs (R .numbers) (getD ms r 0) r) h
 
 -- ---- the place
 
@@ -63,25 +63,6 @@ module _ {ts vs : List Float} {ms : List ℕ} (R : Reads ts vs ms) (line : Line)
   pub place-slots : (p k : ℕ) → p ≡ placeOn ts line k → (p < length vs) × (p < length ms)
   place-slots p k e = let h = place-inside k in let a = R .values in let b = R .marks in (omega arith, omega arith)
 
-  -- ---- alike entries are one
-
-  zero-fits : Fits 0·0
-  unfolding fits
-  zero-fits = tt
-
-  fit : (p : ℕ) → Fits (getD vs p 0·0)
-  fit p = every-getD Fits vs p 0·0 (R .numbers) zero-fits
-
-  read-alike : (j k : ℕ) → T (alike (readingAt ts vs ms line j) (readingAt ts vs ms line k)) → readingAt ts vs ms line j ≡ readingAt ts vs ms line k
-  read-alike j k h = ap entryOf (go (eqb (getD ms (f j) 0) 0) (eqb (getD ms (f k) 0) 0) h)
-    where
-      go : (b c : Bool) → T (alike (entryOf (cond b (Value (getD vs (f j) 0·0)) Blocked)) (entryOf (cond c (Value (getD vs (f k) 0·0)) Blocked)))
-          → cond b (Value (getD vs (f j) 0·0)) Blocked ≡ cond c (Value (getD vs (f k) 0·0)) Blocked
-      go true true h = alike-same (Value (getD vs (f j) 0·0)) (Value (getD vs (f k) 0·0)) (fit (f j)) (fit (f k)) h
-      go true false h = alike-same (Value (getD vs (f j) 0·0)) Blocked (fit (f j)) tt h
-      go false true h = alike-same Blocked (Value (getD vs (f k) 0·0)) tt (fit (f k)) h
-      go false false h = refl
-
   -- ---- a step of the place
 
   through : Through f w
@@ -92,4 +73,4 @@ module _ {ts vs : List Float} {ms : List ℕ} (R : Reads ts vs ms) (line : Line)
   read-level {at} {hi} l = level-through through at hi l
 
   pub read-reaches : {at hi m : ℕ} → StepAt (placeOn ts line) at hi m → Reaches (readingAt ts vs ms line) at m
-  read-reaches {at} {m = m} s = let l = s .above in record { from = omega arith; level = read-level (s .level); sure = read-alike m at }
+  read-reaches {at} {m = m} s = let l = s .above in record { from = omega arith; level = read-level (s .level); sure = entry-alike R (placeOn ts line m) (placeOn ts line at) }

@@ -11,11 +11,12 @@ use lib.ListN.{length, set, length-append}
 use lib.Ieee.{Float}
 use Rattle.gf.specs.Key.{ofKey}
 use Rattle.definitions.specs.Track.{Entry, Outputs, alike}
+use Rattle.definitions.proofs.Tracks.{alike-refl}
 use Rattle.set_laws.specs.Tests.{holds, is-true}
 use Rattle.track_laws.specs.Track.{Change}
 use Rattle.track_laws.specs.Laws.{Agree, changes-none, changes-still, changes-next, changes-agree, changes-split}
 use Rattle.track_laws.specs.Steps.{Level, StopAt, still-level, still-stop, change-stop}
-use Rattle.cell_laws.specs.Tracks.{entry-same, alike-refl}
+use Rattle.cell_laws.specs.Tracks.{entry-same}
 use Rattle.steps.specs.declared.entry.Entry as declared
 use Rattle.steps.specs.Entries.{entryIs}
 use Rattle.reading.specs.declared.walk.Went.{Went}

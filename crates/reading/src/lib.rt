@@ -6,8 +6,10 @@ pub mod passing;
 // One change offered to the outputs, and where a walk stands.
 pub mod walk;
 
+use definitions::Answer;
 use lists::near::last_at_most_near;
 use steps::entry::Entry;
+use steps::entry::entry_of;
 use steps::line::Line;
 use steps::line::along;
 use steps::line::place_on;
@@ -26,22 +28,16 @@ ghost use Rattle.steps.specs.Entries.{entryIs};
 ghost use Rattle.reading.specs.Readings.{Reads, Turns, entryAt, readingAt};
 ghost use Rattle.reading.specs.Walks.{outputs, Room, Walked};
 
-// The entry of the sample at a place. The value of a block is 0.0.
+// The entry of the sample at a place.
 pub fn entry_of_sample(vs: &[f64], ms: &[u8], place: usize) -> Entry
     requires { ⌜ place < length (now vs) ⌝ }
     requires { ⌜ place < length (now ms) ⌝ }
     ensures { λ r. ⌜ entryIs r ≡ entryAt (now (vs .entry)) (now (ms .entry)) place ⌝ }
 {
     if ms[place] == 0 {
-        return Entry {
-            value: vs[place],
-            mark: 0,
-        };
+        return entry_of(Answer::Value(vs[place]));
     }
-    Entry {
-        value: 0.0,
-        mark: 1,
-    }
+    entry_of(Answer::Blocked)
 }
 
 // The place of the sample that is read at the key k, which is beside another.

@@ -1,5 +1,6 @@
 // The changes over a run of samples that are passed in one segment of knots, where the value is held from the inverse time that was passed last.
 // Only the clip's slices are handed on, so that a pass over them stays in registers.
+use crate::entry_of_sample;
 use crate::walk::Went;
 use crate::walk::offer;
 use beside::turn::turn;
@@ -32,16 +33,7 @@ fn entry_along(cs: &[f64], vs: &[f64], ms: &[u8], line: Line, k: u64, hint: usiz
     ensures { λ r. ⌜ entryIs r ≡ readingAt (now (cs .entry)) (now (vs .entry)) (now (ms .entry)) line k ⌝ }
 {
     let place = last_at_most_near(cs, along(line, gf::of_key(k)), hint);
-    if ms[place] == 0 {
-        return Entry {
-            value: vs[place],
-            mark: 0,
-        };
-    }
-    Entry {
-        value: 0.0,
-        mark: 1,
-    }
+    entry_of_sample(vs, ms, place)
 }
 
 // The inverse time of the sample at i, where it is not above hi; p is the place behind it.

@@ -1,15 +1,16 @@
 // The marks of the stage samples.
 
+use definitions::Answer;
 use definitions::Manifest;
-use direct::Reading;
 use direct::read_clip;
-use window::part::clip_begin;
+use look::Held;
 ghost use mathlib.Core.Path.{_≡_};
 ghost use Prim.Native.Nat.{_≤_};
 ghost use lib.ListN.{length};
 ghost use Rattle.definitions.specs.Lists.{writtenOver};
 ghost use Rattle.definitions.specs.ClipSet.{stage};
 ghost use Rattle.definitions.specs.StageSamples.{suppliedAt};
+ghost use Rattle.definitions.specs.Track.{markOf};
 ghost use Rattle.cell_laws.specs.Unpacked.{setOf, samplesOf, Ready};
 ghost use Rattle.stage.specs.Marks.{gapMarkOf, marksAt};
 
@@ -22,6 +23,17 @@ fn gap_mark(m: Manifest) -> u8
         return 0;
     }
     1
+}
+
+// The mark of what a sample says.
+fn sample_mark(a: Answer) -> u8
+    ensures { λ r. ⌜ r ≡ markOf a ⌝ }
+{
+    match a {
+        Answer::Value(_) => 0,
+        Answer::Blocked => 1,
+        Answer::Absent => 2,
+    }
 }
 
 // The mark of the active clip's reading at the stage time `t`: the Rust's `supplied_at`.
@@ -45,10 +57,9 @@ fn supplied_at(
         return gap_mark(m);
     }
     let p = lists::last_at_most(starts, t);
-    let own = read_clip(xs, ys, times, ends, clips[p], t);
-    if let Reading::Of(clip, place) = own {
-        let at = clip_begin(ends, clip) + place as usize;
-        return marks[at];
+    let own = read_clip(xs, ys, times, values, marks, ends, clips[p], t);
+    if let Held::At(_, answer) = own {
+        return sample_mark(answer);
     }
     gap_mark(m)
 }

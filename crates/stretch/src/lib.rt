@@ -125,7 +125,7 @@ fn cell_step(
     let e = end_key(end);
     let hi = lesser(top, e - 1);
     let source = read_on(times, values, marks, ends, cell, k, hi);
-    let here = entry_of(says(m, values, marks, ends, source));
+    let here = entry_of(says(m, times, values, marks, ends, source));
     let way = Way::Within(cell);
     let stretch = Stretch { way, here, hi };
     let w = at.w;
@@ -169,7 +169,7 @@ fn plain_step(
     let next = gf::key(w.max);
     let hi = lesser(top, next - 1);
     let read = read_on(times, values, marks, ends, cell, k, hi);
-    let here = entry_of(says(m, values, marks, ends, read));
+    let here = entry_of(says(m, times, values, marks, ends, read));
     let way = Way::Within(cell);
     let stretch = Stretch { way, here, hi };
     Step { stretch, spot: at }

@@ -7,8 +7,8 @@ use mathlib.Core.List.{List}
 use Rattle.gf.specs.Doubles.{0·0}
 use Rattle.definitions.specs.declared.StageTime.{StageTime}
 use Rattle.definitions.specs.declared.ClipTime.{ClipTime}
+use Rattle.definitions.specs.ClipSet.{markValue, markBlock, markNone}
 use Rattle.definitions.specs.Samples.{Samples}
-use Rattle.definitions.specs.Track.{markOf, slotOf}
 use Rattle.names.specs.declared.Named.{Named}
 use Rattle.names.specs.declared.Named.the-variants as named
 use Rattle.names.specs.Named.{Names}
@@ -41,9 +41,14 @@ abbrev pub timeCode : TimeReply → TimeCode
 timeCode (time.Time t) = record { number = 0; time = t .0 }
 timeCode (time.Refused n) = record { number = n; time = 0·0 }
 
--- "a number has mark 0, a blocked value 1, an absent one 2"
+-- "a number has mark 0, a blocked value 1, an absent one 2". A number has the bits that the question gives, whatever a track would write; where there is none stands 0.0.
+abbrev pub answerCode : Answer → ValueCode
+answerCode (answer.Value v) = record { number = 0; mark = markValue; value = v }
+answerCode answer.Blocked = record { number = 0; mark = markBlock; value = 0·0 }
+answerCode answer.Absent = record { number = 0; mark = markNone; value = 0·0 }
+
 abbrev pub valueCode : ValueReply → ValueCode
-valueCode (value.Answered a) = record { number = 0; mark = markOf a; value = slotOf a }
+valueCode (value.Answered a) = answerCode a
 valueCode (value.Refused n) = record { number = n; mark = 0; value = 0·0 }
 
 abbrev pub stateCode : ValueState → ℕ

@@ -1,5 +1,5 @@
 -- What a source says by the lent lists, and that a sample that is read lies in them. Assumes nothing.
-use mathlib.Core.Path.{_≡_, refl, sym, ap, _∙_, subst}
+use mathlib.Core.Path.{_≡_, refl, sym, _∙_, subst}
 use mathlib.Core.Bool.{Bool, true, false, cond}
 use mathlib.Core.List.{List, [], _∷_, reverseAux, reverse}
 use mathlib.Core.Option.{Option, none, some}
@@ -8,8 +8,7 @@ use native.Mathlib.Omega.{arith}
 use lib.Dec.{eqb, ltb}
 use lib.ListN.{length, getD, getElem?, take, drop, length-drop}
 use lib.Seq.{length-take-le}
-use lib.Ieee.{Float, nan}
-use borrow.Author.Tests.{eq-eqb, ne-eqb}
+use lib.Ieee.{Float}
 use Rattle.gf.specs.Doubles.{0·0}
 use Rattle.definitions.specs.declared.Manifest.{Manifest}
 use Rattle.definitions.specs.declared.Start.{Start}
@@ -26,6 +25,7 @@ use Rattle.definitions.specs.Value.{_orElse_, marked, says, contributes, sample
 use Rattle.set_laws.specs.Every.{Every, every-drop, every-take}
 use Rattle.cell_laws.specs.Unpacked.{setOf, samplesOf, Ready}
 use Rattle.window.specs.Parts.{last-short}
+use Rattle.look.specs.Reads.{markedAt}
 
 -- what a source says: a sample's mark and value stand at its clip's beginning and its place
 unfoldable pub saysIn : Manifest → List Float → List ℕ → List ℕ → Source → Answer
@@ -43,21 +43,11 @@ Sayable n ends absent = Unit {0}
 
 -- ---- the cases of the program
 
-getD-any : {A : Type 0} (l : List A) (i : ℕ) (d e : A) → i < length l → getD l i d ≡ getD l i e
-getD-any [] i d e h = absurd (omega arith)
-getD-any (x ∷ l) zero d e h = refl
-getD-any (x ∷ l) (suc i) d e h = getD-any l i d e (omega arith)
-
 module _ (m : Manifest) (values : List Float) (marks ends : List ℕ) (r : Source) where
   -- the place is the clip's beginning, found as b, and i more
-  module _ (c i b : ℕ) (e : r ≡ sample c i) (q : b ≡ clipBegin ends c) where
-    pub says-value : b + i < length values → getD marks (b + i) 0 ≡ 0 → Value (getD values (b + i) nan) ≡ saysIn m values marks ends r
-    unfolding saysIn
-    says-value h k = rw e (rw (← q) (rw (eq-eqb (getD marks (b + i) 0) 0 k) (ap Value (getD-any values (b + i) nan 0·0 h))))
-
-    pub says-block : (getD marks (b + i) 0 ≡ 0 → ⊥) → Blocked ≡ saysIn m values marks ends r
-    unfolding saysIn
-    says-block k = rw e (rw (← q) (rw (ne-eqb (getD marks (b + i) 0) 0 k)))
+  pub says-sample : (c i b : ℕ) → r ≡ sample c i → b ≡ clipBegin ends c → markedAt values marks (b + i) ≡ saysIn m values marks ends r
+  unfolding saysIn
+  says-sample c i b e q = rw e (rw (← q))
 
   pub says-default : r ≡ default → Value (m .default .value) ≡ saysIn m values marks ends r
   unfolding saysIn

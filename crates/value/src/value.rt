@@ -10,6 +10,7 @@ use near::Window;
 use near::near_in;
 use window::Bound;
 use window::part::clip_begin;
+use window::part::clip_end;
 ghost use mathlib.Core.Path.{_≡_};
 ghost use lib.Dec.{T};
 ghost use lib.ListN.{length};
@@ -85,18 +86,23 @@ pub fn value_source(
     value_in(xs, ys, times, w, t)
 }
 
-// What a source says, with the bits as lent.
-pub fn says(m: Manifest, values: &[f64], marks: &[u8], ends: &[u64], source: Source) -> Answer
+// What a source says, with the bits as lent. A sample is seen through a look at its clip.
+pub fn says(
+    m: Manifest,
+    times: &[f64],
+    values: &[f64],
+    marks: &[u8],
+    ends: &[u64],
+    source: Source,
+) -> Answer
     requires { ⌜ Sayable (length (now values)) (now ends) source ⌝ ∗ ⌜ length (now marks) ≡ length (now values) ⌝ }
     ensures { λ r. ⌜ r ≡ saysIn m (now (values .entry)) (now (marks .entry)) (now (ends .entry)) source ⌝ }
 {
     match source {
         Source::Sample(clip, place) => {
-            let at = clip_begin(ends, clip) + place as usize;
-            if marks[at] == 0 {
-                return Answer::Value(values[at]);
-            }
-            Answer::Blocked
+            let begin = clip_begin(ends, clip);
+            let end = clip_end(ends, clip);
+            look::answer_in(times, values, marks, begin, end, place as usize)
         }
         Source::Default => {
             let default = m.default;
@@ -137,5 +143,5 @@ pub fn value(
         ends,
         t,
     );
-    says(m, values, marks, ends, source)
+    says(m, times, values, marks, ends, source)
 }

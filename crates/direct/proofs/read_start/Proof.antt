@@ -1,10 +1,15 @@
 -- `direct::read_start` meets its contract. Assumes nothing.
-use mathlib.Core.Path.{sym, _∙_}
+use mathlib.Core.Path.{sym, ap, _∙_}
+use denote.Ref.{now}
 use Rattle.window.specs.Parts.{ready-clip, ready-readable}
-use Rattle.direct.specs.Reads.{start-blocked, start-read}
+use Rattle.look.specs.Reads.{heldIs}
+use Rattle.direct.specs.Reads.{start-blocked, start-read, part-read, part-none}
 use borrow.Author.Needs.{needs}
 use Rattle.direct.proofs.read_start.Statement.{statement}
 use Rattle.direct.proofs.read_start.Tie as tie
+
+abbrev entry : tie.After-blocked-at → tie.Start
+entry c = c .before .before .before .before .before .before .before .before .before .before .before
 
 mul-time : tie.Need-mul-time
 mul-time c = search needs
@@ -16,26 +21,44 @@ blocked-at-requires : tie.Need-blocked-at-requires
 blocked-at-requires c κs = search needs
 
 returns : tie.Need-returns
-returns c =
-    let s = c .before .before .before .before .before .before .before .before .before .before .before .before in
-    start-blocked (s .pre .0) (s .args .i) (sym (c .before .blocked-at .ensures) ∙ c .if1 .taken)
+returns c = let s = entry (c .before) in start-blocked (s .pre .0) (s .args .i) (sym (c .before .blocked-at .ensures) ∙ c .if1 .taken)
 
-mul-read-clip : tie.Need-mul-read-clip
-mul-read-clip c = search needs
+mul-clip : tie.Need-mul-clip
+mul-clip c = search needs
 
-shared-slice-read-read-clip : tie.Need-shared-slice-read-read-clip
-shared-slice-read-read-clip c = search needs
+shared-slice-read-clip : tie.Need-shared-slice-read-clip
+shared-slice-read-clip c = search needs
 
 read-clip-requires : tie.Need-read-clip-requires
 read-clip-requires c κs =
-    let s = c .before .before .before .before .before .before .before .before .before .before .before .before .before in
-    (ready-readable (s .pre .0), ready-clip (s .pre .0) (s .args .i) (s .pre .1))
+    let s = entry (c .before .before) in
+    let R = s .pre .0 in
+    (ready-readable R, (ready-clip R (s .args .i) (s .pre .1), (R .accepted .values, R .accepted .marks)))
+
+enum-known-place : tie.Need-enum-known-place
+enum-known-place c = search needs
+
+enum-told : tie.Need-enum-told
+enum-told c = search needs
 
 returns-2 : tie.Need-returns-2
 returns-2 c =
-    let k = c .before .before in
-    let s = k .before .before .before .before .before .before .before .before .before .before .before .before in
-    c .read-clip .ensures ∙ start-read (s .pre .0) (s .args .i) (sym (k .before .blocked-at .ensures) ∙ k .if1 .left)
+    let r = c .before .before in
+    let e = r .before .before in
+    let s = entry (e .before) in
+    let a = s .args in
+    part-none (now (a .xs)) (now (a .ys)) (now (a .times)) (now (a .values)) (now (a .marks)) (now (a .ends)) _ _ (sym (ap heldIs (c .enum-told .given .1)) ∙ r .read-clip .ensures)
+    ∙ start-read (s .pre .0) (a .i) (sym (e .before .blocked-at .ensures) ∙ e .if1 .left)
+
+returns-3 : tie.Need-returns-3
+returns-3 c =
+    let p = c .before in
+    let r = p .before .before in
+    let e = r .before .before in
+    let s = entry (e .before) in
+    let a = s .args in
+    part-read (now (a .xs)) (now (a .ys)) (now (a .times)) (now (a .values)) (now (a .marks)) (now (a .ends)) _ _ _ _ (sym (ap heldIs (p .place .given .1)) ∙ r .read-clip .ensures)
+    ∙ start-read (s .pre .0) (a .i) (sym (e .before .blocked-at .ensures) ∙ e .if1 .left)
 
 pub read-start-spec : {M : Type 1} → statement M
 read-start-spec =
@@ -45,7 +68,10 @@ read-start-spec =
     shared-slice-read-time
     blocked-at-requires
     returns
-    mul-read-clip
-    shared-slice-read-read-clip
+    mul-clip
+    shared-slice-read-clip
     read-clip-requires
-    returns-2)
+    enum-known-place
+    enum-told
+    returns-2
+    returns-3)

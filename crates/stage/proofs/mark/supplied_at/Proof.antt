@@ -1,15 +1,12 @@
 -- `stage::mark::supplied_at` meets its contract. Assumes nothing.
-use mathlib.Core.Path.{_≡_, sym, ap, _∙_}
-use mathlib.Core.Option.{some}
-use Prim.Native.Nat.{ℕ, _+_, _<_}
+use mathlib.Core.Path.{sym, ap, _∙_}
+use Prim.Native.Nat.{_<_}
 use native.Mathlib.Omega.{arith}
-use lib.ListN.{length, getD}
+use lib.ListN.{length}
 use denote.Ref.{now}
-use Rattle.definitions.specs.declared.Source.the-variants.{Sample as sample}
-use Rattle.definitions.specs.Samples.{clipBegin}
 use Rattle.window.specs.Parts.{last-short, ready-starts, ready-clip, ready-readable}
-use Rattle.direct.specs.Reads.{readingIs, readPart}
-use Rattle.stage.specs.Marks.{mark-none, mark-read, mark-place, mark-gap}
+use Rattle.look.specs.Reads.{heldIs}
+use Rattle.stage.specs.Marks.{mark-none, mark-read, mark-gap}
 use borrow.Author.Needs.{needs}
 use Rattle.stage.proofs.mark.supplied_at.Statement.{statement}
 use Rattle.stage.proofs.mark.supplied_at.Tie as tie
@@ -39,45 +36,23 @@ shared-slice-read-read-clip c = let h = active (c .before) in let e = entry (c .
 read-clip-requires : tie.Need-read-clip-requires
 read-clip-requires c κs =
     let k = c .before in
-    let s = entry (k .before .before) in
-    (ready-readable (s .pre), ready-clip (s .pre) (k .last-at-most .result) (active k))
+    let R = entry (k .before .before) .pre in
+    (ready-readable R, (ready-clip R (k .last-at-most .result) (active k), (R .accepted .values, R .accepted .marks)))
 
 enum-known-own : tie.Need-enum-known-own
 enum-known-own c = search needs
 
--- the reading as the definitions have it
-reads : (c : tie.After-own) → let k = c .before .before .before .before in let a = entry (k .before .before) .args in
-    some (sample (c .own .given .0 .0) (c .own .given .0 .1 .0)) ≡ readPart (now (a .xs)) (now (a .ys)) (now (a .times)) (now (a .ends)) (getD (now (a .clips)) (k .last-at-most .result) 0) (a .t)
-reads c = sym (ap readingIs (c .own .given .1)) ∙ c .before .before .read-clip .ensures
-
-placed : (c : tie.After-own) → let k = c .before .before .before .before in let a = entry (k .before .before) .args in
-    (c .own .given .0 .0 < length (now (a .ends))) × (clipBegin (now (a .ends)) (c .own .given .0 .0) + c .own .given .0 .1 .0 < length (now (a .marks)))
-placed c =
-    let k = c .before .before .before .before in
-    let s = entry (k .before .before) in
-    mark-place (s .pre) (s .args .t) (k .last-at-most .result) (k .last-at-most .ensures) (active k) (c .own .given .0 .0) (c .own .given .0 .1 .0) (reads c)
-
-spot : (c : tie.After-clip-begin) → let k = c .before .before .before .before .before .before in let a = entry (k .before .before) .args in
-    c .clip-begin .result + c .before .before .own .given .0 .1 .0 < length (now (a .marks))
-spot c = omega (arith, placed (c .before .before) .1, c .clip-begin .ensures)
-
-clip-begin-requires : tie.Need-clip-begin-requires
-clip-begin-requires c κs = placed (c .before) .0
-
-add-at : tie.Need-add-at
-add-at c = let h = spot c in search needs
-
-shared-slice-read-result : tie.Need-shared-slice-read-result
-shared-slice-read-result c = spot (c .before)
+sample-mark-requires : tie.Need-sample-mark-requires
+sample-mark-requires c κs = search needs
 
 returns-2 : tie.Need-returns-2
 returns-2 c =
-    let b = c .before in
-    let o = b .before .before in
-    let k = o .before .before .before .before in
+    let o = c .before .before in
+    let r = o .before .before in
+    let k = r .before .before in
     let s = entry (k .before .before) in
-    ap (λ (n : ℕ). getD (now (s .args .marks)) (n + o .own .given .0 .1 .0) 0) (b .clip-begin .ensures)
-    ∙ mark-read (s .pre) (s .args .t) (k .last-at-most .result) (k .last-at-most .ensures) (active k) (o .own .given .0 .0) (o .own .given .0 .1 .0) (reads o)
+    c .sample-mark .ensures
+    ∙ mark-read (s .pre) (s .args .t) (k .last-at-most .result) (k .last-at-most .ensures) (active k) (o .own .given .0 .0) (o .own .given .0 .1 .0) (sym (ap heldIs (o .own .given .1)) ∙ r .read-clip .ensures)
 
 enum-told : tie.Need-enum-told
 enum-told c = search needs
@@ -88,10 +63,11 @@ gap-mark-requires-2 c κs = search needs
 returns-3 : tie.Need-returns-3
 returns-3 c =
     let b = c .before in
-    let k = b .before .before .before .before in
+    let r = b .before .before in
+    let k = r .before .before in
     let s = entry (k .before .before) in
     c .gap-mark2 .ensures
-    ∙ mark-gap (s .pre) (s .args .t) (k .last-at-most .result) (k .last-at-most .ensures) (active k) (sym (ap readingIs (b .enum-told .given .1)) ∙ b .before .before .read-clip .ensures)
+    ∙ mark-gap (s .pre) (s .args .t) (k .last-at-most .result) (k .last-at-most .ensures) (active k) (sym (ap heldIs (b .enum-told .given .1)) ∙ r .read-clip .ensures)
 
 pub supplied-at-spec : {M : Type 1} → statement M
 supplied-at-spec =
@@ -104,9 +80,7 @@ supplied-at-spec =
     shared-slice-read-read-clip
     read-clip-requires
     enum-known-own
-    clip-begin-requires
-    add-at
-    shared-slice-read-result
+    sample-mark-requires
     returns-2
     enum-told
     gap-mark-requires-2
