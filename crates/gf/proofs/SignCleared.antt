@@ -1,72 +1,79 @@
--- The sign cleared by two tests: one law for each answer of `abs`. Assumes nothing.
-use mathlib.Core.Path.{_≡_, refl, sym, ap, subst, _∙_}
-use mathlib.Core.Logic.{_⊎_, inl, inr}
-use mathlib.Core.Bool.{true, false, _&&_, _||_, Bool·beq, true≢false}
-use Prim.Native.Nat.{ℕ, _+_, _*_, _≤_, _<_}
-use native.Mathlib.Nat.{mul-pos, zero-mul, eq-zero-or-pos}
+-- A double whose sign is cleared: its bits are those of `abs`, and it is at most 2 ^ k exactly where the double is within 2 ^ k. Assumes nothing.
+use mathlib.Core.Path.{_≡_, refl, sym, ap, _∙_}
+use mathlib.Core.Bool.{Bool, true, false, not, _&&_, _||_, cond}
+use Prim.Native.Nat.{ℕ, _+_, _*_, _%_, _^_, _<_}
+use native.Mathlib.Nat.{mul-pos, zero-add}
 use native.Mathlib.Omega.{arith}
-use lib.Dec.{T, ltb, eqb, eqb→eq}
-use lib.IntN.{ℤ, pos}
-use lib.Ieee.{Float, nan, inf, fin, binary64, up, down, neg, lt, eq, fits}
-use lib.Ieee.Fits.{and-l, up-pos}
-use borrow.Author.Tests.{ltb-true, ltb-false, eq-eqb}
-use Rattle.gf.specs.Doubles.{0·0, abs}
-use Rattle.gf.specs.Rank.{toBits-rank, rank-zero, any-sign}
-use Rattle.gf.specs.Units.{same-bits}
-use Rattle.gf.specs.Key.{finite-no-nan}
-use Rattle.gf.specs.Exactly.{nought-fits}
+use lib.Dec.{T, ltb, eqb, eqb→eq, lit<}
+use lib.Pow.{pow-pos}
+use lib.Ieee.{Float, nan, inf, fin, binary64, up, down, below, level, le, fits, isNan, nanBits, ofBits, toBits}
+use lib.Ieee.Bits.{ofBits-toBits, nanBits-is}
+use lib.Ieee.Fits.{down-pos, eq→eqb}
+use borrow.Author.Tests.{lt-ltb}
+use Rattle.gf.specs.Doubles.{abs}
+use Rattle.gf.specs.Exactly.{power, within}
+use Rattle.gf.specs.Key.{same-test}
+use Rattle.gf.specs.Rank.{rank, sign, toBits-rank, rank-fin, any-sign}
 
-pub abs-negative : (x : Float) → lt x 0·0 ≡ true → neg x ≡ abs x
-unfolding lt neg abs
-abs-negative nan h = absurd (true≢false (sym h))
-abs-negative (inf true) h = refl
-abs-negative (inf false) h = absurd (true≢false (sym h))
-abs-negative (fin true m e) h = refl
-abs-negative (fin false m e) h = absurd (none (m * up e * 1) (0 * 1 * down e) (zero-mul (down e)) (ltb-true (m * up e * 1) (0 * 1 * down e) h))
+-- ---- the bits
+
+clear : (s : Bool) (r : ℕ) → r < 0x8000_0000_0000_0000 → (cond s 0x8000_0000_0000_0000 0 + r) % 0x8000_0000_0000_0000 ≡ r
+clear true r h = omega arith
+clear false r h = omega arith
+
+abs-fits : (x : Float) → T (fits binary64 x) → T (fits binary64 (abs x))
+unfolding abs fits
+abs-fits nan p = tt
+abs-fits (inf s) p = tt
+abs-fits (fin s m e) p = any-sign binary64 s false m e p
+
+abs-no-nan : (x : Float) → T (not (isNan x)) → T (not (isNan (abs x)))
+unfolding abs isNan
+abs-no-nan nan q = q
+abs-no-nan (inf s) q = tt
+abs-no-nan (fin s m e) q = tt
+
+rank-small : (x : Float) → T (fits binary64 x) → rank binary64 x < 0x8000_0000_0000_0000
+rank-small nan p = omega arith
+rank-small (inf s) p = omega arith
+rank-small (fin s m e) p = let k = rank-fin binary64 s m e p in omega arith
+
+same-rank : (x : Float) → rank binary64 x ≡ cond (sign (abs x)) 0x8000_0000_0000_0000 0 + rank binary64 (abs x)
+unfolding abs
+same-rank nan = sym (zero-add 0)
+same-rank (inf s) = sym (zero-add (rank binary64 (inf s)))
+same-rank (fin s m e) = sym (zero-add (rank binary64 (fin s m e)))
+
+module _ (x : Float) (p : T (fits binary64 x)) (q : T (not (isNan x))) where
+  abs-bits : toBits binary64 x % 0x8000_0000_0000_0000 ≡ toBits binary64 (abs x)
+  abs-bits =
+      ap (λ (b : ℕ). b % 0x8000_0000_0000_0000) (toBits-rank binary64 x q)
+      ∙ clear (sign x) (rank binary64 x) (rank-small x p)
+      ∙ same-rank x
+      ∙ sym (toBits-rank binary64 (abs x) (abs-no-nan x q))
+
+  pub abs-of-bits : ofBits binary64 (toBits binary64 x % 0x8000_0000_0000_0000) ≡ abs x
+  abs-of-bits = ap (ofBits binary64) abs-bits ∙ ofBits-toBits binary64 (abs x) (abs-fits x p)
+
+  pub abs-bits-no-nan : T (not (nanBits binary64 (toBits binary64 x % 0x8000_0000_0000_0000)))
+  abs-bits-no-nan = rw (nanBits-is binary64 (toBits binary64 x % 0x8000_0000_0000_0000), abs-of-bits) (abs-no-nan x q)
+
+-- ---- at most 2 ^ k
+
+eqb-turned : (a b : ℕ) → eqb a b ≡ eqb b a
+eqb-turned a b = same-test (eqb a b) (eqb b a) (λ t. eq→eqb (sym (eqb→eq a b t))) (λ t. eq→eqb (sym (eqb→eq b a t)))
+
+and-true : (b : Bool) → b ≡ (b && true)
+and-true true = refl
+and-true false = refl
+
+pub abs-within : (k : ℕ) (x : Float) → le (abs x) (power false k) ≡ within k x
+unfolding abs within le
+abs-within k nan = refl
+abs-within k (inf true) = refl
+abs-within k (inf false) = refl
+abs-within k (fin s m e) = go s (m * up e * 1) (1 * 2 ^ k * down e) (mul-pos (mul-pos (lit< tt) (pow-pos k)) (down-pos e))
   where
-    none : (a b : ℕ) → b ≡ 0 → a < b → ⊥
-    none a b z l = omega arith
-
--- ---- a zero is written in one way
-
-no-size : (m : ℕ) (e : ℤ) → m * up e * 1 ≡ 0 → m ≡ 0
-no-size m e h = go (eq-zero-or-pos m)
-  where
-    none : (a : ℕ) → 0 < a → a * 1 ≡ 0 → m ≡ 0
-    none a p z = omega arith
-
-    go : (m ≡ 0) ⊎ (0 < m) → m ≡ 0
-    go (inl z) = z
-    go (inr p) = none (m * up e) (mul-pos p (up-pos e)) h
-
-is-nought : (m : ℕ) (e : ℤ) → T (fits binary64 (fin false m e)) → m ≡ 0 → 0·0 ≡ fin false m e
-is-nought m e h z =
-    same-bits binary64 0·0 (fin false m e) (nought-fits binary64) h
-    (toBits-rank binary64 0·0 (finite-no-nan 0·0 tt)
-    ∙ ap (λ (r : ℕ). 0 + r) (rank-zero binary64 false 0 (pos 0) refl ∙ sym (rank-zero binary64 false m e z))
-    ∙ sym (toBits-rank binary64 (fin false m e) (finite-no-nan (fin false m e) tt)))
-
-pub abs-zero : (x : Float) → T (fits binary64 x) → eq x 0·0 ≡ true → 0·0 ≡ abs x
-unfolding eq abs
-abs-zero nan p h = absurd (true≢false (sym h))
-abs-zero (inf s) p h = absurd (true≢false (sym h))
-abs-zero (fin s m e) p h =
-    let a = m * up e * 1 in
-    let b = 0 * 1 * down e in
-    let k : a ≡ b = eqb→eq a b (and-l (eqb a b) (Bool·beq s false || eqb a 0) (subst T (sym h) tt)) in
-    is-nought m e (any-sign binary64 s false m e p) (no-size m e (k ∙ zero-mul (down e)))
-
-pub abs-else : (x : Float) → lt x 0·0 ≡ false → eq x 0·0 ≡ false → x ≡ abs x
-unfolding lt eq abs
-abs-else nan h k = refl
-abs-else (inf true) h k = absurd (true≢false h)
-abs-else (inf false) h k = refl
-abs-else (fin false m e) h k = refl
-abs-else (fin true m e) h k = absurd (go (m * up e * 1) (0 * 1 * down e) (zero-mul (down e)) h k)
-  where
-    go : (a b : ℕ) → b ≡ 0 → ltb 0 (a + b) ≡ false → (eqb a b && eqb a 0) ≡ false → ⊥
-    go a b z f g =
-        let u : a + b ≤ 0 = ltb-false 0 (a + b) f in
-        let v : eqb a 0 ≡ true = eq-eqb a 0 (omega arith) in
-        let w : eqb a b ≡ true = eq-eqb a b (omega arith) in
-        true≢false (sym (simp (v, w)) ∙ g)
+    go : (s : Bool) (a b : ℕ) → 0 < b → (below false a false b || level false a false b) ≡ ((below true b s a || level true b s a) && (below s a false b || level s a false b))
+    go true a b h = rw (eqb-turned b a, lt-ltb 0 (a + b) (omega arith)) (and-true (ltb a b || level false a false b))
+    go false a b h = rw (lt-ltb 0 (b + a) (omega arith))

@@ -1,5 +1,6 @@
 // What kind of number a double is, told by the range of its exponent field.
 
+use crate::pattern::fields_of;
 ghost use mathlib.Core.Path.{_≡_};
 ghost use Prim.Native.Nat.{_%_, _^_, _<_};
 ghost use lib.Dec.{eqb};
@@ -30,22 +31,21 @@ pub fn classify(x: f64) -> Class
     if x != x {
         return Class::NotFinite;
     }
-    let bits = f64::to_bits(x);
-    let exponent = (bits >> 52) & 0x7ff;
-    let digits = bits & 0xf_ffff_ffff_ffff;
+    let f = fields_of(x);
+    let exponent = f.exponent;
     match exponent {
         // a zero or a subnormal
         0 => {
-            if digits == 0 {
+            if f.fraction == 0 {
                 return Class::Zero;
             }
             return Class::Fraction;
         }
         // below 1
         1..=1022 => return Class::Fraction,
-        // the digits below the point are the low 1075 - exponent ones
+        // the digits below the point are the fraction's low 1075 - exponent ones
         1023..=1074 => {
-            if ends_in_zeros(digits, 1075 - exponent) {
+            if ends_in_zeros(f.fraction, 1075 - exponent) {
                 return Class::Whole;
             }
             return Class::Fraction;

@@ -4,17 +4,27 @@ pub mod class;
 pub mod clip_number;
 pub mod interval;
 pub mod magnitude;
+pub mod pattern;
 pub mod segment;
 
+use crate::class::Class;
+use crate::class::classify;
+use crate::magnitude::without_sign;
+use crate::pattern::fields_of;
 ghost use mathlib.Core.Path.{_≡_};
 ghost use mathlib.Core.Bool.{not};
-ghost use Prim.Native.Nat.{_-_, _≤_, _<_};
+ghost use Prim.Native.Nat.{_≤_};
 ghost use lib.Dec.{T};
 ghost use lib.Ieee.{isNan};
 ghost use lib.Ieee.Scale.{finite};
 ghost use Rattle.gf.specs.Doubles as Doubles;
 ghost use Rattle.gf.specs.Key as Key;
 ghost use Rattle.gf.specs.Lerp as Lerp;
+
+// The keys of the lowest and of the greatest finite double.
+pub const LEAST: u64 = 0x0010_0000_0000_0001;
+
+pub const MOST: u64 = 0xffef_ffff_ffff_ffff;
 
 // The place of `x` in the order of the doubles. Both zeros have the key 2^63.
 pub fn key(x: f64) -> u64
@@ -48,26 +58,31 @@ pub fn lerp(x0: f64, x1: f64, y0: f64, y1: f64, t: f64) -> f64
     y0 + (y1 - y0) * ((t - x0) / (x1 - x0))
 }
 
-// Finite, and of magnitude at most 2^40: a time that may be stored.
+// 2^40, the greatest magnitude of a stored time.
+const MOST_STORED: f64 = 1099511627776.0;
+
+// Finite, and of magnitude at most 2^40: a time that may be stored. Both tests compile to one comparison without a
+// branch, so that the loops over lists vectorise.
 pub fn is_storable(x: f64) -> bool
     ensures { λ r. ⌜ r ≡ Doubles.storable x ⌝ }
 {
-    if -1099511627776.0 <= x {
-        x <= 1099511627776.0
-    } else {
-        false
+    if x != x {
+        return false;
     }
+    without_sign(x) <= MOST_STORED
 }
 
 // Neither a NaN nor an infinity.
 pub fn is_finite(x: f64) -> bool
     ensures { λ r. ⌜ r ≡ finite x ⌝ }
 {
-    let top = 1.0 / 0.0;
-    if -top < x {
-        return x < top;
+    let c = classify(x);
+    match c {
+        Class::Zero => true,
+        Class::Fraction => true,
+        Class::Whole => true,
+        Class::NotFinite => false,
     }
-    false
 }
 
 // A number whose order is that of `f64::total_cmp`, which places -0.0 before 0.0.
@@ -75,11 +90,12 @@ pub fn total_key(x: f64) -> u64
     ensures { λ r. ⌜ r ≡ Doubles.totalKey x ⌝ }
 {
     if x != x {
-        return 18444492273895866368;
+        return 0xfff8_0000_0000_0000;
     }
-    let b = f64::to_bits(x);
-    if b < 0x8000_0000_0000_0000 {
-        return 0x8000_0000_0000_0000 + b;
+    let f = fields_of(x);
+    let rank = f.rank();
+    if f.sign == 0 {
+        return 0x8000_0000_0000_0000 + rank;
     }
-    0xffff_ffff_ffff_ffff - b
+    0x7fff_ffff_ffff_ffff - rank
 }

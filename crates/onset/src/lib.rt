@@ -1,5 +1,7 @@
 // Where a run of samples in one segment of knots begins: its lower neighbour, and the inverse time up to which it goes.
 use beside::turn::turn;
+use gf::LEAST;
+use gf::MOST;
 use near::Window;
 use near::near_in;
 use value::windowed::is_between;
@@ -22,11 +24,6 @@ pub enum Onset {
     At(usize, f64, f64, usize),
     Nothing,
 }
-
-// The keys of the lowest and of the greatest finite double.
-const LEAST: u64 = 0x0010_0000_0000_0001;
-
-const MOST: u64 = 0xffef_ffff_ffff_ffff;
 
 fn lesser_time(a: f64, b: f64) -> f64
     ensures { λ r. ⌜ r ≡ cond (lt a b) a b ⌝ }

@@ -6,6 +6,8 @@ use crate::fill::fill;
 use crate::fill::shortest;
 use cell::spot::no_spot;
 use definitions::Manifest;
+use gf::LEAST;
+use gf::MOST;
 use near::tops::tops_of;
 ghost use lib.ListN.{length};
 ghost use Rattle.cell_laws.specs.Unpacked.{setOf, samplesOf, Ready};
@@ -19,11 +21,6 @@ pub struct Baked {
     pub value: f64,
     pub count: usize,
 }
-
-// The keys of the lowest and of the greatest finite double.
-const LEAST: u64 = 0x0010_0000_0000_0001;
-
-const MOST: u64 = 0xffef_ffff_ffff_ffff;
 
 // Bakes the value into its track: the head is the value at the lowest finite double, and the changes
 // are counted before any is written. 22: the shortest output has fewer slots than there are changes.

@@ -1,6 +1,8 @@
 // The hash of a track that is too long to print: its changes are walked, and none is kept.
 use cell::spot::no_spot;
 use definitions::Manifest;
+use gf::LEAST;
+use gf::MOST;
 use lines::reply;
 use near::tops::tops_of;
 use standing::Counts;
@@ -19,11 +21,6 @@ ghost use Rattle.near.specs.Tops.{TopsOf};
 ghost use Rattle.steps.specs.Entries.{entryIs};
 ghost use Rattle.standing.specs.Standing.{Asked};
 ghost use Rattle.track.specs.Fills.{CursorIs, PageIs};
-
-// The keys of the lowest and of the greatest finite double.
-const LEAST: u64 = 0x0010_0000_0000_0001;
-
-const MOST: u64 = 0xffef_ffff_ffff_ffff;
 
 // A product by FNV's prime, 2^40 + 435, modulo 2^64.
 fn by_prime(x: u64) -> u64 {

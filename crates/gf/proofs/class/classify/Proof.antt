@@ -13,30 +13,30 @@ use Rattle.gf.proofs.class.classify.Statement.{statement}
 use Rattle.gf.proofs.class.classify.Tie as tie
 
 -- what owning an `f64` tells: the format holds it
-held : (c : tie.Start) → T (fits binary64 (c .args .x))
-held c = subst T (sym (c .good .0 .1)) tt
+held : (c : tie.After-fields-of) → T (fits binary64 (c .before .before .args .x))
+held c = subst T (sym (c .before .before .good .0 .1)) tt
 
 returns : tie.Need-returns
 unfolding classOf
 returns c = ap classOf (sym (differs-from-itself (c .before .args .x) (subst T (sym (c .if1 .taken)) tt)))
 
-float-to-bits-bits : tie.Need-float-to-bits-bits
-float-to-bits-bits c = not-nan (c .before .args .x) (c .if1 .left)
+fields-of-requires : tie.Need-fields-of-requires
+fields-of-requires c κs = not-nan (c .before .args .x) (c .if1 .left)
 
 returns-2 : tie.Need-returns-2
 returns-2 c =
-    let start = c .before .before .before in
-    arm-nought (start .args .x) (held start) (c .before .match .keys1) (c .if2 .taken)
+    let at = c .before .before .before in
+    arm-nought (at .before .before .args .x) (held at) (at .fields-of .result) (at .fields-of .ensures) (c .before .before .match .keys1) (c .if2 .taken)
 
 returns-3 : tie.Need-returns-3
 returns-3 c =
-    let start = c .before .before .before in
-    arm-subnormal (start .args .x) (held start) (c .before .match .keys1) (c .if2 .left)
+    let at = c .before .before .before in
+    arm-subnormal (at .before .before .args .x) (held at) (at .fields-of .result) (at .fields-of .ensures) (c .before .before .match .keys1) (c .if2 .left)
 
 returns-4 : tie.Need-returns-4
 returns-4 c =
-    let start = c .before .before .before in
-    arm-below-one (start .args .x) (held start) (c .before .match .rest .1) (c .if3 .taken)
+    let at = c .before .before in
+    arm-below-one (at .before .before .args .x) (held at) (at .fields-of .result) (at .fields-of .ensures) (c .before .match .rest .1) (c .if3 .taken)
 
 sub-ends-in-zeros : tie.Need-sub-ends-in-zeros
 sub-ends-in-zeros c = search needs
@@ -45,10 +45,10 @@ ends-in-zeros-requires : tie.Need-ends-in-zeros-requires
 ends-in-zeros-requires c κs = search needs
 
 -- where the point stands within the digits, the class is what `ends_in_zeros` answers
-by-digits : (c : tie.After-ends-in-zeros) → classOf (c .before .before .before .before .before .args .x) ≡ cond (c .ends-in-zeros .result) Whole Fraction
+by-digits : (c : tie.After-ends-in-zeros) → classOf (c .before .before .before .before .before .before .args .x) ≡ cond (c .ends-in-zeros .result) Whole Fraction
 by-digits c =
-    let start = c .before .before .before .before .before in
-    arm-with-point (start .args .x) (held start) (c .before .before .if3 .left) (c .before .if4 .taken)
+    let at = c .before .before .before .before in
+    arm-with-point (at .before .before .args .x) (held at) (at .fields-of .result) (at .fields-of .ensures) (c .before .before .if3 .left) (c .before .if4 .taken)
     ∙ ap (λ (b : Bool). cond b Whole Fraction) (sym (c .ends-in-zeros .ensures))
 
 returns-5 : tie.Need-returns-5
@@ -59,20 +59,20 @@ returns-6 c = sym (by-digits (c .before) ∙ ap (λ (b : Bool). cond b Whole Fra
 
 returns-7 : tie.Need-returns-7
 returns-7 c =
-    let start = c .before .before .before .before .before in
-    arm-without-point (start .args .x) (held start) (c .before .if4 .left) (c .if6 .taken)
+    let at = c .before .before .before .before in
+    arm-without-point (at .before .before .args .x) (held at) (at .fields-of .result) (at .fields-of .ensures) (c .before .if4 .left) (c .if6 .taken)
 
 returns-8 : tie.Need-returns-8
 returns-8 c =
-    let start = c .before .before .before .before .before in
-    arm-not-finite (start .args .x) (held start) (c .if6 .left)
+    let at = c .before .before .before .before in
+    arm-not-finite (at .before .before .args .x) (held at) (at .fields-of .result) (at .fields-of .ensures) (c .if6 .left)
 
 pub classify-spec : {M : Type 1} → statement M
 classify-spec =
     tie.close
     (tie.spec
     returns
-    float-to-bits-bits
+    fields-of-requires
     returns-2
     returns-3
     returns-4

@@ -1,24 +1,22 @@
--- `gf::magnitude::abs` meets its contract, by a law for each answer. Assumes nothing.
-use mathlib.Core.Path.{sym, subst}
+-- `gf::magnitude::abs` meets its contract. Assumes nothing.
+use mathlib.Core.Path.{sym, ap, subst, _∙_}
 use lib.Dec.{T}
-use lib.Ieee.{ofBits}
-use Rattle.gf.proofs.SignCleared.{abs-negative, abs-zero, abs-else}
+use lib.Ieee.Compare.{differs-from-itself}
+use borrow.Author.Needs.{needs}
+use Rattle.gf.specs.Doubles.{abs}
+use Rattle.gf.proofs.Tests.{not-nan}
 use Rattle.gf.proofs.magnitude.abs.Statement.{statement}
 use Rattle.gf.proofs.magnitude.abs.Tie as tie
 
 returns : tie.Need-returns
-unfolding ofBits
-returns c = abs-negative (c .before .args .x) (c .if1 .taken)
+unfolding abs
+returns c = let e = differs-from-itself (c .before .args .x) (subst T (sym (c .if1 .taken)) tt) in e ∙ ap abs (sym e)
+
+without-sign-requires : tie.Need-without-sign-requires
+without-sign-requires c κs = not-nan (c .before .args .x) (c .if1 .left)
 
 returns-2 : tie.Need-returns-2
-unfolding ofBits
-returns-2 c =
-    let start = c .before .before in
-    abs-zero (start .args .x) (subst T (sym (start .good .0 .1)) tt) (c .if2 .taken)
-
-returns-3 : tie.Need-returns-3
-unfolding ofBits
-returns-3 c = abs-else (c .before .before .args .x) (c .before .if1 .left) (c .if2 .left)
+returns-2 c = search needs
 
 pub abs-spec : {M : Type 1} → statement M
-abs-spec = tie.close (tie.spec returns returns-2 returns-3)
+abs-spec = tie.close (tie.spec returns without-sign-requires returns-2)
