@@ -1,8 +1,7 @@
 -- `template::fields::is_disordered` meets its contract: one test after the other. Assumes nothing.
 use mathlib.Core.Path.{ap}
 use borrow.Author.Needs.{needs}
-use lib.Ieee.{ofBits}
-use lib.Ieee.{Float, lt}
+use lib.Ieee.{Float, lt, ofBits}
 use Rattle.template.specs.Expanding.{timesDisordered}
 use Rattle.template.proofs.fields.is_disordered.Statement.{statement}
 use Rattle.template.proofs.fields.is_disordered.Tie as tie
