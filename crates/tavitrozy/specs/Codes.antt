@@ -7,6 +7,8 @@ use mathlib.Core.List.{List}
 use Rattle.gf.specs.Doubles.{0·0}
 use Rattle.definitions.specs.declared.StageTime.{StageTime}
 use Rattle.definitions.specs.declared.ClipTime.{ClipTime}
+use Rattle.definitions.specs.declared.Answer.{Answer}
+use Rattle.definitions.specs.declared.Answer.the-variants as answer
 use Rattle.definitions.specs.ClipSet.{markValue, markBlock, markNone}
 use Rattle.definitions.specs.Samples.{Samples}
 use Rattle.names.specs.declared.Named.{Named}
