@@ -4,7 +4,8 @@ use mathlib.Core.Bool.{Bool}
 use mathlib.Core.List.{List, [], _∷_, _++_, map}
 use Prim.Native.Nat.{ℕ, suc, _+_, _≤_, _<_, min}
 use native.Mathlib.Omega.{arith}
-use lib.ListN.{length, take, drop}
+use lib.ListN.{length, take, drop, length-map}
+use lib.Seq.{take-append-seam}
 use lib.Ieee.{Float}
 use borrow.Author.Tests.{lt-ltb, le-ltb}
 use Rattle.gf.specs.Key.{least, most}
@@ -18,6 +19,7 @@ use Rattle.cell_laws.specs.Tracks.{writtenChange}
 use Rattle.reading.specs.Walks.{writtenFrom, written}
 use Rattle.stretch.specs.Changes.{changesOf}
 use Rattle.track.specs.Bakes.{outputs, trackOf, BakeIs}
+use Rattle.track.specs.Fills.{copied}
 
 written-length : (cs : List (steps.Change Entry)) → length (map writtenChange cs) ≡ length cs
 written-length [] = refl
@@ -30,6 +32,32 @@ from-first {A} new old = ap₂ (λ (l r : List A). (l ++ new) ++ r) (none-taken 
     none-taken : (l : List A) → take 0 l ≡ []
     none-taken [] = refl
     none-taken (x ∷ l) = refl
+
+-- ---- a page that is copied
+
+pub copied-is : (n : ℕ) (page o : Outputs) (ts vs : List Float) (ms : List ℕ) → ts ≡ take n (page .times) → vs ≡ take n (page .values) → ms ≡ take n (page .marks)
+    → outputs (ts ++ drop n (o .times)) (vs ++ drop n (o .values)) (ms ++ drop n (o .marks)) ≡ copied n page o
+copied-is n page o ts vs ms a b c = λ i. record { times = a i ++ drop n (o .times); values = b i ++ drop n (o .values); marks = c i ++ drop n (o .marks) }
+
+column-copied : {A : Type 0} (new page out : List A) (n : ℕ) → n ≡ length new → take n (writtenFrom 0 new page) ++ drop n out ≡ writtenFrom 0 new out
+column-copied {A} new page out n e =
+    ap (λ (k : ℕ). take k (writtenFrom 0 new page) ++ drop k out) e
+    ∙ ap (λ (l : List A). take (length new) l ++ drop (length new) out) (from-first new page)
+    ∙ ap (λ (l : List A). l ++ drop (length new) out) (take-append-seam new (drop (length new) page))
+    ∙ sym (from-first new out)
+
+-- changes that are written to a page and copied are written to the outputs
+pub page-copied : (cs : List (steps.Change Entry)) (page after out : Outputs) (n : ℕ) → n ≡ length cs → after ≡ written 0 cs page → copied n after out ≡ written 0 cs out
+page-copied cs page after out n e w =
+    ap (λ (p : Outputs). copied n p out) w
+    ∙ (λ i. record {
+      times = column-copied (changeTimes (map writtenChange cs)) (page .times) (out .times) n (many (λ (c : Change). c .time)) i;
+      values = column-copied (map (λ (c : Change). c .value) (map writtenChange cs)) (page .values) (out .values) n (many (λ (c : Change). c .value)) i;
+      marks = column-copied (map (λ (c : Change). c .mark) (map writtenChange cs)) (page .marks) (out .marks) n (many (λ (c : Change). c .mark)) i;
+    })
+  where
+    many : {A : Type 0} (g : Change → A) → n ≡ length (map g (map writtenChange cs))
+    many g = e ∙ sym (written-length cs) ∙ sym (length-map (map writtenChange cs) g)
 
 module _ (set : ClipSet) (s : Samples) (times values : List Float) (marks : List ℕ) where
   abbrev before : Outputs

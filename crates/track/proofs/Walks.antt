@@ -1,5 +1,5 @@
 -- The walk over the changes of the value: from stretch to stretch, and what it comes to. Assumes nothing.
-use mathlib.Core.Path.{_≡_, refl, ap, _∙_}
+use mathlib.Core.Path.{_≡_, refl, sym, ap, ap₂, _∙_}
 use mathlib.Core.Bool.{Bool, true, false}
 use mathlib.Core.List.{List, _∷_}
 use Prim.Native.Nat.{ℕ, _+_, _≤_, _<_, min}
@@ -19,6 +19,7 @@ use Rattle.cell_laws.specs.Tracks.{SoundValues, entry-same, entries-alike}
 use Rattle.cell_laws.specs.Unpacked.{setOf, samplesOf}
 use Rattle.reading.specs.declared.walk.Went.{Went}
 use Rattle.reading.specs.Walks.{outputs, written, Room, Walked}
+use Rattle.reading.proofs.Filling.{Long}
 use Rattle.reading.proofs.Walking.{Reaches}
 use Rattle.cell.specs.declared.spot.Spot.{Spot}
 use Rattle.cell.specs.Spots.{SpotIs}
@@ -43,9 +44,19 @@ split-length set s low a b l h = ap length (changes-split entry-same (entryAtKey
 pub slots-room : (ts vs : List Float) (ms : List ℕ) (r : ℕ) → r ≡ min (length ts) (min (length vs) (length ms)) → Room r 0 (outputs ts vs ms)
 slots-room ts vs ms r e = record { from = omega arith; times = omega arith; values = omega arith; marks = omega arith }
 
+pub room-of : (n : ℕ) (ts vs : List Float) (ms : List ℕ) → n ≤ min (length ts) (min (length vs) (length ms)) → Room n 0 (outputs ts vs ms)
+room-of n ts vs ms h = record { from = omega arith; times = omega arith; values = omega arith; marks = omega arith }
+
 pub slots-is : (ts vs : List Float) (ms : List ℕ) → slots (outputs ts vs ms) ≡ min (length ts) (min (length vs) (length ms))
 unfolding slots
 slots-is ts vs ms = refl
+
+-- outputs as long as others have as many slots
+pub slots-long : {ts vs ts′ vs′ : List Float} {ms ms′ : List ℕ} → Long (outputs ts vs ms) (outputs ts′ vs′ ms′) → 0 < slots (outputs ts vs ms) → 0 < slots (outputs ts′ vs′ ms′)
+slots-long {ts = ts} {vs = vs} {ts′ = ts′} {vs′ = vs′} {ms = ms} {ms′ = ms′} l h =
+    let e = slots-is ts vs ms in
+    let f = slots-is ts′ vs′ ms′ in
+    omega (arith, l .times, l .values, l .marks)
 
 pub slots-some : (x y : Float) (z : ℕ) (ts vs : List Float) (ms : List ℕ) → 0 < slots (outputs (x ∷ ts) (y ∷ vs) (z ∷ ms))
 slots-some x y z ts vs ms = let e = slots-is (x ∷ ts) (y ∷ vs) (z ∷ ms) in omega arith
@@ -80,17 +91,25 @@ module _ {starts : List Float} {clips : List ℕ} {xs ys blocks : List Float} {m
           let f = W .full d in
           absurd (omega arith)
 
-  -- with a slot for each change all are written
-  pub filled-all : (from top : ℕ) (o p : Outputs) (r : Filled) → FillIs starts clips xs ys blocks m times values marks ends from top o p r → length (changesOf (setOf (length ends) starts clips xs ys blocks m) (samplesOf times values marks ends) from top) ≤ slots o
-      → (r .count ≡ length (changesOf (setOf (length ends) starts clips xs ys blocks m) (samplesOf times values marks ends) from top)) × (p ≡ written 0 (changesOf (setOf (length ends) starts clips xs ys blocks m) (samplesOf times values marks ends) from top) o)
-  filled-all from top o p r W h = go (r .done) refl
-    where
-      go : (b : Bool) → r .done ≡ b → (r .count ≡ length (changesOf (setOf (length ends) starts clips xs ys blocks m) (samplesOf times values marks ends) from top)) × (p ≡ written 0 (changesOf (setOf (length ends) starts clips xs ys blocks m) (samplesOf times values marks ends) from top) o)
-      go true d =
-          let k = W .passed .whole d in
-          (W .passed .count ∙ ap (λ (j : ℕ). length (changesOf (setOf (length ends) starts clips xs ys blocks m) (samplesOf times values marks ends) from j)) k, W .writes ∙ ap (λ (j : ℕ). written 0 (changesOf (setOf (length ends) starts clips xs ys blocks m) (samplesOf times values marks ends) from j) o) k)
-      go false d =
-          let a = W .passed .more d in
-          let b = W .full d in
-          let e = passed-length (W .passed) in
-          absurd (omega arith)
+  -- all changes are written: where the walk came to top, and where there is a slot for each. The first key is said in another way, too.
+  module _ (from top low : ℕ) (o p : Outputs) (r : Filled) (W : FillIs starts clips xs ys blocks m times values marks ends from top o p r) (e : from ≡ low) where
+    pub filled-total : length (changesOf (setOf (length ends) starts clips xs ys blocks m) (samplesOf times values marks ends) low top) ≡ r .count + length (changesOf (setOf (length ends) starts clips xs ys blocks m) (samplesOf times values marks ends) (r .cursor .key) top)
+    filled-total = ap (λ (j : ℕ). length (changesOf (setOf (length ends) starts clips xs ys blocks m) (samplesOf times values marks ends) j top)) (sym e) ∙ passed-length (W .passed)
+
+    pub filled-done : r .done ≡ true → (r .count ≡ length (changesOf (setOf (length ends) starts clips xs ys blocks m) (samplesOf times values marks ends) low top)) × (p ≡ written 0 (changesOf (setOf (length ends) starts clips xs ys blocks m) (samplesOf times values marks ends) low top) o)
+    filled-done d =
+        let k = W .passed .whole d in (
+          W .passed .count ∙ ap₂ (λ (i j : ℕ). length (changesOf (setOf (length ends) starts clips xs ys blocks m) (samplesOf times values marks ends) i j)) e k,
+          W .writes ∙ ap₂ (λ (i j : ℕ). written 0 (changesOf (setOf (length ends) starts clips xs ys blocks m) (samplesOf times values marks ends) i j) o) e k,
+        )
+
+    pub filled-all : length (changesOf (setOf (length ends) starts clips xs ys blocks m) (samplesOf times values marks ends) low top) ≤ slots o → (r .count ≡ length (changesOf (setOf (length ends) starts clips xs ys blocks m) (samplesOf times values marks ends) low top)) × (p ≡ written 0 (changesOf (setOf (length ends) starts clips xs ys blocks m) (samplesOf times values marks ends) low top) o)
+    filled-all h = go (r .done) refl
+      where
+        go : (b : Bool) → r .done ≡ b → (r .count ≡ length (changesOf (setOf (length ends) starts clips xs ys blocks m) (samplesOf times values marks ends) low top)) × (p ≡ written 0 (changesOf (setOf (length ends) starts clips xs ys blocks m) (samplesOf times values marks ends) low top) o)
+        go true d = filled-done d
+        go false d =
+            let a = W .passed .more d in
+            let b = W .full d in
+            let t = filled-total in
+            absurd (omega arith)

@@ -3,7 +3,7 @@ use mathlib.Core.Path.{_≡_, sym, ap, _∙_}
 use mathlib.Core.Bool.{true, false}
 use mathlib.Core.List.{List, _++_}
 use Prim.Native.Nat.{ℕ, _+_, _≤_, _<_}
-use lib.ListN.{length, length-append}
+use lib.ListN.{length, take, drop, length-append}
 use lib.Ieee.{Float}
 use Rattle.definitions.specs.declared.Manifest.{Manifest}
 use Rattle.definitions.specs.Track.{Outputs, slots}
@@ -43,6 +43,14 @@ pub record FillIs (starts : List Float) (clips : List ℕ) (xs ys blocks : List 
 pub record PageIs (starts : List Float) (clips : List ℕ) (xs ys blocks : List Float) (m : Manifest) (times values : List Float) (marks ends : List ℕ) (from top : ℕ) (r : Filled) : Type 0 where
   pub passed : PassedTo starts clips xs ys blocks m times values marks ends from top r
   pub onward : r .done ≡ false → from < r .cursor .key
+
+-- the outputs whose first n slots are those of a page
+abbrev pub copied : ℕ → Outputs → Outputs → Outputs
+copied n page o = record {
+  times = take n (page .times) ++ drop n (o .times);
+  values = take n (page .values) ++ drop n (o .values);
+  marks = take n (page .marks) ++ drop n (o .marks);
+}
 
 -- ---- in other words
 

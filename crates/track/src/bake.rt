@@ -1,4 +1,5 @@
-// The bake: the head and the changes of the value, counted first and then written.
+// The bake: the head and the changes of the value, counted before any is written.
+use crate::copying::copy_marks;
 use crate::count::has_room;
 use crate::entry::entry_at;
 use crate::fill::Cursor;
@@ -8,10 +9,19 @@ use cell::spot::no_spot;
 use definitions::Manifest;
 use gf::LEAST;
 use gf::MOST;
+use lists::writing::copy;
 use near::tops::tops_of;
+ghost use mathlib.Core.Path.{_≡_};
+ghost use Prim.Native.Nat.{_<_};
 ghost use lib.ListN.{length};
+ghost use Rattle.gf.specs.Doubles.{0·0};
+ghost use Rattle.gf.specs.Key as Key;
+ghost use Rattle.definitions.specs.Track.{slots};
 ghost use Rattle.cell_laws.specs.Unpacked.{setOf, samplesOf, Ready};
+ghost use Rattle.near.specs.Tops.{TopsOf};
+ghost use Rattle.reading.specs.Walks.{Room};
 ghost use Rattle.track.specs.Bakes.{outputs, BakeIs};
+ghost use Rattle.track.specs.Fills.{CursorIs, copied};
 
 // What a bake replies: 22, or 0 with the head and the number of changes.
 #[repr(C)]
@@ -22,8 +32,153 @@ pub struct Baked {
     pub count: usize,
 }
 
-// Bakes the value into its track: the head is the value at the lowest finite double, and the changes
-// are counted before any is written. 22: the shortest output has fewer slots than there are changes.
+// The first n changes of a page, written to the outputs.
+fn write_page(
+    pagetimes: &[f64],
+    pagevalues: &[f64],
+    pagemarks: &[u8],
+    n: usize,
+    outtimes: &mut [f64],
+    outvalues: &mut [f64],
+    outmarks: &mut [u8],
+)
+    requires { ⌜ Room n 0 (outputs (now pagetimes) (now pagevalues) (now pagemarks)) ⌝ ∗ ⌜ Room n 0 (outputs (now outtimes) (now outvalues) (now outmarks)) ⌝ }
+    ensures { λ _. ⌜ outputs (now (outtimes .exit)) (now (outvalues .exit)) (now (outmarks .exit)) ≡ copied n (outputs (now (pagetimes .entry)) (now (pagevalues .entry)) (now (pagemarks .entry))) (outputs (now (outtimes .entry)) (now (outvalues .entry)) (now (outmarks .entry))) ⌝ }
+{
+    copy(&pagetimes[..n], &mut outtimes[..n]);
+    copy(&pagevalues[..n], &mut outvalues[..n]);
+    copy_marks(&pagemarks[..n], &mut outmarks[..n]);
+}
+
+fn refused() -> Baked
+    ensures { λ r. ⌜ r ≡ record { number = 22; mark = 0; value = 0·0; count = 0 } ⌝ }
+{
+    Baked {
+        number: 22,
+        mark: 0,
+        value: 0.0,
+        count: 0,
+    }
+}
+
+// Bakes from the cursor at the lowest key, with a page at hand. A track that fits into the page is walked once; of any other the
+// pages are counted, and then it is walked again.
+fn bake_by_pages(
+    starts: &[f64],
+    clips: &[u64],
+    xs: &[f64],
+    ys: &[f64],
+    blocks: &[f64],
+    m: Manifest,
+    times: &[f64],
+    values: &[f64],
+    marks: &[u8],
+    ends: &[u64],
+    tops: &[f64],
+    from: Cursor,
+    pagetimes: &mut [f64],
+    pagevalues: &mut [f64],
+    pagemarks: &mut [u8],
+    outtimes: &mut [f64],
+    outvalues: &mut [f64],
+    outmarks: &mut [u8],
+) -> Baked
+    requires { ⌜ Ready (now starts) (now clips) (now xs) (now ys) (now blocks) m (now times) (now values) (now marks) (now ends) ⌝ }
+    requires { ⌜ TopsOf (now xs) (now ys) (now tops) ⌝ }
+    requires { ⌜ CursorIs (now starts) (now clips) (now xs) (now ys) (now blocks) m (now times) (now values) (now marks) (now ends) Key.most from ⌝ ∗ ⌜ from .key ≡ Key.least ⌝ }
+    requires { ⌜ 0 < slots (outputs (now pagetimes) (now pagevalues) (now pagemarks)) ⌝ }
+    ensures { λ r. ⌜ BakeIs (setOf (length (now (ends .entry))) (now (starts .entry)) (now (clips .entry)) (now (xs .entry)) (now (ys .entry)) (now (blocks .entry)) m) (samplesOf (now (times .entry)) (now (values .entry)) (now (marks .entry)) (now (ends .entry))) (outputs (now (outtimes .entry)) (now (outvalues .entry)) (now (outmarks .entry))) (outputs (now (outtimes .exit)) (now (outvalues .exit)) (now (outmarks .exit))) r ⌝ }
+{
+    let room = shortest(outtimes.len(), outvalues.len(), outmarks.len());
+    let head = from.last;
+    let first = fill(
+        starts,
+        clips,
+        xs,
+        ys,
+        blocks,
+        m,
+        times,
+        values,
+        marks,
+        ends,
+        tops,
+        from,
+        MOST,
+        pagetimes,
+        pagevalues,
+        pagemarks,
+    );
+    let count = first.count;
+    if room < count {
+        return refused();
+    }
+    if first.done {
+        write_page(
+            pagetimes,
+            pagevalues,
+            pagemarks,
+            count,
+            outtimes,
+            outvalues,
+            outmarks,
+        );
+        return Baked {
+            number: 0,
+            mark: head.mark,
+            value: head.value,
+            count,
+        };
+    }
+    if !has_room(
+        starts,
+        clips,
+        xs,
+        ys,
+        blocks,
+        m,
+        times,
+        values,
+        marks,
+        ends,
+        tops,
+        first.cursor,
+        MOST,
+        room - count,
+        pagetimes,
+        pagevalues,
+        pagemarks,
+    ) {
+        return refused();
+    }
+    let filled = fill(
+        starts,
+        clips,
+        xs,
+        ys,
+        blocks,
+        m,
+        times,
+        values,
+        marks,
+        ends,
+        tops,
+        from,
+        MOST,
+        outtimes,
+        outvalues,
+        outmarks,
+    );
+    Baked {
+        number: 0,
+        mark: head.mark,
+        value: head.value,
+        count: filled.count,
+    }
+}
+
+// Bakes the value into its track: the head is the value at the lowest finite double. 22: the shortest output has fewer slots than
+// there are changes.
 pub fn bake(
     starts: &[f64],
     clips: &[u64],
@@ -62,8 +217,10 @@ pub fn bake(
         last: head,
         spot,
     };
-    let room = shortest(outtimes.len(), outvalues.len(), outmarks.len());
-    if !has_room(
+    let mut pagetimes: [f64; 256] = [0.0; 256];
+    let mut pagevalues: [f64; 256] = [0.0; 256];
+    let mut pagemarks: [u8; 256] = [0; 256];
+    bake_by_pages(
         starts,
         clips,
         xs,
@@ -76,38 +233,11 @@ pub fn bake(
         ends,
         &tops.items,
         from,
-        MOST,
-        room,
-    ) {
-        return Baked {
-            number: 22,
-            mark: 0,
-            value: 0.0,
-            count: 0,
-        };
-    }
-    let filled = fill(
-        starts,
-        clips,
-        xs,
-        ys,
-        blocks,
-        m,
-        times,
-        values,
-        marks,
-        ends,
-        &tops.items,
-        from,
-        MOST,
+        &mut pagetimes,
+        &mut pagevalues,
+        &mut pagemarks,
         outtimes,
         outvalues,
         outmarks,
-    );
-    Baked {
-        number: 0,
-        mark: head.mark,
-        value: head.value,
-        count: filled.count,
-    }
+    )
 }

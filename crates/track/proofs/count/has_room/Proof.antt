@@ -1,5 +1,5 @@
 -- `count::has_room` meets its contract. The invariant: `count` is the number of changes up to the cursor, and there is room for them. The measure is what is left up to top. Assumes nothing.
-use mathlib.Core.Path.{_≡_, refl, sym, ap}
+use mathlib.Core.Path.{_≡_, refl, sym, ap, _∙_}
 use Prim.Native.Nat.{ℕ, _+_, _-_, _≤_, _<_}
 use native.Mathlib.Nat.{le-of-eq}
 use native.Mathlib.Omega.{arith}
@@ -12,17 +12,19 @@ use Rattle.cell_laws.specs.Keys.{entryAtKey}
 use Rattle.cell_laws.specs.Tracks.{entry-same}
 use Rattle.cell_laws.specs.Unpacked.{setOf, samplesOf}
 use Rattle.stretch.specs.Changes.{changesOf}
-use Rattle.track.specs.Fills.{CursorIs}
-use Rattle.track.proofs.Walks.{split-length}
+use Rattle.track.specs.Fills.{CursorIs, PageIs}
+use Rattle.reading.proofs.Filling.{Long}
+use Rattle.track.specs.Bakes.{outputs}
+use Rattle.track.proofs.Walks.{split-length, paged, slots-long}
 use Rattle.track.proofs.count.has_room.Statement.{statement}
 use Rattle.track.proofs.count.has_room.Tie as tie
 
 abbrev Inv-loop : tie.InvT-loop
-Inv-loop starts clips xs ys blocks m times values marks ends tops top room at₀ count₀ at count =
-    (at₀ .key ≤ at .key) × CursorIs starts clips xs ys blocks m times values marks ends top at × (count ≡ length (changesOf (setOf (length ends) starts clips xs ys blocks m) (samplesOf times values marks ends) (at₀ .key) (at .key))) × (count ≤ room)
+Inv-loop starts clips xs ys blocks m times values marks ends tops top room pagetimes₀ pagevalues₀ pagemarks₀ at₀ count₀ pagetimes pagevalues pagemarks at count =
+    (at₀ .key ≤ at .key) × CursorIs starts clips xs ys blocks m times values marks ends top at × (count ≡ length (changesOf (setOf (length ends) starts clips xs ys blocks m) (samplesOf times values marks ends) (at₀ .key) (at .key))) × (count ≤ room) × Long (outputs pagetimes₀ pagevalues₀ pagemarks₀) (outputs pagetimes pagevalues pagemarks)
 
 abbrev μ-loop : tie.MeasureT-loop
-μ-loop starts clips xs ys blocks m times values marks ends tops top room at₀ count₀ at count =
+μ-loop starts clips xs ys blocks m times values marks ends tops top room pagetimes₀ pagevalues₀ pagemarks₀ at₀ count₀ pagetimes pagevalues pagemarks at count =
     top - at .key
 
 -- the set and the samples that are lent
@@ -34,68 +36,95 @@ lent a = samplesOf (a .args .times .now) (a .args .values .now) (a .args .marks 
 
 -- at the loop's head: the function's entry, and the number of changes from one key to another
 abbrev entry : tie.At-loop Inv-loop μ-loop → tie.Start Inv-loop μ-loop
-entry b = b .before .before .before .before .before .before .before .before .before .before .before
+entry b = b .before .before .before .before .before .before .before .before .before .before .before .before .before .before
 
 abbrev many : tie.At-loop Inv-loop μ-loop → ℕ → ℕ → ℕ
 many b j k = length (changesOf (set (entry b)) (lent (entry b)) j k)
 
+-- what a page promises
+page : (c : tie.After-slice-known6 Inv-loop μ-loop) → let f = c .before .before .before .before .before .before in let b = f .before .before .before .before in let a = entry b .args in
+    PageIs (a .starts .now) (a .clips .now) (a .xs .now) (a .ys .now) (a .blocks .now) (a .m) (a .times .now) (a .values .now) (a .marks .now) (a .ends .now) (b .loop .at .key) (a .top) (f .fill .result)
+page c =
+    let f = c .before .before .before .before .before .before in
+    let b = f .before .before .before .before in
+    paged _ _ _ _ _ (slots-long (b .loop .inv .4) (entry b .pre .1 .1 .1)) (f .fill .ensures)
+
 -- the changes up to the page, on it, and behind it
-parts : (c : tie.After-count-page Inv-loop μ-loop) → let b = c .before in let a = entry b .args in
-    (many b (a .from .key) (c .count-page .result .cursor .key) ≡ b .loop .count + c .count-page .result .count) × (many b (a .from .key) (a .top) ≡ b .loop .count + c .count-page .result .count + many b (c .count-page .result .cursor .key) (a .top))
+parts : (c : tie.After-slice-known6 Inv-loop μ-loop) → let f = c .before .before .before .before .before .before in let b = f .before .before .before .before in let a = entry b .args in
+    (many b (a .from .key) (f .fill .result .cursor .key) ≡ b .loop .count + f .fill .result .count) × (many b (a .from .key) (a .top) ≡ b .loop .count + f .fill .result .count + many b (f .fill .result .cursor .key) (a .top))
 parts c =
-    let b = c .before in
+    let f = c .before .before .before .before .before .before in
+    let b = f .before .before .before .before in
     let a = entry b .args in
-    let P = c .count-page .ensures .passed in
+    let P = f .fill .ensures .passed in
     let n = P .count in
     let q = b .loop .inv .2 in
     let i = b .loop .inv .0 in
     let o = P .order in
     let u = P .cursor .keys .order in
-    let x = split-length (set (entry b)) (lent (entry b)) (a .from .key) (b .loop .at .key) (c .count-page .result .cursor .key) i o in
-    let y = split-length (set (entry b)) (lent (entry b)) (a .from .key) (c .count-page .result .cursor .key) (a .top) (omega arith) u in
+    let x = split-length (set (entry b)) (lent (entry b)) (a .from .key) (b .loop .at .key) (f .fill .result .cursor .key) i o in
+    let y = split-length (set (entry b)) (lent (entry b)) (a .from .key) (f .fill .result .cursor .key) (a .top) (omega arith) u in
     (omega arith, omega arith)
 
 loop-holds : tie.Need-loop-holds Inv-loop μ-loop
 loop-holds c =
-    let a = c .before .before .before .before .before .before .before .before .before .before in
+    let a = c .before .before .before .before .before .before .before .before .before .before .before .before .before in
     let k = a .args .from .key in
-    (le-of-eq refl, a .pre .1 .1, sym (ap length (changes-none entry-same (entryAtKey (set a) (lent a)) k k (le-of-eq refl))), omega arith)
+    (le-of-eq refl, a .pre .1 .1 .0, sym (ap length (changes-none entry-same (entryAtKey (set a) (lent a)) k k (le-of-eq refl))), omega arith, record { times = refl; values = refl; marks = refl })
 
-count-page-requires : tie.Need-count-page-requires Inv-loop μ-loop
-count-page-requires c κs = let a = entry c in (a .pre .0, (a .pre .1 .0, c .loop .inv .1))
+fill-requires : tie.Need-fill-requires Inv-loop μ-loop
+fill-requires c κs = let b = c .before .before .before in let a = entry b in (a .pre .0, (a .pre .1 .0, b .loop .inv .1))
 
 sub-if1 : tie.Need-sub-if1 Inv-loop μ-loop
-sub-if1 c = c .before .loop .inv .3
+sub-if1 c = c .before .before .before .before .before .before .before .before .before .before .loop .inv .3
+
+same-length : tie.Need-same-length Inv-loop μ-loop
+same-length c = c .before .before .before .before .before .before .before .before .fill .kept .1 .1 .1 .1 .1 .1 .1 .1 .1 .1 .1 .1 .1 .0 ∙ c .before .before .before .before .before .before .before .before .before .before .before .before .loop .inv .4 .times
+
+same-length-2 : tie.Need-same-length-2 Inv-loop μ-loop
+same-length-2 c = c .before .before .before .before .before .before .before .before .fill .kept .1 .1 .1 .1 .1 .1 .1 .1 .1 .1 .1 .1 .1 .1 .0 ∙ c .before .before .before .before .before .before .before .before .before .before .before .before .loop .inv .4 .values
+
+same-length-3 : tie.Need-same-length-3 Inv-loop μ-loop
+same-length-3 c = c .before .before .before .before .before .before .before .before .fill .kept .1 .1 .1 .1 .1 .1 .1 .1 .1 .1 .1 .1 .1 .1 .1 .0 ∙ c .before .before .before .before .before .before .before .before .before .before .before .before .loop .inv .4 .marks
 
 returns : tie.Need-returns Inv-loop μ-loop
 returns c =
     let p = c .before .before in
-    let b = p .before in
+    let b = p .before .before .before .before .before .before .before .before .before .before in
     let e = parts p .1 in
     let h = c .if1 .taken in
     let r = b .loop .inv .3 in
     let l : entry b .args .room < many b (entry b .args .from .key) (entry b .args .top) = omega arith in
     sym (lt-leb _ _ l)
 
+same-length-4 : tie.Need-same-length-4 Inv-loop μ-loop
+same-length-4 c = c .before .before .before .before .before .before .before .before .before .fill .kept .1 .1 .1 .1 .1 .1 .1 .1 .1 .1 .1 .1 .1 .0 ∙ c .before .before .before .before .before .before .before .before .before .before .before .before .before .loop .inv .4 .times
+
+same-length-5 : tie.Need-same-length-5 Inv-loop μ-loop
+same-length-5 c = c .before .before .before .before .before .before .before .before .before .fill .kept .1 .1 .1 .1 .1 .1 .1 .1 .1 .1 .1 .1 .1 .1 .0 ∙ c .before .before .before .before .before .before .before .before .before .before .before .before .before .loop .inv .4 .values
+
+same-length-6 : tie.Need-same-length-6 Inv-loop μ-loop
+same-length-6 c = c .before .before .before .before .before .before .before .before .before .fill .kept .1 .1 .1 .1 .1 .1 .1 .1 .1 .1 .1 .1 .1 .1 .1 .0 ∙ c .before .before .before .before .before .before .before .before .before .before .before .before .before .loop .inv .4 .marks
+
 returns-2 : tie.Need-returns-2 Inv-loop μ-loop
 returns-2 c =
     let p = c .before .before .before in
-    let b = p .before in
+    let b = p .before .before .before .before .before .before .before .before .before .before in
     let a = entry b .args in
     let e = parts p .0 in
     let h = c .before .if1 .left in
     let r = b .loop .inv .3 in
-    let w = ap (λ (j : ℕ). many b (a .from .key) j) (p .count-page .ensures .passed .whole (c .if2 .taken)) in
+    let w = ap (λ (j : ℕ). many b (a .from .key) j) (p .before .before .before .before .before .before .fill .ensures .passed .whole (c .if2 .taken)) in
     let l : many b (a .from .key) (a .top) ≤ a .room = omega arith in
     sym (le-leb _ _ l)
 
 add-count : tie.Need-add-count Inv-loop μ-loop
-add-count c = let h = c .before .before .if1 .left in let b = c .before .before .before .before .before in let r = b .loop .inv .3 in omega (arith, entry b .good)
+add-count c = let h = c .before .before .if1 .left in let b = c .before .before .before .before .before .before .before .before .before .before .before .before .before .before in let r = b .loop .inv .3 in omega (arith, entry b .good)
 
 loop-less : tie.Need-loop-less Inv-loop μ-loop
 loop-less c =
     let p = c .before .before .before .before .before in
-    let P = p .count-page .ensures in
+    let P = page p in
     let o = P .onward (c .before .before .if2 .left) in
     let u = P .passed .cursor .keys .order in
     omega arith
@@ -103,14 +132,24 @@ loop-less c =
 loop-again : tie.Need-loop-again Inv-loop μ-loop
 loop-again c =
     let p = c .before .before .before .before .before in
-    let b = p .before in
-    let P = p .count-page .ensures .passed in
+    let f = p .before .before .before .before .before .before in
+    let b = f .before .before .before .before in
+    let P = f .fill .ensures .passed in
     let o = P .order in
     let i = b .loop .inv .0 in
     let e = parts p .0 in
     let h = c .before .before .before .if1 .left in
-    let r = b .loop .inv .3 in
-    (omega arith, P .cursor, omega arith, omega arith)
+    let r = b .loop .inv .3 in (
+      omega arith,
+      P .cursor,
+      omega arith,
+      omega arith,
+      record {
+        times = f .fill .kept .1 .1 .1 .1 .1 .1 .1 .1 .1 .1 .1 .1 .1 .0 ∙ b .loop .inv .4 .times;
+        values = f .fill .kept .1 .1 .1 .1 .1 .1 .1 .1 .1 .1 .1 .1 .1 .1 .0 ∙ b .loop .inv .4 .values;
+        marks = f .fill .kept .1 .1 .1 .1 .1 .1 .1 .1 .1 .1 .1 .1 .1 .1 .1 .0 ∙ b .loop .inv .4 .marks;
+      },
+    )
 
 pub has-room-spec : {M : Type 1} → statement M
 has-room-spec =
@@ -119,9 +158,15 @@ has-room-spec =
     Inv-loop
     μ-loop
     loop-holds
-    count-page-requires
+    fill-requires
     sub-if1
+    same-length
+    same-length-2
+    same-length-3
     returns
+    same-length-4
+    same-length-5
+    same-length-6
     returns-2
     add-count
     loop-less

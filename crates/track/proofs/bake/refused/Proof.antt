@@ -1,0 +1,12 @@
+-- `bake::refused` meets its contract. Assumes nothing.
+use mathlib.Core.Path.{refl}
+use lib.Ieee.{ofBits}
+use Rattle.track.proofs.bake.refused.Statement.{statement}
+use Rattle.track.proofs.bake.refused.Tie as tie
+
+returns : tie.Need-returns
+unfolding ofBits
+returns c = refl
+
+pub refused-spec : {M : Type 1} → statement M
+refused-spec = tie.close (tie.spec returns)
