@@ -92,10 +92,10 @@ pub fn total_key(x: f64) -> u64
     if x != x {
         return 0xfff8_0000_0000_0000;
     }
+    // the rank is asked for where the sign is known, which spares the sorts a mask for each comparison
     let f = fields_of(x);
-    let rank = f.rank();
     if f.sign == 0 {
-        return 0x8000_0000_0000_0000 + rank;
+        return 0x8000_0000_0000_0000 + f.rank();
     }
-    0x7fff_ffff_ffff_ffff - rank
+    0x7fff_ffff_ffff_ffff - f.rank()
 }
