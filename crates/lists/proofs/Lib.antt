@@ -1,5 +1,5 @@
 -- Laws that belong to no one function.
 pub mod ClipTimes
 pub mod Neighbours
-pub mod Sorts
+pub mod ByPlaces
 pub mod Beside

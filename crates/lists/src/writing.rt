@@ -16,6 +16,17 @@ pub fn copy(from: &[f64], to: &mut [f64])
     }
 }
 
+pub fn copy_numbers(from: &[u64], to: &mut [u64])
+    requires { ⌜ length (now to) ≡ length (now from) ⌝ }
+    ensures { λ _. ⌜ now (to .exit) ≡ now (from .entry) ⌝ }
+{
+    let mut i: usize = 0;
+    while i < from.len() {
+        to[i] = from[i];
+        i += 1;
+    }
+}
+
 // Each time becomes offset + scale·time, two roundings: the Rust's `LayerOffset::apply`.
 pub fn move_times(times: &mut [f64], o: LayerOffset)
     ensures { λ _. ⌜ now (times .exit) ≡ map (apply o) (now (times .entry)) ⌝ }

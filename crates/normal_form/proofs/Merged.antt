@@ -1,16 +1,15 @@
 -- The runs of sorted places, found from the last place to the first: what the two lists hold at each place. Assumes nothing.
 use mathlib.Core.Path.{_≡_, refl, sym, ap, ap₂, _∙_, subst}
 use mathlib.Core.Bool.{Bool, true, false, cond, true≢false}
-use mathlib.Core.List.{List, [], _∷_, _++_, map, append-assoc}
+use mathlib.Core.List.{List, [], _∷_}
 use Prim.Native.Nat.{ℕ, suc, _+_, _-_, _≤_, _<_}
 use native.Mathlib.Nat.{add-zero}
-use native.Mathlib.Numerals.{add-one}
 use native.Mathlib.Omega.{arith}
-use lib.ListN.{length, getD, take, drop, set, length-drop, length-set, length-map}
-use lib.Seq.{take-all, drop-length, drop-cons, take-suc, drop-set-add, drop-set-lt, getD-set-same, set-at, length-take-le}
+use lib.ListN.{length, getD, take, drop, set, length-drop, length-set}
+use lib.Seq.{take-all, drop-length, drop-cons, drop-set-add, drop-set-lt, getD-set-same}
 use lib.Ieee.{Float, nan, eq}
 use Rattle.set_laws.specs.Every.{Every, every-drop}
-use Rattle.normal_form.specs.Placed.{Inside}
+use Rattle.lists.specs.Placed.{Inside}
 use Rattle.normal_form.specs.Runs.{Run, alone, meets, join, runs, firsts, lasts, RunsFrom}
 
 -- ---- lists
@@ -146,24 +145,3 @@ module _ (times : List Float) (places : List ℕ) where
 
   pub standing-all : (first last : List ℕ) (at : ℕ) → Standing first last at 0 → RunsFrom times places first last at
   standing-all first last at s = record { count = s .count; firsts-are = s .firsts-are; lasts-are = s .lasts-are }
-
--- ---- the output: one entry more
-
-module _ {A : Type 0} (f : ℕ → A) (places : List ℕ) (old : List A) where
-  abbrev pub gatheredTo : ℕ → List A
-  gatheredTo i = map f (take i places) ++ drop i old
-
-  map-snoc : (xs : List ℕ) (x : ℕ) → map f (xs ++ (x ∷ [])) ≡ map f xs ++ (f x ∷ [])
-  map-snoc [] x = refl
-  map-snoc (y ∷ ys) x = ap (λ (l : List A). f y ∷ l) (map-snoc ys x)
-
-  pub gathered-next : (now : List A) (i : ℕ) → i < length places → i < length old → now ≡ gatheredTo i → set now i (f (getD places i 0)) ≡ gatheredTo (i + 1)
-  gathered-next now i h k e =
-      let x = f (getD places i 0) in
-      let front : length (map f (take i places)) ≡ i = length-map (take i places) f ∙ length-take-le i places (omega arith) in
-      ap (λ (l : List A). set l i x) (e ∙ ap (λ (l : List A). map f (take i places) ++ l) (drop-cons old i x k))
-      ∙ set-at (map f (take i places)) (getD old i x) (drop (suc i) old) x i front
-      ∙ rw (add-one i) (sym (append-assoc (map f (take i places)) (x ∷ []) (drop (suc i) old)) ∙ ap (λ (l : List A). l ++ drop (suc i) old) (sym (ap (map f) (take-suc places i 0 h) ∙ map-snoc (take i places) (getD places i 0))))
-
-  pub gathered-all : gatheredTo (length places) ≡ map f places ++ drop (length (map f places)) old
-  gathered-all = ap₂ (λ (l : List ℕ) (n : ℕ). map f l ++ drop n old) (take-all (length places) places (omega arith)) (sym (length-map places f))

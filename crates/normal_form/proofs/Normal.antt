@@ -1,46 +1,25 @@
 -- The normal form by places: of the sorted places' runs, the first gives the time, the last the value and the mark. Assumes nothing.
 use mathlib.Core.Path.{_≡_, refl, sym, ap, _∙_}
 use mathlib.Core.Bool.{Bool, true, false, cond}
-use mathlib.Core.List.{List, [], _∷_, _++_, map, map-map, map-append}
-use Prim.Native.Nat.{ℕ, zero, suc, _≤_, _<_, min}
+use mathlib.Core.List.{List, [], _∷_, map, map-map}
+use Prim.Native.Nat.{ℕ, _≤_, _<_, min}
 use native.Mathlib.Nat.{min-le-left, min-le-right, le-min}
 use native.Mathlib.Omega.{arith}
 use borrow.Author.Tests.{lt-ltb, le-ltb}
-use lib.Dec.{leb, ltb}
+use lib.Dec.{ltb}
 use lib.ListN.{length, getD, length-map}
 use lib.Ieee.{Float, nan, eq}
 use Rattle.gf.specs.Key.{key}
-use Rattle.definitions.specs.Lists.{_if_else_, insertBy, sortBy, below}
+use Rattle.definitions.specs.Lists.{_if_else_, sortBy, below}
 use Rattle.definitions.specs.Samples.{unlikeLengths, samples2, badMarks}
 use Rattle.definitions.specs.Normalize.{TimeSample, timeSamples, merge, mergeEqual, normalizeTimeSamples, normalizeNumber}
 use Rattle.definitions.specs.Track.{Outputs, slots}
+use Rattle.lists.proofs.ByPlaces.{below-first, sort-map}
 use Rattle.normal_form.specs.Placed.{inOrder}
 use Rattle.normal_form.specs.Runs.{Run, alone, join, runs, firsts, lasts}
 use Rattle.normal_form.specs.Normalizes.{normalForm, listedNumber}
 
--- ---- sorting places is sorting what stands there
-
-module _ {A B : Type 0} (f : A → B) (k : B → ℕ) where
-  insert-map : (x : A) (ys : List A) → insertBy k (f x) (map f ys) ≡ map f (insertBy (λ (a : A). k (f a)) x ys)
-  insert-map x [] = refl
-  insert-map x (y ∷ ys) = go (leb (k (f x)) (k (f y))) (insert-map x ys)
-    where
-      go : (b : Bool) → insertBy k (f x) (map f ys) ≡ map f (insertBy (λ (a : A). k (f a)) x ys)
-          → cond b (f x ∷ f y ∷ map f ys) (f y ∷ insertBy k (f x) (map f ys)) ≡ map f (cond b (x ∷ y ∷ ys) (y ∷ insertBy (λ (a : A). k (f a)) x ys))
-      go true h = refl
-      go false h = ap (λ (l : List B). f y ∷ l) h
-
-  sort-map : (xs : List A) → sortBy k (map f xs) ≡ map f (sortBy (λ (a : A). k (f a)) xs)
-  sort-map [] = refl
-  sort-map (x ∷ xs) = ap (insertBy k (f x)) (sort-map xs) ∙ insert-map x (sortBy (λ (a : A). k (f a)) xs)
-
 -- ---- the lent lists, by places
-
-below-first : {A : Type 0} (f : ℕ → A) (n : ℕ) → map f (below (suc n)) ≡ f 0 ∷ map (λ (i : ℕ). f (suc i)) (below n)
-below-first f zero = refl
-below-first {A} f (suc n) =
-    map-append f (below (suc n)) (suc n ∷ []) ∙ ap (λ (l : List A). l ++ (f (suc n) ∷ [])) (below-first f n)
-    ∙ ap (λ (l : List A). f 0 ∷ l) (sym (map-append (λ (i : ℕ). f (suc i)) (below n) (n ∷ [])))
 
 abbrev sampleAt : List Float → List Float → List ℕ → ℕ → TimeSample
 sampleAt times values marks i = record { time = getD times i nan; value = getD values i nan; mark = getD marks i 0 }

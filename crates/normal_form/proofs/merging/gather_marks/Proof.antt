@@ -6,8 +6,8 @@ use native.Mathlib.Omega.{arith}
 use borrow.Author.Needs.{needs}
 use lib.ListN.{length, getD, length-set}
 use Rattle.set_laws.specs.Every.{every-at}
-use Rattle.normal_form.specs.Placed.{Inside}
-use Rattle.normal_form.proofs.Merged.{gatheredTo, gathered-next, gathered-all}
+use Rattle.lists.specs.Placed.{Inside}
+use Rattle.lists.proofs.ByPlaces.{gatheredTo, gathered-next, gathered-all}
 use Rattle.normal_form.proofs.merging.gather_marks.Statement.{statement}
 use Rattle.normal_form.proofs.merging.gather_marks.Tie as tie
 

@@ -4,7 +4,7 @@ use mathlib.Core.Path.{sym, ap, _∙_, subst}
 use mathlib.Core.List.{List}
 use lib.ListN.{length}
 use Rattle.set_laws.specs.Every.{Every}
-use Rattle.normal_form.specs.Placed.{Inside}
+use Rattle.lists.specs.Placed.{Inside}
 use Rattle.normal_form.proofs.Written.{long, storable, order-inside, order-length, in-runs}
 use borrow.Author.Needs.{needs}
 use Rattle.normal_form.proofs.merging.normalize_into.Statement.{statement}

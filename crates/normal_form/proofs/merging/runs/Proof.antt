@@ -6,7 +6,7 @@ use native.Mathlib.Omega.{arith}
 use borrow.Author.Needs.{needs}
 use lib.ListN.{length, drop}
 use Rattle.set_laws.specs.Every.{every-at}
-use Rattle.normal_form.specs.Placed.{Inside}
+use Rattle.lists.specs.Placed.{Inside}
 use Rattle.normal_form.specs.Runs.{meets}
 use Rattle.normal_form.proofs.Merged.{part-rest, Standing, standing-start, here, same-inside, standing-same, standing-apart, standing-inside, standing-all}
 use Rattle.normal_form.proofs.merging.runs.Statement.{statement}

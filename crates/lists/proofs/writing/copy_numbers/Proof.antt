@@ -1,0 +1,69 @@
+-- `lists::writing::copy_numbers` meets its contract: the first i entries are copied. Assumes nothing.
+use Prim.Native.Nat.{_-_}
+use mathlib.Core.Path.{_≡_, refl, _∙_}
+use native.Mathlib.Omega.{arith}
+use borrow.Author.Needs.{needs}
+use lib.ListN.{length, length-set}
+use denote.Ref.{now}
+use Rattle.lists.specs.Filled.{Filled, fill-start, fill-next, fill-whole}
+use Rattle.lists.proofs.writing.copy_numbers.Statement.{statement}
+use Rattle.lists.proofs.writing.copy_numbers.Tie as tie
+
+abbrev Inv-loop : tie.InvT-loop
+Inv-loop from to₀ i₀ to i = Filled from to i × (length to ≡ length from)
+
+abbrev μ-loop : tie.MeasureT-loop
+μ-loop from to₀ i₀ to i = length from - i
+
+loop-holds : tie.Need-loop-holds Inv-loop μ-loop
+loop-holds c = (fill-start (now (c .args .from)) (now (c .args .to)) (omega arith), c .pre)
+
+mul-to : tie.Need-mul-to Inv-loop μ-loop
+mul-to c = search needs
+
+shared-slice-read-to : tie.Need-shared-slice-read-to Inv-loop μ-loop
+shared-slice-read-to c = search needs
+
+mul-to-2 : tie.Need-mul-to-2 Inv-loop μ-loop
+mul-to-2 c = search needs
+
+slice-write-to : tie.Need-slice-write-to Inv-loop μ-loop
+slice-write-to c = search needs
+
+add-i : tie.Need-add-i Inv-loop μ-loop
+add-i c = search needs
+
+loop-less : tie.Need-loop-less Inv-loop μ-loop
+loop-less c = search needs
+
+loop-again : tie.Need-loop-again Inv-loop μ-loop
+loop-again c =
+    let k = c .before .before .loop in
+    let s = c .before .before .before in
+    (fill-next (now (s .args .from)) (k .to) (k .i) _ 0 (k .inv .0) (omega arith) refl, length-set (k .to) (k .i) _ ∙ k .inv .1)
+
+same-length : tie.Need-same-length Inv-loop μ-loop
+same-length c = search needs
+
+returns : tie.Need-returns Inv-loop μ-loop
+returns c =
+    let k = c .before .loop in
+    let s = c .before .before in
+    fill-whole (now (s .args .from)) (k .to) (k .i) (k .inv .0) (omega arith) (k .inv .1)
+
+pub copy-numbers-spec : {M : Type 1} → statement M
+copy-numbers-spec =
+    tie.close
+    (tie.spec
+    Inv-loop
+    μ-loop
+    loop-holds
+    mul-to
+    shared-slice-read-to
+    mul-to-2
+    slice-write-to
+    add-i
+    loop-less
+    loop-again
+    same-length
+    returns)
