@@ -1,15 +1,17 @@
 -- The laws of tracks. Of a step function v on the keys from low to top:
 --     track-of        the changes found key by key are its track, also up to any key on the way
 --     track-unique    it has one track
+--     track-same      two functions have the same track exactly if they agree on every key
+--     fewest          no head and ascending changes with v's held reading have fewer changes
 --     changes-split   the changes of one window and of the next are those of both; changes-agree: they go by the function within the window
 --     changes-still, changes-next     what a search for the next change tells of the changes so far
 -- Assumes nothing.
 use mathlib.Core.Path.{_≡_, refl, sym, ap, _∙_, subst}
 use mathlib.Core.List.{List, [], _∷_, _++_, append-assoc, append-nil}
 use mathlib.Core.Bool.{Bool}
-use mathlib.Core.Logic.{_⊎_, inl, inr, ⊎-elim}
-use Prim.Native.Nat.{ℕ, zero, suc, _+_, _-_, _≤_, _<_}
-use native.Mathlib.Decide.{decLe, le-ind}
+use mathlib.Core.Logic.{_⊎_, inl, inr, ⊎-elim, _↔_}
+use Prim.Native.Nat.{ℕ, zero, suc, _+_, _-_, _≤_, _<_, zero-le, suc-le-suc}
+use native.Mathlib.Decide.{decLe, ℕ-discrete, le-ind}
 use native.Mathlib.Omega.{arith}
 use borrow.Author.Tests.{le-leb, lt-leb}
 use lib.Dec.{leb}
@@ -48,6 +50,16 @@ module _ {A : Type 0} where
   upto-more [] u h = tt
   upto-more (c ∷ cs) u h = (omega arith, upto-more cs (u .1) h)
 
+  hasKey? : (x : ℕ) (cs : List (Change A)) → Dec (HasKey x cs)
+  hasKey? x [] = no (λ m. m)
+  hasKey? x (c ∷ cs) = go (ℕ-discrete (c .key) x) (hasKey? x cs)
+    where
+      go : Dec (c .key ≡ x) → Dec (HasKey x cs) → Dec (HasKey x (c ∷ cs))
+      go (yes e) (yes m) = yes (inl e)
+      go (yes e) (no n) = yes (inl e)
+      go (no d) (yes m) = yes (inr m)
+      go (no d) (no n) = no (⊎-elim d n)
+
   -- ## One change more, at the end
 
   pub rising-snoc : {low : ℕ} (cs : List (Change A)) (c : Change A) (m : ℕ) → Rising low cs → UpTo m cs → low < c .key → m < c .key → Rising low (cs ++ c ∷ [])
@@ -83,6 +95,12 @@ module _ {A : Type 0} where
 
   pub held-past : (h : A) (cs : List (Change A)) (m : ℕ) (j k : ℕ) → UpTo m cs → m ≤ j → m ≤ k → heldAt h cs j ≡ heldAt h cs k
   held-past h cs m j k u p q = held-same h cs j k (λ x n. let b = upto-has cs u n in (λ _. omega arith, λ _. omega arith))
+
+  held-still : (h : A) (cs : List (Change A)) (k : ℕ) → (HasKey k cs → ⊥) → heldAt h cs k ≡ heldAt h cs (k - 1)
+  held-still h cs k n = held-same h cs k (k - 1) f
+    where
+      f : (x : ℕ) → HasKey x cs → (x ≤ k → x ≤ k - 1) × (x ≤ k - 1 → x ≤ k)
+      f x m = let d : (x ≡ k → ⊥) = λ e. n (subst (λ (y : ℕ). HasKey y cs) e m) in (λ h. omega arith, λ h. omega arith)
 
   -- at and below a bound that the keys are above it is the head
   pub held-low : (h : A) (cs : List (Change A)) (low k : ℕ) → Rising low cs → k ≤ low → heldAt h cs k ≡ h
@@ -133,6 +151,30 @@ module _ {A : Type 0} where
       (λ x m. let a = rising-has cs r m in
       sym (held-rest g c cs x (omega arith)) ∙ v x (inr m) ∙ held-rest h d ds x (omega arith)))
 
+  -- an ascending list whose keys another ascending list has is no longer
+  no-longer : (ds cs : List (Change A)) → Ascending cs → Ascending ds → ((x : ℕ) → HasKey x cs → HasKey x ds) → length cs ≤ length ds
+  no-longer [] [] r s f = zero-le
+  no-longer [] (c ∷ cs) r s f = absurd (f (c .key) (inl refl))
+  no-longer (d ∷ ds) [] r s f = zero-le
+  no-longer (d ∷ ds) (c ∷ cs) r s f =
+      go (ℕ-discrete (c .key) (d .key)) (no-longer ds cs) (no-longer ds (c ∷ cs))
+    where
+      dle : d .key ≤ c .key
+      dle = first-below d c ds cs s (f (c .key) (inl refl))
+
+      go : Dec (c .key ≡ d .key)
+          → (Ascending cs → Ascending ds → ((x : ℕ) → HasKey x cs → HasKey x ds) → length cs ≤ length ds)
+          → (Ascending (c ∷ cs) → Ascending ds → ((x : ℕ) → HasKey x (c ∷ cs) → HasKey x ds) → length (c ∷ cs) ≤ length ds)
+          → length (c ∷ cs) ≤ length (d ∷ ds)
+      go (yes e) both one =
+          suc-le-suc (both (rising-ascending (c .key) cs r) (rising-ascending (d .key) ds s) (λ x m. rest-has c d cs ds x r e (f x) m))
+      go (no n) both one =
+          let above : (x : ℕ) → HasKey x (c ∷ cs) → d .key < x =
+          λ x m. ⊎-elim (λ e. let l = dle in omega arith) (λ p. let h = rising-has cs r p in let l = dle in omega arith) m in
+          let h = one r (rising-ascending (d .key) ds s)
+          (λ x m. ⊎-elim (λ e. let a = above x m in absurd (omega arith)) (λ p. p) (f x m)) in
+          omega arith
+
   -- ## A function's track
 
   -- the functions agree on the keys from low to top
@@ -169,6 +211,25 @@ module _ {A : Type 0} where
               let e₁ = f (k - 1) (omega arith) (omega arith) in
               (λ m q. t .places k a b .0 m (e ∙ q ∙ sym e₁), λ n. t .places k a b .1 (λ q. n (sym e ∙ q ∙ e₁)));
         }
+
+    -- Every other head and ascending changes with that held reading have at least as many changes
+    pub fewest : (g : A) (ds : List (Change A)) → Ascending ds → Agree low top (heldAt g ds) v → length cs ≤ length ds
+    fewest g ds s f =
+        no-longer ds cs (rising-ascending low cs (t .rising)) s
+        (λ x m. go x m (rising-has cs (t .rising) m) (upto-has cs (t .inside) m) (hasKey? x ds))
+      where
+        go : (x : ℕ) → HasKey x cs → low < x → x ≤ top → Dec (HasKey x ds) → HasKey x ds
+        go x m a b (yes p) = p
+        go x m a b (no n) =
+            absurd (key-changes x m (sym (f x (omega arith) b) ∙ held-still g ds x n ∙ f (x - 1) (omega arith) (omega arith)))
+
+  -- Two functions have the same track exactly if they agree on every key
+  pub track-same : {low top : ℕ} {v w : ℕ → A} {h g : A} {cs ds : List (Change A)} → low ≤ top → TrackOf low top v h cs → TrackOf low top w g ds
+      → ((h ≡ g) × (cs ≡ ds)) ↔ Agree low top v w
+  track-same {g = g} {cs = cs} le t s = (
+    λ e k a b. sym (t .exact k a b) ∙ ap (λ (x : A). heldAt x cs k) (e .0) ∙ ap (λ (l : List (Change A)). heldAt g l k) (e .1) ∙ s .exact k a b,
+    λ f. track-unique t (track-agree s le (λ k a b. sym (f k a b))),
+  )
 
   -- ## One key more
 
