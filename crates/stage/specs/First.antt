@@ -1,130 +1,187 @@
--- The first of the times above t: by its number, by `total_cmp`, and by some of the times where the others are behind those. Assumes nothing.
-use mathlib.Core.Path.{_≡_, refl, sym, ap, ap₂, _∙_, subst}
-use mathlib.Core.Logic.{inl, inr}
-use mathlib.Core.Bool.{Bool, true, false, not}
+-- The first of the times above t, by its number and by `total_cmp`: they differ where it is zero, which is written -0.0 if that is among the times.
+-- Assumes nothing.
+use mathlib.Core.Path.{_≡_, refl, sym, ap, _∙_, subst}
+use mathlib.Core.Logic.{_⊎_, inl, inr}
+use mathlib.Core.Bool.{Bool, true, false, not, cond}
 use mathlib.Core.List.{List}
-use Prim.Native.Nat.{ℕ, _*_, _≤_}
-use native.Mathlib.Nat.{zero-mul}
+use Prim.Native.Nat.{_≤_, _<_}
 use native.Mathlib.Omega.{arith}
 use native.Mathlib.Decide.{decLe}
-use lib.Dec.{T, eqb→eq}
-use lib.Ieee.{Float, nan, inf, fin, binary64, ofBits, up, down, level, eq, ne, lt, le}
-use Rattle.gf.specs.Key.{key, isZero, same-or-zeros, key-inj, le→key, le-no-nan, finite-no-nan}
-use Rattle.gf.specs.Doubles.{totalKey}
+use lib.Dec.{T}
+use lib.Ieee.{Float, binary64, isNan, eq, lt, le}
+use Rattle.gf.specs.Key.{key, isZero, eq→le, same-or-zeros, key-inj, key→lt, lt→key, key→eq, eq→key, le→key, le-no-nan, lt→le, finite-no-nan}
+use Rattle.gf.specs.Doubles.{0·0, totalKey}
 use Rattle.definitions.specs.Doubles.{FiniteDouble}
 use Rattle.set_laws.specs.Every.{Every}
 use Rattle.set_laws.specs.Stored.{total→key}
 use Rattle.cell_laws.specs.Every.{any-with, every-map, every-zip}
+use Rattle.cell_laws.specs.Places.{Fits}
+use Rattle.cell_laws.specs.Neighbours.{IsUpper}
 use Rattle.window.specs.declared.Bound.{Bound}
 use Rattle.window.specs.declared.Bound.the-variants.{At, Nothing}
-use Rattle.window.specs.Bounds.{In, in-every, every-in, UpperIs, NextIs}
+use Rattle.window.specs.Bounds.{In, in-every, every-in}
+use Rattle.stage.specs.Ordered.{NextIs}
+use Rattle.stage.specs.MinusZero.{minusZero, minus-finite, zero-finite, minus-total, zero-total, zero-or-minus}
 
--- the first of the times above t in the order of K, or none is above it
-abbrev pub FirstIs : (Float → ℕ) → List Float → Float → Bound → Type 0
-FirstIs K l t (At h) = In h l × T (lt t h) × Every (λ (x : Float). T (lt t x) → K h ≤ K x) l
-FirstIs K l t Nothing = Every (λ (x : Float). T (lt t x) → ⊥) l
+-- the first of the times above t by its number, or none is above it
+abbrev pub FirstIs : List Float → Float → Bound → Type 0
+FirstIs l t (At h) = In h l × T (lt t h) × Every (λ (x : Float). T (lt t x) → key h ≤ key x) l
+FirstIs l t Nothing = Every (λ (x : Float). T (lt t x) → ⊥) l
 
 -- ---- some of the times stand for all
 
 -- one of the times of g is above t, and not behind x
-abbrev pub Before : (Float → ℕ) → List Float → Float → Float → Type 0
-Before K g t x = (y : Float) × In y g × T (lt t y) × (K y ≤ K x)
+abbrev pub Before : List Float → Float → Float → Type 0
+Before g t x = (y : Float) × In y g × T (lt t y) × (key y ≤ key x)
 
-module _ (K : Float → ℕ) (t : Float) (g l : List Float) (among : Every (λ (x : Float). In x l) g) (rest : Every (λ (x : Float). T (lt t x) → Before K g t x) l) where
-  pub first-of-all : (b : Bound) → FirstIs K g t b → FirstIs K l t b
+module _ (t : Float) (g l : List Float) (among : Every (λ (x : Float). In x l) g) (rest : Every (λ (x : Float). T (lt t x) → Before g t x) l) where
+  pub first-of-all : (b : Bound) → FirstIs g t b → FirstIs l t b
   first-of-all Nothing n =
-      every-map (λ (x : Float). T (lt t x) → Before K g t x) (λ (x : Float). T (lt t x) → ⊥) (λ x r u. let y = r u in in-every (λ (z : Float). T (lt t z) → ⊥) (y .0) g n (y .1) (y .2)) l rest
+      every-map (λ (x : Float). T (lt t x) → Before g t x) (λ (x : Float). T (lt t x) → ⊥) (λ x r u. let y = r u in in-every (λ (z : Float). T (lt t z) → ⊥) (y .0) g n (y .1) (y .2)) l rest
   first-of-all (At h) n = (
     in-every (λ (x : Float). In x l) h g among (n .0),
     n .1,
-    every-map (λ (x : Float). T (lt t x) → Before K g t x) (λ (x : Float). T (lt t x) → K h ≤ K x)
-        (λ x r u. let y = r u in omega (arith, y .3, in-every (λ (z : Float). T (lt t z) → K h ≤ K z) (y .0) g (n .2) (y .1) (y .2))) l rest,
+    every-map (λ (x : Float). T (lt t x) → Before g t x) (λ (x : Float). T (lt t x) → key h ≤ key x)
+        (λ x r u. let y = r u in omega (arith, y .3, in-every (λ (z : Float). T (lt t z) → key h ≤ key z) (y .0) g (n .2) (y .1) (y .2))) l rest,
   )
 
--- ---- a number tells a double, if it is not zero
+-- ---- finite doubles by their numbers
 
-abbrev pub Told : Bound → Type 0
-Told (At h) = T (isZero h) → ⊥
-Told Nothing = Unit {0}
+module _ (x y : Float) (f : FiniteDouble x) (g : FiniteDouble y) where
+  same-key : T (eq x y) → key x ≡ key y
+  same-key h = eq→key x y (f .fitting) (g .fitting) (finite-no-nan x (f .finitely)) (finite-no-nan y (g .finitely)) h
 
-zeros-level : (s t : Bool) (m n u v w x : ℕ) → m ≡ 0 → n ≡ 0 → level s (m * u * v) t (n * w * x) ≡ true
-zeros-level s t m n u v w x p q = ap₂ (λ (a b : ℕ). level s a t b) (ap (λ (k : ℕ). k * u * v) p ∙ nothing u v) (ap (λ (k : ℕ). k * w * x) q ∙ nothing w x) ∙ go s t
-  where
-    nothing : (u v : ℕ) → 0 * u * v ≡ 0
-    nothing u v = ap (λ (k : ℕ). k * v) (zero-mul u) ∙ zero-mul v
+  one-number : key x ≡ key y → (x ≡ y) ⊎ (T (isZero x) × T (isZero y))
+  one-number h = key-inj x y (f .fitting) (g .fitting) (finite-no-nan x (f .finitely)) (finite-no-nan y (g .finitely)) h
 
-    go : (s t : Bool) → level s 0 t 0 ≡ true
-    go true true = refl
-    go true false = refl
-    go false true = refl
-    go false false = refl
-
-zeros-equal : (x y : Float) → T (isZero x) → T (isZero y) → eq x y ≡ true
-unfolding eq
-zeros-equal nan y p q = absurd p
-zeros-equal (inf s) y p q = absurd p
-zeros-equal (fin s m d) nan p q = absurd q
-zeros-equal (fin s m d) (inf t) p q = absurd q
-zeros-equal (fin s m d) (fin t n e) p q = zeros-level s t m n (up d) (down e) (up e) (down d) (eqb→eq m 0 p) (eqb→eq n 0 q)
-
-zero-is : T (isZero (ofBits binary64 0))
-unfolding ofBits
-zero-is = tt
-
-not-zero : (h : Float) → ne h (ofBits binary64 0) ≡ true → T (isZero h) → ⊥
-unfolding ne
-not-zero h e z = differ (sym (ap not (zeros-equal h (ofBits binary64 0) z zero-is)) ∙ e)
-  where
-    differ : false ≡ true → ⊥
-    differ q = let z : _≡_ {A = ℕ} 0 1 = cc in absurd (omega arith)
-
--- the cases of the program
-pub told-at : (b : Bound) (h : Float) → b ≡ At h → ne h (ofBits binary64 0) ≡ true → Told b
-told-at b h q e = subst Told (sym q) (not-zero h e)
-
-pub told-none : (b : Bound) → b ≡ Nothing → Told b
-told-none b q = subst Told (sym q) tt
-
-module _ (h : Float) (told : T (isZero h) → ⊥) (fh : FiniteDouble h) (x : Float) (fx : FiniteDouble x) where
-  told-order : key h ≤ key x → totalKey h ≤ totalKey x
-  told-order k = elim (decLe (totalKey h) (totalKey x)) [
-    | yes r ↦ r
-    | no r ↦
-        let j = total→key x h (fx .fitting) (fh .fitting) (omega arith) in
-        elim (key-inj h x (fh .fitting) (fx .fitting) (finite-no-nan h (fh .finitely)) (finite-no-nan x (fx .finitely)) (omega arith)) [
-          | inl q ↦ let z = ap totalKey q in absurd (omega arith)
-          | inr z ↦ absurd (told (z .0))
-        ]
+  -- where the order of `total_cmp` is not that of the numbers, they are one number
+  behind-or-same : key x ≤ key y → (totalKey x ≤ totalKey y) ⊎ ((totalKey y < totalKey x) × (key x ≡ key y))
+  behind-or-same k = elim (decLe (totalKey x) (totalKey y)) [
+    | yes r ↦ inl r
+    | no r ↦ let j = total→key y x (g .fitting) (f .fitting) (omega arith) in inr (omega arith, omega arith)
   ]
 
-module _ (t : Float) (l : List Float) (F : Every FiniteDouble l) where
-  -- the least above t, by its number
-  pub upper-first : (b : Bound) → Told b → UpperIs l t b → FirstIs key l t b
-  upper-first Nothing o U = U
-  upper-first (At h) o U = (
-    listed,
-    U .above,
-    every-zip FiniteDouble (λ (x : Float). T (lt t x) → T (le h x)) (λ (x : Float). T (lt t x) → key h ≤ key x)
-        (λ x f q u. let n = le-no-nan h x (q u) in le→key h x (U .fits) (f .fitting) (n .0) (n .1) (q u)) l F (U .first),
-  )
-    where
-      listed : In h l
-      listed =
-          let w = any-with (λ (x : Float). eq x h) (λ (x : Float). FiniteDouble x × In x l) l (U .listed) (every-zip FiniteDouble (λ (x : Float). In x l) (λ (x : Float). FiniteDouble x × In x l) (λ x f i. (f, i)) l F (every-in l)) in
-          elim (same-or-zeros binary64 (w .0) h (w .2 .0 .fitting) (U .fits) (w .1)) [ inl q ↦ subst (λ (x : Float). In x l) q (w .2 .1) | inr z ↦ absurd (o (z .1)) ]
+-- the number zero
+zeros : (x : Float) → FiniteDouble x → key x ≡ key 0·0 → (x ≡ 0·0) ⊎ (x ≡ minusZero)
+zeros x f k = elim (one-number x 0·0 f zero-finite k) [ inl e ↦ inl e | inr z ↦ zero-or-minus x (f .fitting) (z .0) ]
 
-  -- is the first by `total_cmp`
-  pub first-next : (b : Bound) → Told b → FirstIs key l t b → NextIs l t b
-  first-next Nothing o n = n
-  first-next (At h) o n =
-      let fh = in-every FiniteDouble h l F (n .0) in
-      (n .0, n .1, every-zip FiniteDouble (λ (x : Float). T (lt t x) → key h ≤ key x) (λ (x : Float). T (lt t x) → totalKey h ≤ totalKey x) (λ x f q u. told-order h o fh x f (q u)) l F (n .2))
+one-zero : key minusZero ≡ key 0·0
+unfolding eq
+one-zero = same-key minusZero 0·0 minus-finite zero-finite tt
 
--- the two ways to say it
-pub total-first : (l : List Float) (t : Float) (b : Bound) → NextIs l t b → FirstIs totalKey l t b
-total-first l t Nothing n = n
-total-first l t (At h) n = n
+-- ---- what is written
 
-pub first-total : (l : List Float) (t : Float) (b : Bound) → FirstIs totalKey l t b → NextIs l t b
-first-total l t Nothing n = n
-first-total l t (At h) n = n
+abbrev pub zeroOf : Bool → Float
+zeroOf minus = cond minus minusZero 0·0
+
+-- a neighbour, with the sign of zero
+abbrev pub withZero : Float → Bound → Bound
+withZero z Nothing = Nothing
+withZero z (At h) = cond (eq h 0·0) (At z) (At h)
+
+-- the cases of the program
+module _ (z : Float) (b : Bound) (h : Float) (e : b ≡ At h) where
+  pub zero-taken : eq h 0·0 ≡ true → At z ≡ withZero z b
+  zero-taken q = rw (e, q)
+
+  pub other-kept : eq h 0·0 ≡ false → At h ≡ withZero z b
+  other-kept q = rw (e, q)
+
+module _ (t : Float) (ft : Fits t) (l : List Float) (F : Every FiniteDouble l) where
+  above : (x : Float) → FiniteDouble x → T (lt t x) → key t < key x
+  above x f u = lt→key t x ft (f .fitting) (le-no-nan t x (lt→le t x u) .0) (finite-no-nan x (f .finitely)) u
+
+  -- the least above t is equal to the first of the times
+  pub upper-first : (h : Float) → IsUpper l t h → (x : Float) × T (eq x h) × FirstIs l t (At x)
+  upper-first h U =
+      let n = le-no-nan t h (lt→le t h (U .above)) in
+      let w = any-with (λ (x : Float). eq x h) (λ (x : Float). FiniteDouble x × In x l) l (U .listed) (every-zip FiniteDouble (λ (x : Float). In x l) (λ (x : Float). FiniteDouble x × In x l) (λ x f i. (f, i)) l F (every-in l)) in
+      let f = w .2 .0 in
+      let m = finite-no-nan (w .0) (f .finitely) in
+      let e = eq→key (w .0) h (f .fitting) (U .fits) m (n .1) (w .1) in
+      let a = lt→key t h ft (U .fits) (n .0) (n .1) (U .above) in (
+        w .0,
+        w .1,
+        (
+          w .2 .1,
+          key→lt t (w .0) ft (f .fitting) (n .0) m (omega arith),
+          every-zip FiniteDouble (λ (x : Float). T (lt t x) → T (le h x)) (λ (x : Float). T (lt t x) → key (w .0) ≤ key x)
+              (λ x g q u. let v = le-no-nan h x (q u) in let k = le→key h x (U .fits) (g .fitting) (v .0) (v .1) (q u) in omega arith) l F (U .first),
+        ),
+      )
+
+  -- the first by `total_cmp`, if -0.0 is told to be among the times exactly where it is
+  module _ (minus : Bool) (listed : T minus → In minusZero l) (told : Every (λ (x : Float). x ≡ minusZero → T minus) l) (x : Float) (n : FirstIs l t (At x)) where
+    fx : FiniteDouble x
+    fx = in-every FiniteDouble x l F (n .0)
+
+    -- not zero
+    apart : (key x ≡ key 0·0 → ⊥) → NextIs l t (At x)
+    apart o = (
+      n .0,
+      n .1,
+      every-zip FiniteDouble (λ (y : Float). T (lt t y) → key x ≤ key y) (λ (y : Float). T (lt t y) → totalKey x ≤ totalKey y)
+          (λ y g q u. elim (behind-or-same x y fx g (q u)) [
+            | inl r ↦ r
+            | inr r ↦ elim (one-number x y fx g (r .1)) [
+              | inl e ↦ let k = ap totalKey e in absurd (omega (arith, r .0))
+              | inr z ↦ absurd (o (elim (zero-or-minus x (fx .fitting) (z .0)) [ inl e ↦ ap key e | inr e ↦ ap key e ∙ one-zero ]))
+            ]
+          ]) l F (n .2),
+    )
+
+    -- zero
+    module _ (k : key x ≡ key 0·0) where
+      module _ (z : Float) (fz : FiniteDouble z) (kz : key z ≡ key 0·0) (inside : In z l) (least : (y : Float) → In y l → (y ≡ 0·0) ⊎ (y ≡ minusZero) → totalKey z ≤ totalKey y) where
+        settled : NextIs l t (At z)
+        settled =
+            let a = above x fx (n .1) in (
+              inside,
+              key→lt t z ft (fz .fitting) (le-no-nan t x (lt→le t x (n .1)) .0) (finite-no-nan z (fz .finitely)) (omega arith),
+              every-zip (λ (y : Float). FiniteDouble y × In y l) (λ (y : Float). T (lt t y) → key x ≤ key y) (λ (y : Float). T (lt t y) → totalKey z ≤ totalKey y)
+                  (λ y g q u. let c = q u in elim (behind-or-same z y fz (g .0) (omega arith)) [
+                    | inl r ↦ r
+                    | inr r ↦ least y (g .1) (zeros y (g .0) (sym (r .1) ∙ kz))
+                  ]) l (every-zip FiniteDouble (λ (y : Float). In y l) (λ (y : Float). FiniteDouble y × In y l) (λ y f i. (f, i)) l F (every-in l)) (n .2),
+            )
+
+      zero-next : (b : Bool) → minus ≡ b → NextIs l t (At (zeroOf b))
+      zero-next true e = settled minusZero minus-finite one-zero (listed (subst T (sym e) tt)) (λ y i z. elim z [
+        | inl q ↦ let r = ap totalKey q in omega (arith, minus-total, zero-total)
+        | inr q ↦ let r = ap totalKey q in omega arith
+      ])
+      zero-next false e = settled 0·0 zero-finite refl here (λ y i z. elim z [
+        | inl q ↦ let r = ap totalKey q in omega arith
+        | inr q ↦ absurd (never y i q)
+      ])
+        where
+          never : (y : Float) → In y l → y ≡ minusZero → ⊥
+          never y i q = subst T e (in-every (λ (v : Float). v ≡ minusZero → T minus) y l told i q)
+
+          here : In 0·0 l
+          here = elim (zeros x fx k) [ inl q ↦ subst (λ (v : Float). In v l) q (n .0) | inr q ↦ absurd (never x (n .0) q) ]
+
+    pub first-next : (h : Float) → Fits h → T (eq x h) → NextIs l t (withZero (zeroOf minus) (At h))
+    first-next h fh e = go (eq h 0·0) refl
+      where
+        nx : T (not (isNan x))
+        nx = finite-no-nan x (fx .finitely)
+
+        nh : T (not (isNan h))
+        nh = le-no-nan x h (eq→le x h e) .1
+
+        kh : key x ≡ key h
+        kh = eq→key x h (fx .fitting) fh nx nh e
+
+        go : (b : Bool) → eq h 0·0 ≡ b → NextIs l t (cond b (At (zeroOf minus)) (At h))
+        go true q = zero-next (kh ∙ eq→key h 0·0 fh (zero-finite .fitting) nh (finite-no-nan 0·0 tt) (subst T (sym q) tt)) minus refl
+        go false q = subst (λ (v : Float). NextIs l t (At v)) same (apart other)
+          where
+            other : key x ≡ key 0·0 → ⊥
+            other k = subst T q (key→eq h 0·0 fh (zero-finite .fitting) nh (finite-no-nan 0·0 tt) (sym kh ∙ k))
+
+            same : x ≡ h
+            same = elim (same-or-zeros binary64 x h (fx .fitting) fh e) [
+              | inl r ↦ r
+              | inr z ↦ absurd (other (elim (zero-or-minus x (fx .fitting) (z .0)) [ inl r ↦ ap key r | inr r ↦ ap key r ∙ one-zero ]))
+            ]

@@ -7,8 +7,7 @@ use mathlib.Core.List.{List, [], _∷_}
 use Prim.Native.Nat.{ℕ, _+_, _-_, _≤_, _<_}
 use native.Mathlib.Omega.{arith}
 use lib.Dec.{T, ltb}
-use lib.Ieee.{Float, nan, inf, fin, binary64, toBits, eq, lt, le}
-use lib.Ieee.Scale.{finite}
+use lib.Ieee.{Float, binary64, toBits, eq, lt, le}
 use borrow.Author.Tests.{ltb-true, ltb-false}
 use Rattle.gf.specs.Key.{key, key→le, key→eq, key→lt, lt→key, eq→key, lt→le, le→key, lt-le-trans, finite-no-nan, bits-lt}
 use Rattle.gf.specs.Units.{same-bits}
@@ -21,8 +20,9 @@ use Rattle.set_laws.specs.Stored.{total→key}
 use Rattle.set_laws.specs.Sorting.{every-sort, sort-every, sort-sorted}
 use Rattle.cell_laws.specs.Every.{every-map, every-zip, every-keep}
 use Rattle.cell_laws.specs.Places.{Fits}
+use Rattle.window.specs.declared.Bound.{Bound}
 use Rattle.window.specs.declared.Bound.the-variants.{At, Nothing}
-use Rattle.window.specs.Bounds.{In, every-in, in-every, NextIs}
+use Rattle.window.specs.Bounds.{In, every-in, in-every}
 
 -- ---- lists
 
@@ -60,7 +60,7 @@ keep-keep p q (x ∷ l) h = go (p x) (q x) refl (h .0) (keep-keep p q l (h .1))
     go false true e f r = absurd (f tt)
     go false false e f r = r
 
-in-keep : (p : Float → Bool) (x : Float) (l : List Float) → In x l → T (p x) → In x (keep p l)
+pub in-keep : (p : Float → Bool) (x : Float) (l : List Float) → In x l → T (p x) → In x (keep p l)
 in-keep p x [] i h = absurd i
 in-keep p x (y ∷ l) (inl e) h = go (p y) (subst (λ (z : Float). T (p z)) e h)
   where
@@ -116,7 +116,7 @@ same-key a b la lb true false p q h = let i = ltb-true a 0x8000_0000_0000_0000 p
 same-key a b la lb false true p q h = let i = ltb-false a 0x8000_0000_0000_0000 p in let j = ltb-true b 0x8000_0000_0000_0000 q in absurd (omega arith)
 same-key a b la lb false false p q h = omega arith
 
-total-same : (x y : Float) → Fits x → Fits y → totalKey x ≡ totalKey y → x ≡ y
+pub total-same : (x y : Float) → Fits x → Fits y → totalKey x ≡ totalKey y → x ≡ y
 unfolding totalKey
 total-same x y p q h =
     same-bits binary64 x y p q
@@ -222,11 +222,10 @@ module _ (h : Float) (fh : FiniteDouble h) where
 
 -- ---- the times behind t
 
-above-least : (x : Float) → T (finite x) → T (lt (inf true) x)
-unfolding lt
-above-least nan h = absurd h
-above-least (inf s) h = absurd h
-above-least (fin s m e) h = tt
+-- the first of the times above t in the order of `total_cmp`, or none is above it
+abbrev pub NextIs : List Float → Float → Bound → Type 0
+NextIs l t (At h) = In h l × T (lt t h) × Every (λ (x : Float). T (lt t x) → totalKey h ≤ totalKey x) l
+NextIs l t Nothing = Every (λ (x : Float). T (lt t x) → ⊥) l
 
 -- those above t, in order, equals dropped
 unfoldable pub after : List Float → Float → List Float
@@ -239,10 +238,10 @@ module _ (l : List Float) (f : Every FiniteDouble l) where
   sorted-finite : Every FiniteDouble (sortBy totalKey l)
   sorted-finite = every-sort totalKey FiniteDouble l f
 
-  -- below all
-  pub after-all : after l (inf true) ≡ dedup (sortBy totalKey l)
+  -- from before all of them on
+  pub after-all : (t : Float) → Every (λ (x : Float). T (lt t x)) l → after l t ≡ dedup (sortBy totalKey l)
   unfolding after
-  after-all = ap dedup (keep-all (λ (x : Float). lt (inf true) x) (sortBy totalKey l) (every-map FiniteDouble (λ (x : Float). T (lt (inf true) x)) (λ x q. above-least x (q .finitely)) (sortBy totalKey l) sorted-finite))
+  after-all t h = ap dedup (keep-all (λ (x : Float). lt t x) (sortBy totalKey l) (every-sort totalKey (λ (x : Float). T (lt t x)) l h))
 
   module _ (t : Float) (ft : Fits t) where
     pub after-none : NextIs l t Nothing → after l t ≡ []

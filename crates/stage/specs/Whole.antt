@@ -10,6 +10,7 @@ use lib.Ieee.{Float, nan, inf, lt, le}
 use borrow.Author.Tests.{ltb-true, eqb-false}
 use Rattle.gf.specs.Key.{key→le, key→lt, finite-no-nan}
 use Rattle.gf.specs.declared.interval.Interval.{Interval}
+use Rattle.definitions.specs.declared.Manifest.{Manifest}
 use Rattle.definitions.specs.Lists.{keep}
 use Rattle.definitions.specs.Doubles.{FiniteDouble}
 use Rattle.definitions.specs.Timing.{lastAtMost}
@@ -18,9 +19,9 @@ use Rattle.set_laws.specs.Tests.{is-true}
 use Rattle.set_laws.specs.Every.{every-at}
 use Rattle.set_laws.specs.Places.{Ascending}
 use Rattle.cell_laws.specs.Window.{inf-below, inf-above}
-use Rattle.cell_laws.specs.Unpacked.{knotsOf}
+use Rattle.cell_laws.specs.Unpacked.{knotsOf, Ready}
 use Rattle.window.specs.declared.Bounds.{Bounds}
-use Rattle.window.specs.Parts.{partOf, Readable}
+use Rattle.window.specs.Parts.{partOf, Readable, ready-starts, ready-clip, ready-readable}
 use Rattle.window.specs.Bounds.{inside, UpperIs, NeighboursAre}
 use Rattle.window.specs.Inverses.{inversesOf}
 use Rattle.window.specs.Windows.{minOf, maxOf, windowPart}
@@ -37,12 +38,15 @@ wholeTimes starts clips xs ys times ends p = windowPart starts xs ys p (partOf t
 abbrev pub nextStart : List Float → ℕ → List Float
 nextStart starts p = cond (ltb (p + 1) (length starts)) (getD starts (p + 1) nan ∷ []) []
 
--- what a search or a pass asks of the lists
+-- what a search asks of the lists
 pub record Windows (starts : List Float) (clips : List ℕ) (xs ys times : List Float) (ends : List ℕ) : Type 0 where
   pub rising : Ascending starts
   pub paired : length starts ≡ length clips
   pub named : (p : ℕ) → p < length starts → getD clips p 0 < length ends
   pub readable : Readable xs ys times ends
+
+pub ready-windows : {starts : List Float} {clips : List ℕ} {xs ys blocks : List Float} {m : Manifest} {times values : List Float} {marks ends : List ℕ} → Ready starts clips xs ys blocks m times values marks ends → Windows starts clips xs ys times ends
+ready-windows R = record { rising = ready-starts R; paired = R .starts-paired; named = ready-clip R; readable = ready-readable R }
 
 -- w is the window of the start at the place p
 pub record WholeWindow (starts : List Float) (clips ends : List ℕ) (p : ℕ) (w : Window) : Type 0 where
@@ -55,6 +59,30 @@ pub record WholeWindow (starts : List Float) (clips ends : List ℕ) (p : ℕ) (
 no-more : lt (inf false) (inf false) ≡ false
 unfolding lt
 no-more = refl
+
+-- a time lies inside the window that is active at it
+module _ {starts : List Float} {clips : List ℕ} {xs ys times : List Float} {ends : List ℕ} (A : Windows starts clips xs ys times ends) (p : ℕ) (h : p < length starts) (t : Float) (at : p ≡ lastAtMost starts t) (ft : FiniteDouble t) where
+  pub own-from : T (le (minOf starts p) t)
+  own-from = go (eqb p 0) refl
+    where
+      go : (b : Bool) → eqb p 0 ≡ b → T (le (cond b (inf true) (getD starts p nan)) t)
+      go true q = inf-below t (finite-no-nan t (ft .finitely))
+      go false q =
+          let n = eqb-false p 0 q in
+          let x = number-at starts (A .rising) p h in
+          let y = finite-number t ft in
+          key→le (getD starts p nan) t (x .0) (y .0) (x .1) (y .1) (last-reached starts (A .rising) t ft p at (omega arith) h)
+
+  pub own-below : T (lt t (maxOf starts p))
+  own-below = go (ltb (p + 1) (length starts)) refl
+    where
+      go : (b : Bool) → ltb (p + 1) (length starts) ≡ b → T (lt t (cond b (getD starts (p + 1) nan) (inf false)))
+      go true q =
+          let l = ltb-true (p + 1) (length starts) q in
+          let x = number-at starts (A .rising) (p + 1) l in
+          let y = finite-number t ft in
+          key→lt t (getD starts (p + 1) nan) (y .0) (x .0) (y .1) (x .1) (next-above starts (A .rising) t ft p at l)
+      go false q = inf-above t (ft .finitely)
 
 module _ {starts : List Float} {clips : List ℕ} {xs ys times : List Float} {ends : List ℕ} (A : Windows starts clips xs ys times ends) (p : ℕ) (h : p < length starts) (w : Window) (W : WholeWindow starts clips ends p w) where
   abbrev c : ℕ
@@ -75,28 +103,6 @@ module _ {starts : List Float} {clips : List ℕ} {xs ys times : List Float} {en
 
   -- the premises of a search
   module _ (t : Float) (at : p ≡ lastAtMost starts t) (ft : FiniteDouble t) where
-    whole-from : T (le (w .min) t)
-    whole-from = go (eqb p 0) refl (W .min)
-      where
-        go : (b : Bool) → eqb p 0 ≡ b → w .min ≡ cond b (inf true) (getD starts p nan) → T (le (w .min) t)
-        go true q e = subst (λ (x : Float). T (le x t)) (sym e) (inf-below t (finite-no-nan t (ft .finitely)))
-        go false q e =
-            let n = eqb-false p 0 q in
-            let x = number-at starts (A .rising) p h in
-            let y = finite-number t ft in
-            subst (λ (v : Float). T (le v t)) (sym e) (key→le (getD starts p nan) t (x .0) (y .0) (x .1) (y .1) (last-reached starts (A .rising) t ft p at (omega arith) h))
-
-    whole-below : T (lt t (w .max))
-    whole-below = go (ltb (p + 1) (length starts)) refl (W .max)
-      where
-        go : (b : Bool) → ltb (p + 1) (length starts) ≡ b → w .max ≡ cond b (getD starts (p + 1) nan) (inf false) → T (lt t (w .max))
-        go true q e =
-            let l = ltb-true (p + 1) (length starts) q in
-            let x = number-at starts (A .rising) (p + 1) l in
-            let y = finite-number t ft in
-            subst (λ (v : Float). T (lt t v)) (sym e) (key→lt t (getD starts (p + 1) nan) (y .0) (x .0) (y .1) (x .1) (next-above starts (A .rising) t ft p at l))
-        go false q e = subst (λ (v : Float). T (lt t v)) (sym e) (inf-above t (ft .finitely))
-
     pub whole-nears : (tops : List Float) → TopsOf xs ys tops → Nearing xs ys tops (samplesIn times w) w t
     whole-nears tops O = record {
       knots = A .readable .knots;
@@ -106,8 +112,8 @@ module _ {starts : List Float} {clips : List ℕ} {xs ys times : List Float} {en
       samples = subst Ascending (sym part-is) (A .readable .rising c (A .named p h));
       time = ft;
       start = subst FiniteDouble (sym (W .start)) (start-finite p h);
-      from = whole-from;
-      upto = whole-below;
+      from = subst (λ (x : Float). T (le x t)) (sym (W .min)) (own-from A p h t at ft);
+      upto = subst (λ (x : Float). T (lt t x)) (sym (W .max)) (own-below A p h t at ft);
     }
 
   next-is : nextOf w ≡ nextStart starts p

@@ -3,6 +3,7 @@
 pub mod mark;
 pub mod next;
 pub mod walk;
+pub mod zero;
 
 use definitions::Manifest;
 use mark::write_marks;

@@ -1,19 +1,17 @@
 // The next stage sample time: a search in the active window, begun where the last one ended. Later windows begin at the next start, which the search has.
 
+use super::zero::with_zero;
 use definitions::Manifest;
 use definitions::Source;
 use near::Near;
 use near::Window;
 use near::near_in;
 use window::Bound;
-use window::Bounds;
 use window::part::clip_begin;
 use window::part::clip_end;
-use window::scan_window;
 use window::window_max;
 use window::window_min;
 ghost use mathlib.Core.Path.{_≡_};
-ghost use mathlib.Core.Bool.{true};
 ghost use mathlib.Core.List.{_++_};
 ghost use Prim.Native.Nat.{_<_};
 ghost use lib.Dec.{T};
@@ -21,12 +19,10 @@ ghost use lib.ListN.{length, getD};
 ghost use lib.Ieee.Scale.{finite};
 ghost use Rattle.definitions.specs.Timing.{lastAtMost};
 ghost use Rattle.cell_laws.specs.Unpacked.{setOf, samplesOf, Ready};
-ghost use Rattle.window.specs.Bounds.{nothing, UpperIs, Scanned};
+ghost use Rattle.window.specs.Bounds.{UpperIs};
 ghost use Rattle.near.specs.Tops.{TopsOf};
 ghost use Rattle.stage.specs.Whole.{Windows, WholeWindow, wholeTimes, nextStart};
 ghost use Rattle.stage.specs.Times.{NextTime};
-ghost use Rattle.stage.specs.First.{Told};
-ghost use Rattle.stage.specs.Around.{nextTimes};
 
 // The next time, and where the search for the one behind it may begin: the place of the active start, a knot and a sample.
 pub struct Next {
@@ -81,43 +77,7 @@ fn search_window(
     near_in(xs, ys, tops, &times[begin..end], w, t, knot, sample)
 }
 
-// The neighbours of `t` in its window and the next, by a pass that tells the two zeros apart.
-fn pass_windows(
-    starts: &[f64],
-    clips: &[u64],
-    xs: &[f64],
-    ys: &[f64],
-    times: &[f64],
-    ends: &[u64],
-    p: usize,
-    t: f64,
-) -> Bounds
-    requires { ⌜ Windows (now starts) (now clips) (now xs) (now ys) (now times) (now ends) ⌝ ∗ ⌜ p < length (now starts) ⌝ }
-    ensures { λ r. ⌜ Scanned t (wholeTimes (now (starts .entry)) (now (clips .entry)) (now (xs .entry)) (now (ys .entry)) (now (times .entry)) (now (ends .entry)) p ++ nextTimes (now (starts .entry)) (now (clips .entry)) (now (xs .entry)) (now (ys .entry)) (now (times .entry)) (now (ends .entry)) p) nothing r ⌝ }
-{
-    let none = Bounds {
-        lower: Bound::Nothing,
-        upper: Bound::Nothing,
-    };
-    let own = scan_window(starts, clips, xs, ys, times, ends, p, true, t, none);
-    let next = p + 1;
-    if next < starts.len() {
-        return scan_window(starts, clips, xs, ys, times, ends, next, true, t, own);
-    }
-    own
-}
-
-// Whether the number tells the time: that of the two zeros does not.
-fn is_told(b: Bound) -> bool
-    ensures { λ r. ⌜ ((r ≡ true) → Told b) ⌝ }
-{
-    if let Bound::At(h) = b {
-        return h != 0.0;
-    }
-    true
-}
-
-// The first stage sample time above `t`. The hints are any numbers. A pass finds the first of all, where `t` is not finite, and zero.
+// The first stage sample time above `t`. The hints are any numbers.
 pub fn next_time(
     starts: &[f64],
     clips: &[u64],
@@ -135,7 +95,7 @@ pub fn next_time(
     knot: usize,
     sample: usize,
 ) -> Next
-    requires { ⌜ Ready (now starts) (now clips) (now xs) (now ys) (now blocks) m (now times) (now values) (now marks) (now ends) ⌝ ∗ ⌜ TopsOf (now xs) (now ys) (now tops) ⌝ }
+    requires { ⌜ Ready (now starts) (now clips) (now xs) (now ys) (now blocks) m (now times) (now values) (now marks) (now ends) ⌝ ∗ ⌜ TopsOf (now xs) (now ys) (now tops) ⌝ ∗ ⌜ T (finite t) ⌝ }
     ensures { λ r. ⌜ NextTime (setOf (length (now (ends .entry))) (now (starts .entry)) (now (clips .entry)) (now (xs .entry)) (now (ys .entry)) (now (blocks .entry)) m) (samplesOf (now (times .entry)) (now (values .entry)) (now (marks .entry)) (now (ends .entry))) t (r .time) ⌝ }
 {
     if starts.len() == 0 {
@@ -147,24 +107,13 @@ pub fn next_time(
         };
     }
     let p = lists::near::last_at_most_near(starts, t, place);
-    if gf::is_finite(t) {
-        let found = search_window(starts, clips, xs, ys, tops, times, ends, p, t, knot, sample);
-        let upper = found.upper;
-        if is_told(upper) {
-            return Next {
-                time: upper,
-                place: p,
-                knot: found.knot,
-                sample: found.sample,
-            };
-        }
-    }
-    let passed = pass_windows(starts, clips, xs, ys, times, ends, p, t);
-    let upper = passed.upper;
+    let found = search_window(starts, clips, xs, ys, tops, times, ends, p, t, knot, sample);
+    let upper = found.upper;
+    let time = with_zero(starts, clips, xs, times, ends, upper);
     Next {
-        time: upper,
+        time,
         place: p,
-        knot,
-        sample,
+        knot: found.knot,
+        sample: found.sample,
     }
 }

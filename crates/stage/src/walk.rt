@@ -12,6 +12,9 @@ ghost use Rattle.definitions.specs.StageSamples.{stageSampleTimes};
 ghost use Rattle.cell_laws.specs.Unpacked.{setOf, samplesOf, Ready};
 ghost use Rattle.near.specs.Tops.{TopsOf};
 
+// No stage sample time is below -2^40.
+const BEFORE_ALL: f64 = -2199023255552.0;
+
 // Whether there are at most `room` stage sample times.
 pub fn fits(
     starts: &[f64],
@@ -30,7 +33,7 @@ pub fn fits(
     requires { ⌜ Ready (now starts) (now clips) (now xs) (now ys) (now blocks) m (now times) (now values) (now marks) (now ends) ⌝ ∗ ⌜ TopsOf (now xs) (now ys) (now tops) ⌝ }
     ensures { λ r. ⌜ r ≡ leb (length (stageSampleTimes (setOf (length (now (ends .entry))) (now (starts .entry)) (now (clips .entry)) (now (xs .entry)) (now (ys .entry)) (now (blocks .entry)) m) (samplesOf (now (times .entry)) (now (values .entry)) (now (marks .entry)) (now (ends .entry))))) room ⌝ }
 {
-    let mut t = -1.0 / 0.0;
+    let mut t = BEFORE_ALL;
     let mut count: usize = 0;
     let mut place: usize = 0;
     let mut knot: usize = 0;
@@ -86,7 +89,7 @@ pub fn write_times(
     requires { ⌜ Ready (now starts) (now clips) (now xs) (now ys) (now blocks) m (now times) (now values) (now marks) (now ends) ⌝ ∗ ⌜ TopsOf (now xs) (now ys) (now tops) ⌝ ∗ ⌜ length (stageSampleTimes (setOf (length (now ends)) (now starts) (now clips) (now xs) (now ys) (now blocks) m) (samplesOf (now times) (now values) (now marks) (now ends))) ≤ length (now out) ⌝ }
     ensures { λ r. ⌜ (r ≡ length (stageSampleTimes (setOf (length (now (ends .entry))) (now (starts .entry)) (now (clips .entry)) (now (xs .entry)) (now (ys .entry)) (now (blocks .entry)) m) (samplesOf (now (times .entry)) (now (values .entry)) (now (marks .entry)) (now (ends .entry))))) × (now (out .exit) ≡ writtenOver (stageSampleTimes (setOf (length (now (ends .entry))) (now (starts .entry)) (now (clips .entry)) (now (xs .entry)) (now (ys .entry)) (now (blocks .entry)) m) (samplesOf (now (times .entry)) (now (values .entry)) (now (marks .entry)) (now (ends .entry)))) (now (out .entry))) ⌝ }
 {
-    let mut t = -1.0 / 0.0;
+    let mut t = BEFORE_ALL;
     let mut count: usize = 0;
     let mut place: usize = 0;
     let mut knot: usize = 0;

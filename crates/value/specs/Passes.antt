@@ -27,8 +27,7 @@ use Rattle.cell_laws.specs.Neighbours.{IsLower, IsUpper}
 use Rattle.cell_laws.specs.Unpacked.{knotsOf}
 use Rattle.window.specs.declared.Bound.{Bound}
 use Rattle.window.specs.declared.Bound.the-variants.{At, Nothing}
-use Rattle.window.specs.declared.Bounds.{Bounds}
-use Rattle.window.specs.Bounds.{In, in-every, every-in, inside, nothing, withTime, Scanned, scanned-none, scanned-then, scanned-one, neighbours-of, LowerIs, UpperIs}
+use Rattle.window.specs.Bounds.{In, in-every, every-in, inside, LowerIs, UpperIs, lower-there, upper-there}
 use Rattle.window.specs.Inverses.{onSegment, inversesOf, every-of, every-if}
 use Rattle.window.specs.Pairs.{jump-by-x}
 use Rattle.beside.specs.Beside.{Facing, finite-number, number-at, climb}
@@ -68,12 +67,6 @@ pub record HeldAt (xs ys cs : List Float) (w : Window) (i : ℕ) (l u : Float) :
 inf-fits : Fits (inf true)
 unfolding fits
 inf-fits = tt
-
--- ---- neighbours there are
-
-scan-all : (t : Float) (l : List Float) (h : Bounds) → (r : Bounds) × Scanned t l h r
-scan-all t [] h = (h, scanned-none t h)
-scan-all t (x ∷ l) h = let r = scan-all t l (withTime t h x) in (r .0, scanned-then t (scanned-one t h x) (r .1))
 
 in-any-of : (x m : Float) (l : List Float) → T (eq x m) → In x l → T (any (λ (y : Float). eq y m) l)
 in-any-of x m [] h i = absurd i
@@ -368,7 +361,7 @@ module _ (xs ys tops cs : List Float) (w : Window) (t : Float) (i : ℕ) (l h : 
 
     -- the neighbours are found, and the value is held from the lower one
     pub run-held : Every Fits (windowTimes xs ys cs w) → HeldAt xs ys cs w i l u
-    run-held fit = let r = scan-all u g nothing in let N = neighbours-of u (nu .0) g fit (r .0) (r .1) in go (r .0 .lower) (r .0 .upper) (N .lower) (N .upper)
+    run-held fit = let a = lower-there u (nu .0) g fit in let b = upper-there u (nu .0) g fit in go (a .0) (b .0) (a .1) (b .1)
       where
         go : (a b : Bound) → LowerIs g u a → UpperIs g u b → HeldAt xs ys cs w i l u
         go Nothing b L U =

@@ -1,11 +1,11 @@
 -- What the contracts of this crate cite, and the laws that its proofs share.
--- The neighbours of a time by one pass over times in any order
+-- The neighbours of a time among times in any order
 pub mod Bounds
--- The pairs of neighbours from a place on, and the jump test
+-- The jump test by the x of the knots alone
 pub mod Pairs
 -- The inverse times of a clip's samples, segment by segment
 pub mod Inverses
--- Which segments a pass may leave out
+-- Where the inverse times between two knots lie
 pub mod Near
 -- A window's gathered times over the lent lists
 pub mod Windows

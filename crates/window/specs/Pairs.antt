@@ -1,32 +1,15 @@
--- The pairs of neighbours from a place on, as a loop goes through them, and the jump test by the x alone. Assumes nothing.
+-- The jump test by the x of the knots alone. Assumes nothing.
 use mathlib.Core.Path.{_≡_, refl, ap}
 use mathlib.Core.Bool.{Bool, _&&_, _||_}
 use mathlib.Core.List.{List, [], _∷_}
-use Prim.Native.Nat.{ℕ, _+_, _≤_, _<_}
 use native.Mathlib.Omega.{arith}
-use lib.ListN.{length, getD, drop, length-drop}
+use lib.ListN.{length}
 use lib.Ieee.{Float, eq, lt, le}
 use Rattle.definitions.specs.declared.Knot.{Knot}
 use Rattle.definitions.specs.Lists.{any, pairs, pairsFrom}
 use Rattle.definitions.specs.Explicit.{knot}
 use Rattle.definitions.specs.Value.{jump}
 use Rattle.cell_laws.specs.Unpacked.{knotsOf}
-use Rattle.lists.specs.Fronts.{front}
-
-module _ {A : Type 0} where
-  -- the pair at i, and those behind it
-  pub pairs-front : (l : List A) (i : ℕ) (d : A) → i + 1 < length l → pairs (drop i l) ≡ (getD l i d, getD l (i + 1) d) ∷ pairs (drop (i + 1) l)
-  pairs-front l i d h = rw (front l i d (omega arith), front l (i + 1) d h)
-
-  pub pairs-end : (l : List A) (i : ℕ) (d : A) → length l ≤ i + 1 → pairs (drop i l) ≡ []
-  pairs-end l i d h = go (drop i l) (rw (length-drop i l) (omega arith))
-    where
-      go : (k : List A) → length k ≤ 1 → pairs k ≡ []
-      go [] h = refl
-      go (x ∷ []) h = refl
-      go (x ∷ y ∷ k) h = absurd (omega arith)
-
--- ---- a jump
 
 abbrev pub jumpsAt : Float → Float → Float × Float → Bool
 jumpsAt lower upper p = eq (p .0) (p .1) && lt lower (p .0) && le (p .0) upper

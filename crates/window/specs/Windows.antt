@@ -1,5 +1,5 @@
--- A window's gathered times over the lent lists, part by part, as a pass goes through them. Assumes nothing.
-use mathlib.Core.Path.{_≡_, refl, sym, ap, ap₂, _∙_, subst}
+-- A window's gathered times over the lent lists, part by part. Assumes nothing.
+use mathlib.Core.Path.{_≡_, refl, sym, ap, ap₂, _∙_}
 use mathlib.Core.Bool.{Bool, true, false, not, _&&_, cond}
 use mathlib.Core.List.{List, [], _∷_, _++_}
 use mathlib.Core.Option.{Option, none, some}
@@ -18,9 +18,8 @@ use Rattle.definitions.specs.ClipSet.{ClipSet, knotTimes}
 use Rattle.definitions.specs.Samples.{Samples, clipTimes}
 use Rattle.definitions.specs.Value.{contains, timeOr, window, startOf, contributes, blockedAt, windowSampleTimes, contributedTimes, gathered}
 use Rattle.cell_laws.specs.Unpacked.{start, activeOf, knotsOf, setOf, samplesOf, zip-here, zip-length, knot-times, Ready}
-use Rattle.window.specs.declared.Bounds.{Bounds}
 use Rattle.window.specs.Parts.{partOf}
-use Rattle.window.specs.Bounds.{inside, withTime, Scanned, scanned-none, scanned-one, scanned-then}
+use Rattle.window.specs.Bounds.{inside}
 use Rattle.window.specs.Inverses.{inversesOf}
 
 -- ---- the window
@@ -73,21 +72,6 @@ windowPart starts xs ys p cs = getD starts p nan ∷ (keep (inside (windowOf sta
 -- the samples of a clip, or none
 abbrev pub ifOwn : Bool → List Float → List Float
 ifOwn b cs = cond b cs []
-
--- the pass through them
-module _ (t : Float) (starts xs ys : List Float) (p : ℕ) (w : Interval) (is : w ≡ windowOf starts p) {h f q : Bounds} (first : f ≡ withTime t h (getD starts p nan)) (knots : Scanned t (keep (inside w) xs) f q) (own : Bool) (cs : List Float) where
-  scanned-window : {r : Bounds} → Scanned t (keep (inside w) (inversesOf (knotsOf xs ys) (ifOwn own cs))) q r → Scanned t (windowPart starts xs ys p (ifOwn own cs)) h r
-  unfolding windowPart
-  scanned-window {r} S =
-      scanned-then t (scanned-one t h (getD starts p nan))
-      (scanned-then t (subst (λ (v : Interval). Scanned t (keep (inside v) xs) (withTime t h (getD starts p nan)) q) is (subst (λ (g : Bounds). Scanned t (keep (inside w) xs) g q) first knots))
-      (subst (λ (v : Interval). Scanned t (keep (inside v) (inversesOf (knotsOf xs ys) (ifOwn own cs))) q r) is S))
-
-  pub window-own : own ≡ true → {r : Bounds} → Scanned t (keep (inside w) (inversesOf (knotsOf xs ys) cs)) q r → Scanned t (windowPart starts xs ys p (ifOwn own cs)) h r
-  window-own e {r} S = scanned-window (subst (λ (b : Bool). Scanned t (keep (inside w) (inversesOf (knotsOf xs ys) (ifOwn b cs))) q r) (sym e) S)
-
-  pub window-plain : own ≡ false → Scanned t (windowPart starts xs ys p (ifOwn own cs)) h q
-  window-plain e = scanned-window (subst (λ (b : Bool). Scanned t (keep (inside w) (inversesOf (knotsOf xs ys) (ifOwn b cs))) q q) (sym e) (scanned-none t q))
 
 module _ {starts : List Float} {clips : List ℕ} {xs ys blocks : List Float} {m : Manifest} {times values : List Float} {marks ends : List ℕ} (R : Ready starts clips xs ys blocks m times values marks ends) where
   abbrev set : ClipSet

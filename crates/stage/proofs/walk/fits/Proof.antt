@@ -4,13 +4,13 @@ use mathlib.Core.Path.{_≡_, ap}
 use mathlib.Core.List.{List}
 use native.Mathlib.Omega.{arith}
 use lib.ListN.{length}
-use lib.Ieee.{Float, ofBits, neg, div, fits}
+use lib.Ieee.{Float, ofBits, neg}
 use denote.Ref.{now}
+use Rattle.definitions.specs.Doubles.{FiniteDouble}
 use Rattle.definitions.specs.StageSamples.{stageSampleTimes}
-use Rattle.cell_laws.specs.Places.{Fits}
 use Rattle.cell_laws.specs.Unpacked.{setOf, samplesOf}
 use Rattle.window.specs.declared.Bound.{Bound}
-use Rattle.stage.specs.Times.{stageAfter, NextTime, times-all}
+use Rattle.stage.specs.Times.{stageAfter, NextTime, before-finite, times-all}
 use Rattle.stage.specs.Writing.{count-done, count-over, count-on}
 use borrow.Author.Needs.{needs}
 use Rattle.stage.proofs.walk.fits.Statement.{statement}
@@ -18,7 +18,7 @@ use Rattle.stage.proofs.walk.fits.Tie as tie
 
 abbrev Inv-loop : tie.InvT-loop
 Inv-loop starts clips xs ys blocks m times values marks ends tops room t₀ count₀ place₀ knot₀ sample₀ t count place knot sample =
-    Fits t × (count ≤ room)
+    FiniteDouble t × (count ≤ room)
     × (length (stageSampleTimes (setOf (length ends) starts clips xs ys blocks m) (samplesOf times values marks ends)) ≡ count + length (stageAfter (setOf (length ends) starts clips xs ys blocks m) (samplesOf times values marks ends) t))
 
 abbrev μ-loop : tie.MeasureT-loop
@@ -35,8 +35,8 @@ abbrev above : tie.Start Inv-loop μ-loop → Float → List Float
 above s t = stageAfter (setOf (length (now (s .args .ends))) (now (s .args .starts)) (now (s .args .clips)) (now (s .args .xs)) (now (s .args .ys)) (now (s .args .blocks)) (s .args .m)) (samplesOf (now (s .args .times)) (now (s .args .values)) (now (s .args .marks)) (now (s .args .ends))) t
 
 loop-holds : tie.Need-loop-holds Inv-loop μ-loop
-unfolding ofBits neg div fits
-loop-holds c = let R = c .before .before .before .before .before .before .before .before .before .before .pre .0 in (tt, omega arith, omega (arith, ap length (times-all R)))
+unfolding ofBits neg
+loop-holds c = let R = c .before .before .before .before .before .before .before .before .before .before .pre .0 in (before-finite, omega arith, omega (arith, ap length (times-all R)))
 
 -- what the next time is
 next-is : (k : tie.After-next-time Inv-loop μ-loop) (b : Bound) → k .next-time .result .time ≡ b
@@ -44,7 +44,7 @@ next-is : (k : tie.After-next-time Inv-loop μ-loop) (b : Bound) → k .next-tim
 next-is k b e = rw e at (k .next-time .ensures)
 
 next-time-requires : tie.Need-next-time-requires Inv-loop μ-loop
-next-time-requires c κs = (entry c .pre .0, entry c .pre .1)
+next-time-requires c κs = (entry c .pre .0, (entry c .pre .1, c .loop .inv .0 .finitely))
 
 enum-known-time : tie.Need-enum-known-time Inv-loop μ-loop
 enum-known-time c = search needs

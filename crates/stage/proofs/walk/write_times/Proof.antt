@@ -4,13 +4,13 @@ use mathlib.Core.Path.{_≡_, sym}
 use mathlib.Core.List.{_∷_}
 use native.Mathlib.Omega.{arith}
 use lib.ListN.{length}
-use lib.Ieee.{ofBits, neg, div, fits}
+use lib.Ieee.{ofBits, neg}
 use denote.Ref.{now}
+use Rattle.definitions.specs.Doubles.{FiniteDouble}
 use Rattle.definitions.specs.StageSamples.{stageSampleTimes}
-use Rattle.cell_laws.specs.Places.{Fits}
 use Rattle.cell_laws.specs.Unpacked.{setOf, samplesOf}
 use Rattle.window.specs.declared.Bound.{Bound}
-use Rattle.stage.specs.Times.{stageAfter, NextTime, times-all}
+use Rattle.stage.specs.Times.{stageAfter, NextTime, before-finite, times-all}
 use Rattle.stage.specs.Writing.{Wrote, wrote-start, wrote-room, wrote-on, wrote-end, wrote-rest}
 use borrow.Author.Needs.{needs}
 use Rattle.stage.proofs.walk.write_times.Statement.{statement}
@@ -18,7 +18,7 @@ use Rattle.stage.proofs.walk.write_times.Tie as tie
 
 abbrev Inv-loop : tie.InvT-loop
 Inv-loop starts clips xs ys blocks m times values marks ends tops out₀ t₀ count₀ place₀ knot₀ sample₀ out t count place knot sample =
-    Fits t
+    FiniteDouble t
     × Wrote (stageSampleTimes (setOf (length ends) starts clips xs ys blocks m) (samplesOf times values marks ends)) (stageAfter (setOf (length ends) starts clips xs ys blocks m) (samplesOf times values marks ends) t) out₀ out count
 
 abbrev μ-loop : tie.MeasureT-loop
@@ -28,10 +28,10 @@ abbrev entry : tie.At-loop Inv-loop μ-loop → tie.Start Inv-loop μ-loop
 entry k = k .before .before .before .before .before .before .before .before .before .before .before .before
 
 loop-holds : tie.Need-loop-holds Inv-loop μ-loop
-unfolding ofBits neg div fits
+unfolding ofBits neg
 loop-holds c =
     let s = c .before .before .before .before .before .before .before .before .before .before .before in
-    (tt, wrote-rest _ _ _ 0 _ _ (sym (times-all (s .pre .0))) (wrote-start _ _))
+    (before-finite, wrote-rest _ _ _ 0 _ _ (sym (times-all (s .pre .0))) (wrote-start _ _))
 
 -- what the next time is
 next-is : (k : tie.After-next-time Inv-loop μ-loop) (b : Bound) → k .next-time .result .time ≡ b
@@ -39,7 +39,7 @@ next-is : (k : tie.After-next-time Inv-loop μ-loop) (b : Bound) → k .next-tim
 next-is k b e = rw e at (k .next-time .ensures)
 
 next-time-requires : tie.Need-next-time-requires Inv-loop μ-loop
-next-time-requires c κs = (entry c .pre .0, entry c .pre .1 .0)
+next-time-requires c κs = (entry c .pre .0, (entry c .pre .1 .0, c .loop .inv .0 .finitely))
 
 enum-known-time : tie.Need-enum-known-time Inv-loop μ-loop
 enum-known-time c = search needs
