@@ -96,7 +96,7 @@ impl<'a> Library<'a> {
     }
 
     pub fn value(&self, t: f64) -> Answer {
-        match self.resolver.value(self.samples, t).expect("no refusal") {
+        match self.resolver.value(self.samples, tavitrozy::StageTime(t)).expect("no refusal") {
             tavitrozy::Answer::Value(value) => plain::number(value),
             tavitrozy::Answer::Blocked => BLOCKED,
             tavitrozy::Answer::Absent => ABSENT,

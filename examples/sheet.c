@@ -24,7 +24,8 @@ int main(void) {
   /* From here on the set, its clips and its samples are gone: the track is all a sheet program has. */
   const tavitrozy_entry head = {track.value, track.mark};
   for (int frame = 24; frame <= 32; frame++) {
-    tavitrozy_entry e = tavitrozy_read(head, track_times, track.count, track_values, track.count, track_marks, track.count, frame);
+    const tavitrozy_at_stage at = {frame};
+    tavitrozy_entry e = tavitrozy_read(head, track_times, track.count, track_values, track.count, track_marks, track.count, at);
     if (e.mark == 0) printf("%d: drawn at %g\n", frame, e.value);
     else printf("%d: not drawn\n", frame);
   }

@@ -2,7 +2,7 @@
 #[path = "../bindings/rust/tavitrozy.rs"]
 #[allow(dead_code)]
 mod tavitrozy;
-use tavitrozy::{Default, Explicit, Resolver, Samples};
+use tavitrozy::{Default, Explicit, Resolver, Samples, StageTime};
 
 fn main() -> Result<(), String> {
     let refused = |what: &str| { let what = what.to_string(); move |n: u8| format!("{what} is refused with {n}") };
@@ -28,7 +28,7 @@ fn main() -> Result<(), String> {
     let track = resolver.bake(samples, 16).map_err(refused("the bake"))?;
     println!("{} changes", track.times.len());
     for frame in 24..=32 {
-        let e = track.read(frame as f64);
+        let e = track.read(StageTime(frame as f64));
         if e.mark == 0 {
             println!("{frame}: drawn at {}", e.value);
         } else {

@@ -29,6 +29,13 @@
 extern "C" {
 #endif
 
+/* ---- times */
+
+/* A stage time and a clip time are types of their own, so that neither is passed where the other is asked for; only the knots lead between them.
+ * Lists hold bare doubles: each says which times it has. */
+typedef struct { double value; } tavitrozy_at_stage;
+typedef struct { double value; } tavitrozy_at_clip;
+
 /* ---- the set, by value */
 
 typedef struct { uint8_t mark; double value; } tavitrozy_default;
@@ -58,7 +65,7 @@ typedef struct { bool stands; bool retimed; tavitrozy_standing_set set; } tavitr
 typedef struct { uint8_t number; tavitrozy_resolver resolver; } tavitrozy_accepted;
 /* found: whether a clip is active (none is where the set has no starts). */
 typedef struct { uint8_t number; bool found; uint64_t clip; } tavitrozy_clip_reply;
-typedef struct { uint8_t number; double time; } tavitrozy_time_reply;
+typedef struct { uint8_t number; tavitrozy_at_clip time; } tavitrozy_time_reply;
 /* mark 0: value; 1: blocked; 2: absent (a set without starts). */
 typedef struct { uint8_t number; uint8_t mark; double value; } tavitrozy_value_reply;
 /* state 0: present; 1: blocked; 2: absent. */
@@ -89,13 +96,13 @@ tavitrozy_accepted tavitrozy_retime(tavitrozy_resolver resolver, tavitrozy_layer
 
 /* ---- questions: samples are lent as times, values and marks (0 or 1), and one end for each clip of the standing set */
 
-tavitrozy_clip_reply tavitrozy_active_clip(tavitrozy_resolver resolver, double stage_time);   /* 20, 10 */
-tavitrozy_time_reply tavitrozy_clip_time(tavitrozy_resolver resolver, double stage_time);     /* 20, 10 */
+tavitrozy_clip_reply tavitrozy_active_clip(tavitrozy_resolver resolver, tavitrozy_at_stage time);   /* 20, 10 */
+tavitrozy_time_reply tavitrozy_clip_time(tavitrozy_resolver resolver, tavitrozy_at_stage time);     /* 20, 10 */
 
 /* 20, 1, 2, 9, 10 */
 tavitrozy_value_reply tavitrozy_value(tavitrozy_resolver resolver,
   const double *times, size_t times_len, const double *values, size_t values_len,
-  const uint8_t *marks, size_t marks_len, const uint64_t *ends, size_t ends_len, double stage_time);
+  const uint8_t *marks, size_t marks_len, const uint64_t *ends, size_t ends_len, tavitrozy_at_stage time);
 
 /* 20, 1, 2, 9 */
 tavitrozy_untimed_reply tavitrozy_untimed(tavitrozy_resolver resolver,
@@ -125,10 +132,10 @@ tavitrozy_baked tavitrozy_bake(tavitrozy_resolver resolver,
 
 /* What a track gives at a stage time: the last change at or before it, else the head. Reads as many changes as the shortest list has. Never refused. */
 tavitrozy_entry tavitrozy_read(tavitrozy_entry head, const double *times, size_t times_len,
-  const double *values, size_t values_len, const uint8_t *marks, size_t marks_len, double stage_time);
+  const double *values, size_t values_len, const uint8_t *marks, size_t marks_len, tavitrozy_at_stage time);
 
 /* 1, 2, 6, 22: the name of the template's clip at a clip time, at most 268 bytes. */
-tavitrozy_counted tavitrozy_name(const uint8_t *pattern, size_t pattern_len, double clip_time, uint8_t *out, size_t out_len);
+tavitrozy_counted tavitrozy_name(const uint8_t *pattern, size_t pattern_len, tavitrozy_at_clip time, uint8_t *out, size_t out_len);
 
 /* 1, 2, 9, 22: samples in any order, sorted; of equal times the first time with the last value and mark. */
 tavitrozy_counted tavitrozy_normalize(const double *times, size_t times_len, const double *values, size_t values_len,

@@ -11,7 +11,7 @@ mod text;
 use std::io::{self, BufRead, Write};
 
 use calls::Call;
-use tavitrozy::{Answer, Default, Entry, Explicit, LayerOffset, Resolver, Samples, State, TemplateTimes, Track};
+use tavitrozy::{Answer, ClipTime, Default, Entry, Explicit, LayerOffset, Resolver, Samples, StageTime, State, TemplateTimes, Track};
 use text::{Line, Words};
 
 /// More changes than the longest track of the comparison has.
@@ -94,7 +94,7 @@ impl Desk {
                 }
                 out.word("bl").doubles(&blocks);
             }
-            Call::Active(t) => match self.resolver.active_clip(*t)? {
+            Call::Active(t) => match self.resolver.active_clip(StageTime(*t))? {
                 Some(clip) => {
                     out.word("active").number(clip);
                 }
@@ -103,11 +103,11 @@ impl Desk {
                 }
             },
             Call::ClipTime(t) => {
-                let time = self.resolver.clip_time(*t)?;
+                let ClipTime(time) = self.resolver.clip_time(StageTime(*t))?;
                 out.word("cliptime").double(time);
             }
             Call::Value(t) => {
-                let (mark, value) = match self.resolver.value(s, *t)? {
+                let (mark, value) = match self.resolver.value(s, StageTime(*t))? {
                     Answer::Value(v) => (0, v),
                     Answer::Blocked => (1, 0.0),
                     Answer::Absent => (2, 0.0),
@@ -139,7 +139,7 @@ impl Desk {
             Call::TrackHash => write_hash(out, &self.resolver.bake(s, LONGEST)?),
             Call::Name(pattern, t, slots) => {
                 let mut name = vec![0; *slots as usize];
-                let n = tavitrozy::name_into(pattern, *t, &mut name)?;
+                let n = tavitrozy::name_into(pattern, ClipTime(*t), &mut name)?;
                 out.word("name").bytes(&name[..n]);
             }
             Call::Normalize(n, slots) => {

@@ -1,6 +1,16 @@
 //! Tavitrozy for Rust: the library's C calls behind safe functions. A `Resolver` can only be had from `fresh` and from
 //! the calls below, which is all that the library's contracts ask of a caller; a refusal is its number.
 
+/// A stage time. It and a clip time are types of their own, so that neither is passed where the other is asked for; lists hold bare doubles.
+#[repr(C)]
+#[derive(Clone, Copy, Debug, PartialEq, PartialOrd)]
+pub struct StageTime(pub f64);
+
+/// A clip time. Only the knots lead between the two.
+#[repr(C)]
+#[derive(Clone, Copy, Debug, PartialEq, PartialOrd)]
+pub struct ClipTime(pub f64);
+
 /// The manifest default: mark 0 and a value, 1 a block, 2 none.
 #[repr(C)]
 #[derive(Clone, Copy, Debug, PartialEq)]
@@ -82,7 +92,7 @@ struct ClipReply {
 #[repr(C)]
 struct TimeReply {
     number: u8,
-    time: f64,
+    time: ClipTime,
 }
 
 #[repr(C)]
@@ -126,15 +136,15 @@ extern "C" {
     fn tavitrozy_accept(resolver: Resolver, clips: u64, starts: *const f64, starts_len: usize, numbers: *const f64, numbers_len: usize, xs: *const f64, xs_len: usize, ys: *const f64, ys_len: usize, blocks: *const f64, blocks_len: usize, fallback: Default, interpolate: bool) -> Accepted;
     fn tavitrozy_accept_template(resolver: Resolver, pattern: *const u8, pattern_len: usize, times: TemplateTimes, has_offset: bool, blocks: *const f64, blocks_len: usize, fallback: Default, interpolate: bool) -> Accepted;
     fn tavitrozy_retime(resolver: Resolver, offset: LayerOffset) -> Accepted;
-    fn tavitrozy_active_clip(resolver: Resolver, stage_time: f64) -> ClipReply;
-    fn tavitrozy_clip_time(resolver: Resolver, stage_time: f64) -> TimeReply;
-    fn tavitrozy_value(resolver: Resolver, times: *const f64, times_len: usize, values: *const f64, values_len: usize, marks: *const u8, marks_len: usize, ends: *const u64, ends_len: usize, stage_time: f64) -> ValueReply;
+    fn tavitrozy_active_clip(resolver: Resolver, time: StageTime) -> ClipReply;
+    fn tavitrozy_clip_time(resolver: Resolver, time: StageTime) -> TimeReply;
+    fn tavitrozy_value(resolver: Resolver, times: *const f64, times_len: usize, values: *const f64, values_len: usize, marks: *const u8, marks_len: usize, ends: *const u64, ends_len: usize, time: StageTime) -> ValueReply;
     fn tavitrozy_untimed(resolver: Resolver, times: *const f64, times_len: usize, values: *const f64, values_len: usize, marks: *const u8, marks_len: usize, ends: *const u64, ends_len: usize) -> UntimedReply;
     fn tavitrozy_stage_sample_times(resolver: Resolver, times: *const f64, times_len: usize, values: *const f64, values_len: usize, marks: *const u8, marks_len: usize, ends: *const u64, ends_len: usize, out_times: *mut f64, out_times_len: usize) -> Counted;
     fn tavitrozy_stage_samples(resolver: Resolver, times: *const f64, times_len: usize, values: *const f64, values_len: usize, marks: *const u8, marks_len: usize, ends: *const u64, ends_len: usize, out_times: *mut f64, out_times_len: usize, out_marks: *mut u8, out_marks_len: usize) -> Counted;
     fn tavitrozy_bake(resolver: Resolver, times: *const f64, times_len: usize, values: *const f64, values_len: usize, marks: *const u8, marks_len: usize, ends: *const u64, ends_len: usize, out_times: *mut f64, out_times_len: usize, out_values: *mut f64, out_values_len: usize, out_marks: *mut u8, out_marks_len: usize) -> Baked;
-    fn tavitrozy_read(head: Entry, times: *const f64, times_len: usize, values: *const f64, values_len: usize, marks: *const u8, marks_len: usize, stage_time: f64) -> Entry;
-    fn tavitrozy_name(pattern: *const u8, pattern_len: usize, clip_time: f64, out: *mut u8, out_len: usize) -> Counted;
+    fn tavitrozy_read(head: Entry, times: *const f64, times_len: usize, values: *const f64, values_len: usize, marks: *const u8, marks_len: usize, time: StageTime) -> Entry;
+    fn tavitrozy_name(pattern: *const u8, pattern_len: usize, time: ClipTime, out: *mut u8, out_len: usize) -> Counted;
     fn tavitrozy_normalize(times: *const f64, times_len: usize, values: *const f64, values_len: usize, marks: *const u8, marks_len: usize, out_times: *mut f64, out_times_len: usize, out_values: *mut f64, out_values_len: usize, out_marks: *mut u8, out_marks_len: usize) -> Counted;
 }
 
@@ -185,9 +195,9 @@ pub struct Track {
 
 impl Track {
     /// Read held: the last change at or before the stage time, else the head.
-    pub fn read(&self, stage_time: f64) -> Entry {
+    pub fn read(&self, time: StageTime) -> Entry {
         let (t, v, m) = (&self.times, &self.values, &self.marks);
-        unsafe { tavitrozy_read(self.head, t.as_ptr(), t.len(), v.as_ptr(), v.len(), m.as_ptr(), m.len(), stage_time) }
+        unsafe { tavitrozy_read(self.head, t.as_ptr(), t.len(), v.as_ptr(), v.len(), m.as_ptr(), m.len(), time) }
     }
 }
 
@@ -239,19 +249,19 @@ impl Resolver {
         self.stands.then_some((set.clips, starts, knots, blocks))
     }
 
-    pub fn active_clip(&self, stage_time: f64) -> Result<Option<u64>, u8> {
-        let r = unsafe { tavitrozy_active_clip(*self, stage_time) };
+    pub fn active_clip(&self, time: StageTime) -> Result<Option<u64>, u8> {
+        let r = unsafe { tavitrozy_active_clip(*self, time) };
         checked(r.number, if r.found { Some(r.clip) } else { None })
     }
 
-    pub fn clip_time(&self, stage_time: f64) -> Result<f64, u8> {
-        let r = unsafe { tavitrozy_clip_time(*self, stage_time) };
+    pub fn clip_time(&self, time: StageTime) -> Result<ClipTime, u8> {
+        let r = unsafe { tavitrozy_clip_time(*self, time) };
         checked(r.number, r.time)
     }
 
-    pub fn value(&self, s: Samples, stage_time: f64) -> Result<Answer, u8> {
+    pub fn value(&self, s: Samples, time: StageTime) -> Result<Answer, u8> {
         let r = unsafe {
-            tavitrozy_value(*self, s.times.as_ptr(), s.times.len(), s.values.as_ptr(), s.values.len(), s.marks.as_ptr(), s.marks.len(), s.ends.as_ptr(), s.ends.len(), stage_time)
+            tavitrozy_value(*self, s.times.as_ptr(), s.times.len(), s.values.as_ptr(), s.values.len(), s.marks.as_ptr(), s.marks.len(), s.ends.as_ptr(), s.ends.len(), time)
         };
         checked(r.number, match r.mark {
             0 => Answer::Value(r.value),
@@ -307,14 +317,14 @@ impl Resolver {
 }
 
 /// The name of a template's clip at a clip time, written to the front of `out`; its length.
-pub fn name_into(pattern: &[u8], clip_time: f64, out: &mut [u8]) -> Result<usize, u8> {
-    let r = unsafe { tavitrozy_name(pattern.as_ptr(), pattern.len(), clip_time, out.as_mut_ptr(), out.len()) };
+pub fn name_into(pattern: &[u8], time: ClipTime, out: &mut [u8]) -> Result<usize, u8> {
+    let r = unsafe { tavitrozy_name(pattern.as_ptr(), pattern.len(), time, out.as_mut_ptr(), out.len()) };
     checked(r.number, r.count)
 }
 
-pub fn name(pattern: &[u8], clip_time: f64) -> Result<Vec<u8>, u8> {
+pub fn name(pattern: &[u8], time: ClipTime) -> Result<Vec<u8>, u8> {
     let mut out = vec![0u8; 268];
-    let length = name_into(pattern, clip_time, &mut out)?;
+    let length = name_into(pattern, time, &mut out)?;
     out.truncate(length);
     Ok(out)
 }

@@ -14,7 +14,7 @@ use Rattle.definitions.specs.declared.Manifest.{Manifest}
 use Rattle.definitions.specs.declared.Source.{Source}
 use Rattle.definitions.specs.declared.Source.the-variants.{Blocked}
 use Rattle.definitions.specs.Lists.{any}
-use Rattle.definitions.specs.ClipSet.{ClipSet}
+use Rattle.definitions.specs.ClipSet.{ClipSet, stage}
 use Rattle.definitions.specs.Samples.{Samples, clipBegin, clipEnd}
 use Rattle.definitions.specs.Value.{firstReading, interpolateMissingValue, manifestDefault, _orElse_}
 use Rattle.cell_laws.specs.Unpacked.{Ready, setOf, samplesOf, start, activeOf}
@@ -57,7 +57,7 @@ module _ {starts : List Float} {clips : List ℕ} {xs ys blocks : List Float} {m
       go false q =
           let n = ltb-false (clipBegin ends (getD clips i 0)) (clipEnd ends (getD clips i 0)) (samples-none (m .interpolate) (stopped i) (sampled i) f q e) in
           let l = ready-readable R .from (getD clips i 0) (ready-clip R i h) in
-          read-none xs ys times ends (getD clips i 0) (getD starts i nan) (omega arith) ∙ start-read R i q
+          read-none xs ys times ends (getD clips i 0) (stage (getD starts i nan)) (omega arith) ∙ start-read R i q
 
   -- a window that has none
   unsampled : (p : ℕ) (w : Window) → WindowIs starts clips xs ys blocks m times values marks ends p w → w .end ≤ w .begin → (own p && sampled p) ≡ false

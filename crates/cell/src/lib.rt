@@ -7,6 +7,7 @@ pub mod spot;
 
 use definitions::Manifest;
 use definitions::Source;
+use definitions::StageTime;
 use near::Near;
 use near::near_in;
 use spot::Spot;
@@ -205,7 +206,7 @@ pub fn piece_at(
     };
     // the lower neighbour is the inverse time of a sample before the turn or at it
     let hint = place_before(found.sample);
-    let held = source_in(xs, ys, times, w, l, found.knot, hint);
+    let held = source_in(xs, ys, times, w, StageTime(l), found.knot, hint);
     Piece {
         cell: Cell::Constant(held),
         end: upper,

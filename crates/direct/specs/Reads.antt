@@ -10,12 +10,13 @@ use lib.Seq.{take-suc}
 use lib.Ieee.{Float, nan, eq}
 use Rattle.definitions.specs.declared.Manifest.{Manifest}
 use Rattle.definitions.specs.declared.Start.{Start}
+use Rattle.definitions.specs.declared.StageTime.{StageTime}
 use Rattle.definitions.specs.declared.Answer.{Answer}
 use Rattle.definitions.specs.declared.Source.{Source}
 use Rattle.definitions.specs.declared.Source.the-variants.{Sample as sample}
 use Rattle.definitions.specs.Lists.{any}
-use Rattle.definitions.specs.ClipSet.{ClipSet, stage, clip}
-use Rattle.definitions.specs.Timing.{lastAtMost, mapTime, mapStageToClip}
+use Rattle.definitions.specs.ClipSet.{ClipSet, stage}
+use Rattle.definitions.specs.Timing.{lastAtMost, mapStageToClip}
 use Rattle.definitions.specs.Samples.{Samples, clipBegin, clipEnd, clipTimes, heldPlace}
 use Rattle.definitions.specs.Value.{blockedAt, sampleOf, readClip, firstReading}
 use Rattle.cell_laws.specs.Unpacked.{start, activeOf, knotsOf, setOf, samplesOf, Ready}
@@ -33,31 +34,31 @@ readingIs (Of c i) = some (sample c i)
 readingIs Nothing = none
 
 -- the reading of clip c at a stage time
-abbrev pub readPart : List Float → List Float → List Float → List ℕ → ℕ → Float → Option Source
-readPart xs ys times ends c t = sampleOf c (heldPlace (partOf times ends c) (clip (mapTime (knotsOf xs ys) t)))
+abbrev pub readPart : List Float → List Float → List Float → List ℕ → ℕ → StageTime → Option Source
+readPart xs ys times ends c t = sampleOf c (heldPlace (partOf times ends c) (mapStageToClip (knotsOf xs ys) t))
 
-module _ (xs ys times : List Float) (ends : List ℕ) (c : ℕ) (t : Float) where
+module _ (xs ys times : List Float) (ends : List ℕ) (c : ℕ) (t : StageTime) where
   pub read-none : clipBegin ends c ≡ clipEnd ends c → none ≡ readPart xs ys times ends c t
-  read-none e = ap (sampleOf c) (place-none times (clipBegin ends c) (clipEnd ends c) (mapTime (knotsOf xs ys) t) e)
+  read-none e = ap (sampleOf c) (place-none times (clipBegin ends c) (clipEnd ends c) (mapStageToClip (knotsOf xs ys) t) e)
 
   pub read-some : Readable xs ys times ends → c < length ends → (clipBegin ends c ≡ clipEnd ends c → ⊥)
-      → some (sample c (lastAtMost (partOf times ends c) (mapTime (knotsOf xs ys) t))) ≡ readPart xs ys times ends c t
-  read-some R h n = ap (sampleOf c) (place-some times (clipBegin ends c) (clipEnd ends c) (mapTime (knotsOf xs ys) t) (omega (arith, R .from c h, n)) (R .inside c h))
+      → some (sample c (lastAtMost (partOf times ends c) (mapStageToClip (knotsOf xs ys) t .0))) ≡ readPart xs ys times ends c t
+  read-some R h n = ap (sampleOf c) (place-some times (clipBegin ends c) (clipEnd ends c) (mapStageToClip (knotsOf xs ys) t) (omega (arith, R .from c h, n)) (R .inside c h))
 
 -- its place, with what the sample there says
-abbrev pub heldPart : List Float → List Float → List Float → List Float → List ℕ → List ℕ → ℕ → Float → Option (ℕ × Answer)
-heldPart xs ys times values marks ends c t = heldReading times values marks (clipBegin ends c) (clipEnd ends c) (mapTime (knotsOf xs ys) t)
+abbrev pub heldPart : List Float → List Float → List Float → List Float → List ℕ → List ℕ → ℕ → StageTime → Option (ℕ × Answer)
+heldPart xs ys times values marks ends c t = heldReading times values marks (clipBegin ends c) (clipEnd ends c) (mapStageToClip (knotsOf xs ys) t)
 
-module _ (xs ys times values : List Float) (marks ends : List ℕ) (c : ℕ) (t : Float) where
+module _ (xs ys times values : List Float) (marks ends : List ℕ) (c : ℕ) (t : StageTime) where
   pub part-read : (i : ℕ) (a : Answer) → some (i, a) ≡ heldPart xs ys times values marks ends c t → some (sample c i) ≡ readPart xs ys times ends c t
-  part-read i a e = go (heldPlace (partOf times ends c) (clip (mapTime (knotsOf xs ys) t))) e
+  part-read i a e = go (heldPlace (partOf times ends c) (mapStageToClip (knotsOf xs ys) t)) e
     where
       go : (o : Option ℕ) → some (i, a) ≡ told values marks (clipBegin ends c) o → some (sample c i) ≡ sampleOf c o
       go none e = let z : _≡_ {A = ℕ} 0 1 = cc in absurd (omega arith)
       go (some j) e = let z : _≡_ {A = ℕ × Answer} (i, a) (j, markedAt values marks (clipBegin ends c + j)) = cc in ap (λ (x : ℕ × Answer). some (sample c (x .0))) z
 
   pub part-none : none ≡ heldPart xs ys times values marks ends c t → none ≡ readPart xs ys times ends c t
-  part-none e = go (heldPlace (partOf times ends c) (clip (mapTime (knotsOf xs ys) t))) e
+  part-none e = go (heldPlace (partOf times ends c) (mapStageToClip (knotsOf xs ys) t)) e
     where
       go : (o : Option ℕ) → none ≡ told values marks (clipBegin ends c) o → none ≡ sampleOf c o
       go none e = refl
@@ -125,8 +126,8 @@ module _ {starts : List Float} {clips : List ℕ} {xs ys blocks : List Float} {m
     unfolding setOf readStart blockedAt
     start-blocked e = rw e
 
-    pub start-read : any (λ (b : Float). eq b (getD starts i nan)) blocks ≡ false → readPart xs ys times ends (getD clips i 0) (getD starts i nan) ≡ readStart set s (at i)
-    unfolding setOf readStart blockedAt readClip clipTimes mapStageToClip
+    pub start-read : any (λ (b : Float). eq b (getD starts i nan)) blocks ≡ false → readPart xs ys times ends (getD clips i 0) (stage (getD starts i nan)) ≡ readStart set s (at i)
+    unfolding setOf readStart blockedAt readClip clipTimes
     start-read e = rw e
 
     front-is : i < length starts → firstReading set s (drop i (activeOf starts clips)) ≡ firstOf (readStart set s (at i)) (firstReading set s (drop (i + 1) (activeOf starts clips)))

@@ -15,7 +15,7 @@ use Rattle.definitions.specs.declared.Source.the-variants.{Default as default, 
 use Rattle.definitions.specs.Lists.{any}
 use Rattle.definitions.specs.ClipSet.{ClipSet, stage}
 use Rattle.definitions.specs.declared.Manifest.{Manifest}
-use Rattle.definitions.specs.Timing.{lastAtMost, activePosition, mapStageToClip}
+use Rattle.definitions.specs.Timing.{lastAtMost, activePosition}
 use Rattle.definitions.specs.Samples.{Samples, clipTimes}
 use Rattle.definitions.specs.Value.{_orElse_, blockedAt, contributes, readClip, firstReading, interpolateMissingValue, manifestDefault, gapSource, sourceAt, directSource}
 use Rattle.cell_laws.specs.Unpacked.{start, activeOf, setOf, samplesOf, zip-here, Ready}
@@ -127,12 +127,12 @@ module _ {starts : List Float} {clips : List ℕ} {xs ys blocks : List Float} {m
       here : getElem? (activeOf starts clips) p ≡ some (start (getD starts p nan) (getD clips p 0))
       here = zip-here start starts clips p nan 0 (R .starts-paired) h
 
-      pub reads-own : not (m .interpolate && any (λ (b : Float). eq b (getD starts p nan)) blocks) ≡ true → (r : Source) → some r ≡ readPart xs ys times ends (getD clips p 0) t → r ≡ directSource ready lent (stage t)
-      unfolding setOf contributes blockedAt readClip clipTimes mapStageToClip
+      pub reads-own : not (m .interpolate && any (λ (b : Float). eq b (getD starts p nan)) blocks) ≡ true → (r : Source) → some r ≡ readPart xs ys times ends (getD clips p 0) (stage t) → r ≡ directSource ready lent (stage t)
+      unfolding setOf contributes blockedAt readClip clipTimes
       reads-own c r q = direct-own ready lent t p (start (getD starts p nan) (getD clips p 0)) at here r c q
 
-      pub reads-empty : not (m .interpolate && any (λ (b : Float). eq b (getD starts p nan)) blocks) ≡ true → none ≡ readPart xs ys times ends (getD clips p 0) t → standIn ready lent p ≡ directSource ready lent (stage t)
-      unfolding setOf contributes blockedAt readClip clipTimes mapStageToClip
+      pub reads-empty : not (m .interpolate && any (λ (b : Float). eq b (getD starts p nan)) blocks) ≡ true → none ≡ readPart xs ys times ends (getD clips p 0) (stage t) → standIn ready lent p ≡ directSource ready lent (stage t)
+      unfolding setOf contributes blockedAt readClip clipTimes
       reads-empty c q = direct-empty ready lent t p (start (getD starts p nan) (getD clips p 0)) at here c q
 
       pub reads-out : not (m .interpolate && any (λ (b : Float). eq b (getD starts p nan)) blocks) ≡ false → standIn ready lent p ≡ directSource ready lent (stage t)

@@ -2,6 +2,7 @@
 
 use definitions::Manifest;
 use definitions::Source;
+use definitions::StageTime;
 use look::Held;
 use window::part::clip_begin;
 use window::part::clip_end;
@@ -66,7 +67,7 @@ pub fn read_clip(
     marks: &[u8],
     ends: &[u64],
     clip: u64,
-    t: f64,
+    t: StageTime,
 ) -> Held
     requires { ⌜ Readable (now xs) (now ys) (now times) (now ends) ⌝ ∗ ⌜ clip < length (now ends) ⌝ }
     requires { ⌜ length (now values) ≡ length (now times) ⌝ ∗ ⌜ length (now marks) ≡ length (now times) ⌝ }
@@ -103,7 +104,8 @@ fn read_start(
         return Reading::Nothing;
     }
     let clip = clips[i];
-    let Held::At(place, _) = read_clip(xs, ys, times, values, marks, ends, clip, time) else {
+    let Held::At(place, _) = read_clip(xs, ys, times, values, marks, ends, clip, StageTime(time))
+    else {
         return Reading::Nothing;
     };
     Reading::Of(clip, place as u64)

@@ -3,6 +3,8 @@ pub mod near;
 pub mod sorting;
 pub mod writing;
 
+use definitions::ClipTime;
+use definitions::StageTime;
 ghost use mathlib.Core.Path.{_≡_};
 ghost use mathlib.Core.Bool.{not, _&&_, cond};
 ghost use lib.ListN.{length};
@@ -11,7 +13,7 @@ ghost use Rattle.gf.specs.Doubles.{storable};
 ghost use Rattle.definitions.specs.Doubles.{twoEqual, threeEqual};
 ghost use Rattle.definitions.specs.ClipSet.{anyUnstorable};
 ghost use Rattle.definitions.specs.Explicit.{knot};
-ghost use Rattle.definitions.specs.Timing.{lastAtMost, onSegment, mapTime};
+ghost use Rattle.definitions.specs.Timing.{lastAtMost, onSegment, mapTime, mapStageToClip};
 ghost use Rattle.set_laws.specs.Places.{Ascending};
 ghost use Rattle.cell_laws.specs.Unpacked.{knotsOf};
 
@@ -104,8 +106,8 @@ fn on_segment(x0: f64, x1: f64, y0: f64, y1: f64, t: f64) -> f64
     gf::lerp(x0, x1, y0, y1, t)
 }
 
-// The clip time at `t` by the knots (x, y): the Rust's `map_stage_to_clip`.
-pub fn map_time(xs: &[f64], ys: &[f64], t: f64) -> f64
+// The y at `t` of the knots (x, y), bare as the lists are.
+fn y_at(xs: &[f64], ys: &[f64], t: f64) -> f64
     requires { ⌜ Ascending (now xs) ⌝ ∗ ⌜ length (now xs) ≡ length (now ys) ⌝ }
     ensures { λ r. ⌜ r ≡ mapTime (knotsOf (now (xs .entry)) (now (ys .entry))) t ⌝ }
 {
@@ -127,4 +129,12 @@ pub fn map_time(xs: &[f64], ys: &[f64], t: f64) -> f64
     }
     let hi = lo + 1;
     on_segment(xs[lo], xs[hi], ys[lo], ys[hi], t)
+}
+
+// The knot mapping, which alone turns a stage time into a clip time: the Rust's `map_stage_to_clip`.
+pub fn map_time(xs: &[f64], ys: &[f64], t: StageTime) -> ClipTime
+    requires { ⌜ Ascending (now xs) ⌝ ∗ ⌜ length (now xs) ≡ length (now ys) ⌝ }
+    ensures { λ r. ⌜ r ≡ mapStageToClip (knotsOf (now (xs .entry)) (now (ys .entry))) t ⌝ }
+{
+    ClipTime(y_at(xs, ys, t.0))
 }

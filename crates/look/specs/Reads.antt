@@ -11,7 +11,7 @@ use lib.Ieee.{Float, nan, binary64, fits}
 use borrow.Author.Tests.{ne-eqb}
 use Rattle.definitions.specs.declared.Answer.{Answer}
 use Rattle.definitions.specs.declared.Answer.the-variants.{Value, Blocked}
-use Rattle.definitions.specs.ClipSet.{clip}
+use Rattle.definitions.specs.declared.ClipTime.{ClipTime}
 use Rattle.definitions.specs.Timing.{lastAtMost}
 use Rattle.definitions.specs.Samples.{heldPlace}
 use Rattle.definitions.specs.Value.{marked}
@@ -52,32 +52,32 @@ told values marks begin none = none
 told values marks begin (some i) = some (i, markedAt values marks (begin + i))
 
 -- the held reading at the clip time t of the samples from one end to the other
-abbrev pub heldReading : List Float → List Float → List ℕ → ℕ → ℕ → Float → Option (ℕ × Answer)
-heldReading times values marks begin end t = told values marks begin (heldPlace (part times begin end) (clip t))
+abbrev pub heldReading : List Float → List Float → List ℕ → ℕ → ℕ → ClipTime → Option (ℕ × Answer)
+heldReading times values marks begin end t = told values marks begin (heldPlace (part times begin end) t)
 
 -- ---- what the code finds
 
-module _ (times : List Float) (begin end : ℕ) (t : Float) where
-  pub place-none : begin ≡ end → none ≡ heldPlace (part times begin end) (clip t)
+module _ (times : List Float) (begin end : ℕ) (t : ClipTime) where
+  pub place-none : begin ≡ end → none ≡ heldPlace (part times begin end) t
   unfolding heldPlace
   place-none e = let z : end - begin ≡ 0 = omega arith in rw z
 
   part-length : end ≤ length times → length (part times begin end) ≡ end - begin
   part-length h = length-take-le (end - begin) (drop begin times) (omega (arith, length-drop begin times))
 
-  pub place-some : begin < end → end ≤ length times → some (lastAtMost (part times begin end) t) ≡ heldPlace (part times begin end) (clip t)
+  pub place-some : begin < end → end ≤ length times → some (lastAtMost (part times begin end) (t .0)) ≡ heldPlace (part times begin end) t
   unfolding heldPlace
   place-some h k = held (part times begin end) (omega (arith, part-length k))
     where
-      held : (l : List Float) → 0 < length l → some (lastAtMost l t) ≡ heldPlace l (clip t)
+      held : (l : List Float) → 0 < length l → some (lastAtMost l (t .0)) ≡ heldPlace l t
       held [] h = absurd (omega arith)
       held (x ∷ l) h = refl
 
-module _ (times values : List Float) (marks : List ℕ) (begin end : ℕ) (t : Float) where
+module _ (times values : List Float) (marks : List ℕ) (begin end : ℕ) (t : ClipTime) where
   pub held-none : begin ≡ end → none ≡ heldReading times values marks begin end t
   held-none e = ap (told values marks begin) (place-none times begin end t e)
 
-  module _ (R : Readable times values marks begin end) (n : begin ≡ end → ⊥) (i : ℕ) (e : i ≡ lastAtMost (part times begin end) t) where
+  module _ (R : Readable times values marks begin end) (n : begin ≡ end → ⊥) (i : ℕ) (e : i ≡ lastAtMost (part times begin end) (t .0)) where
     less : begin < end
     less = omega (arith, R .from, n)
 
@@ -85,10 +85,10 @@ module _ (times values : List Float) (marks : List ℕ) (begin end : ℕ) (t : F
     held-some = ap (λ (j : ℕ). told values marks begin (some j)) e ∙ ap (told values marks begin) (place-some times begin end t less (R .inside))
 
     -- the place lies before the end
-    pub held-inside : T (fits binary64 t) → Inside values marks (begin + i)
+    pub held-inside : T (fits binary64 (t .0)) → Inside values marks (begin + i)
     held-inside ft =
         let l = part-length times begin end t (R .inside) in
-        let h : begin + i < end = omega (arith, less, last-inside t ft (part times begin end) (R .rising) (omega (arith, less))) in
+        let h : begin + i < end = omega (arith, less, last-inside (t .0) ft (part times begin end) (R .rising) (omega (arith, less))) in
         record { value = omega (arith, R .values-reach); mark = omega (arith, R .marks-reach) }
 
 -- a place that a list has holds the same whatever stands in for one that it has not

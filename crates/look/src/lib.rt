@@ -1,5 +1,6 @@
 // A clip's samples, seen through a look over the lent lists by the clip's two ends.
 use definitions::Answer;
+use definitions::ClipTime;
 ghost use mathlib.Core.Path.{_≡_};
 ghost use Prim.Native.Nat.{_+_};
 ghost use Rattle.look.specs.Reads.{Inside, Readable, markedAt, heldIs, heldReading};
@@ -39,7 +40,7 @@ fn held_reading(
     marks: &[u8],
     begin: usize,
     end: usize,
-    t: f64,
+    t: ClipTime,
 ) -> Held
     requires { ⌜ Readable (now times) (now values) (now marks) begin end ⌝ }
     ensures { λ r. ⌜ heldIs r ≡ heldReading (now (times .entry)) (now (values .entry)) (now (marks .entry)) begin end t ⌝ }
@@ -47,7 +48,7 @@ fn held_reading(
     if begin == end {
         return Held::Nothing;
     }
-    let place = lists::last_at_most(&times[begin..end], t);
+    let place = lists::last_at_most(&times[begin..end], t.0);
     let answer = marked_at(values, marks, begin, place);
     Held::At(place, answer)
 }
@@ -73,7 +74,7 @@ pub fn over<'t, 'v, 'm>(
 
 impl<'t, 'v, 'm> Look<'t, 'v, 'm> {
     // The held reading at the clip time `t`.
-    pub fn read(self, t: f64) -> Held
+    pub fn read(self, t: ClipTime) -> Held
         requires { ⌜ Readable (now (self .times)) (now (self .values)) (now (self .marks)) (self .begin) (self .end) ⌝ }
         ensures { λ r. ⌜ heldIs r ≡ heldReading (now (self .entry .times)) (now (self .entry .values)) (now (self .entry .marks)) (self .entry .begin) (self .entry .end) t ⌝ }
     {
@@ -96,7 +97,7 @@ pub fn read_clip(
     marks: &[u8],
     begin: usize,
     end: usize,
-    t: f64,
+    t: ClipTime,
 ) -> Held
     requires { ⌜ Readable (now times) (now values) (now marks) begin end ⌝ }
     ensures { λ r. ⌜ heldIs r ≡ heldReading (now (times .entry)) (now (values .entry)) (now (marks .entry)) begin end t ⌝ }

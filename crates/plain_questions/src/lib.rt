@@ -11,14 +11,14 @@ use text::first_doubles;
 // The name at a clip time, in the first `count` bytes of `written`.
 fn named(
     template: &[u8],
-    time: f64,
+    time: ClipTime,
     written: &mut [u8],
     count: usize,
     out: &mut [u8],
     full: usize,
 ) -> usize {
     let k = least(count, written.len());
-    match names::name(template, ClipTime(time), &mut written[0..k]) {
+    match names::name(template, time, &mut written[0..k]) {
         Named::Written(length) => {
             let n = text::put(out, full, b"name ");
             let n = text::put_bytes(out, n, first_bytes(written, length));
@@ -39,7 +39,7 @@ pub fn name(line: &[u8], at: usize, out: &mut [u8], full: usize) -> usize {
     }
     named(
         first_bytes(&template, b.count),
-        t.value,
+        ClipTime(t.value),
         &mut written,
         s.count,
         out,

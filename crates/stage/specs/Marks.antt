@@ -10,10 +10,11 @@ use lib.ListN.{length, getD, getElem?, drop}
 use lib.Ieee.{Float, nan}
 use Rattle.definitions.specs.declared.Manifest.{Manifest}
 use Rattle.definitions.specs.declared.Start.{Start}
+use Rattle.definitions.specs.declared.StageTime.{StageTime}
 use Rattle.definitions.specs.declared.Answer.{Answer}
 use Rattle.gf.specs.Doubles.{0·0}
-use Rattle.definitions.specs.ClipSet.{ClipSet, markValue, markBlock, stage, clip}
-use Rattle.definitions.specs.Timing.{lastAtMost, activePosition, activeEntry, mapTime, mapStageToClip}
+use Rattle.definitions.specs.ClipSet.{ClipSet, markValue, markBlock, stage}
+use Rattle.definitions.specs.Timing.{lastAtMost, activePosition, activeEntry, mapStageToClip}
 use Rattle.definitions.specs.Samples.{Samples, clipBegin, clipTimes, heldPlace}
 use Rattle.definitions.specs.Value.{marked}
 use Rattle.definitions.specs.Track.{markOf}
@@ -70,33 +71,33 @@ mark-back zero v h = refl
 mark-back (suc zero) v h = refl
 mark-back (suc (suc k)) v h = absurd (omega arith)
 
-module _ {starts : List Float} {clips : List ℕ} {xs ys blocks : List Float} {m : Manifest} {times values : List Float} {marks ends : List ℕ} (R : Ready starts clips xs ys blocks m times values marks ends) (t : Float) where
+module _ {starts : List Float} {clips : List ℕ} {xs ys blocks : List Float} {m : Manifest} {times values : List Float} {marks ends : List ℕ} (R : Ready starts clips xs ys blocks m times values marks ends) (t : StageTime) where
   abbrev set : ClipSet
   set = setOf (length ends) starts clips xs ys blocks m
 
   abbrev s : Samples
   s = samplesOf times values marks ends
 
-  pub mark-none : length starts ≡ 0 → gapMarkOf (m .default .mark) ≡ suppliedAt set s (stage t)
+  pub mark-none : length starts ≡ 0 → gapMarkOf (m .default .mark) ≡ suppliedAt set s t
   unfolding setOf suppliedAt activeEntry
-  mark-none e = sym (ap (markIn set s (stage t)) (none-in (activeOf starts clips) (activePosition (activeOf starts clips) (stage t)) (ready-active R ∙ e)))
+  mark-none e = sym (ap (markIn set s t) (none-in (activeOf starts clips) (activePosition (activeOf starts clips) t) (ready-active R ∙ e)))
     where
       none-in : (l : List Start) (i : ℕ) → length l ≡ 0 → getElem? l i ≡ none
       none-in [] i e = refl
       none-in (a ∷ l) i e = absurd (omega arith)
 
-  module _ (p : ℕ) (e : p ≡ lastAtMost starts t) (h : p < length starts) where
+  module _ (p : ℕ) (e : p ≡ lastAtMost starts (t .0)) (h : p < length starts) where
     -- by the place that is read
-    by-place : readMark set s (getD clips p 0) (heldPlace (partOf times ends (getD clips p 0)) (clip (mapTime (knotsOf xs ys) t))) ≡ suppliedAt set s (stage t)
-    unfolding setOf suppliedAt activeEntry clipTimes mapStageToClip
+    by-place : readMark set s (getD clips p 0) (heldPlace (partOf times ends (getD clips p 0)) (mapStageToClip (knotsOf xs ys) t)) ≡ suppliedAt set s t
+    unfolding setOf suppliedAt activeEntry clipTimes
     by-place =
         sym
-        (ap (λ (q : ℕ). markIn set s (stage t) (getElem? (activeOf starts clips) q)) (ready-position R t p e)
-        ∙ ap (markIn set s (stage t)) (zip-here start starts clips p nan 0 (R .starts-paired) h))
+        (ap (λ (q : ℕ). markIn set s t (getElem? (activeOf starts clips) q)) (ready-position R (t .0) p e)
+        ∙ ap (markIn set s t) (zip-here start starts clips p nan 0 (R .starts-paired) h))
 
     -- the sample's mark, by what it says
-    pub mark-read : (i : ℕ) (a : Answer) → some (i, a) ≡ heldPart xs ys times values marks ends (getD clips p 0) t → markOf a ≡ suppliedAt set s (stage t)
-    mark-read i a q = go (heldPlace (partOf times ends (getD clips p 0)) (clip (mapTime (knotsOf xs ys) t))) q ∙ by-place
+    pub mark-read : (i : ℕ) (a : Answer) → some (i, a) ≡ heldPart xs ys times values marks ends (getD clips p 0) t → markOf a ≡ suppliedAt set s t
+    mark-read i a q = go (heldPlace (partOf times ends (getD clips p 0)) (mapStageToClip (knotsOf xs ys) t)) q ∙ by-place
       where
         go : (o : Option ℕ) → some (i, a) ≡ told values marks (clipBegin ends (getD clips p 0)) o → markOf a ≡ readMark set s (getD clips p 0) o
         go none k = let z : _≡_ {A = ℕ} 0 1 = cc in absurd (omega arith)
@@ -105,9 +106,9 @@ module _ {starts : List Float} {clips : List ℕ} {xs ys blocks : List Float} {m
             let z : _≡_ {A = ℕ × Answer} (i, a) (j, markedAt values marks at) = cc in
             ap (λ (x : ℕ × Answer). markOf (x .1)) z ∙ mark-back (getD marks at 0) (getD values at 0·0) (every-getD (λ (n : ℕ). n ≤ markBlock) marks at 0 (R .accepted .marked) (omega arith))
 
-    pub mark-gap : none ≡ heldPart xs ys times values marks ends (getD clips p 0) t → gapMarkOf (m .default .mark) ≡ suppliedAt set s (stage t)
+    pub mark-gap : none ≡ heldPart xs ys times values marks ends (getD clips p 0) t → gapMarkOf (m .default .mark) ≡ suppliedAt set s t
     unfolding setOf
-    mark-gap q = go (heldPlace (partOf times ends (getD clips p 0)) (clip (mapTime (knotsOf xs ys) t))) q ∙ by-place
+    mark-gap q = go (heldPlace (partOf times ends (getD clips p 0)) (mapStageToClip (knotsOf xs ys) t)) q ∙ by-place
       where
         go : (o : Option ℕ) → none ≡ told values marks (clipBegin ends (getD clips p 0)) o → gapMarkOf (m .default .mark) ≡ readMark set s (getD clips p 0) o
         go none k = refl

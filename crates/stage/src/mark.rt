@@ -2,13 +2,13 @@
 
 use definitions::Answer;
 use definitions::Manifest;
+use definitions::StageTime;
 use direct::read_clip;
 use look::Held;
 ghost use mathlib.Core.Path.{_≡_};
 ghost use Prim.Native.Nat.{_≤_};
 ghost use lib.ListN.{length};
 ghost use Rattle.definitions.specs.Lists.{writtenOver};
-ghost use Rattle.definitions.specs.ClipSet.{stage};
 ghost use Rattle.definitions.specs.StageSamples.{suppliedAt};
 ghost use Rattle.definitions.specs.Track.{markOf};
 ghost use Rattle.cell_laws.specs.Unpacked.{setOf, samplesOf, Ready};
@@ -48,15 +48,15 @@ fn supplied_at(
     values: &[f64],
     marks: &[u8],
     ends: &[u64],
-    t: f64,
+    t: StageTime,
 ) -> u8
     requires { ⌜ Ready (now starts) (now clips) (now xs) (now ys) (now blocks) m (now times) (now values) (now marks) (now ends) ⌝ }
-    ensures { λ r. ⌜ r ≡ suppliedAt (setOf (length (now (ends .entry))) (now (starts .entry)) (now (clips .entry)) (now (xs .entry)) (now (ys .entry)) (now (blocks .entry)) m) (samplesOf (now (times .entry)) (now (values .entry)) (now (marks .entry)) (now (ends .entry))) (stage t) ⌝ }
+    ensures { λ r. ⌜ r ≡ suppliedAt (setOf (length (now (ends .entry))) (now (starts .entry)) (now (clips .entry)) (now (xs .entry)) (now (ys .entry)) (now (blocks .entry)) m) (samplesOf (now (times .entry)) (now (values .entry)) (now (marks .entry)) (now (ends .entry))) t ⌝ }
 {
     if starts.len() == 0 {
         return gap_mark(m);
     }
-    let p = lists::last_at_most(starts, t);
+    let p = lists::last_at_most(starts, t.0);
     let own = read_clip(xs, ys, times, values, marks, ends, clips[p], t);
     if let Held::At(_, answer) = own {
         return sample_mark(answer);
@@ -84,6 +84,7 @@ pub fn write_marks(
 {
     let mut i: usize = 0;
     while i < at.len() {
+        let t = at[i];
         out[i] = supplied_at(
             starts,
             clips,
@@ -95,7 +96,7 @@ pub fn write_marks(
             values,
             marks,
             ends,
-            at[i],
+            StageTime(t),
         );
         i += 1;
     }

@@ -47,7 +47,7 @@ pub fn map_stage_to_clip<'a>(xs: &'a [f64], ys: &'a [f64], n: usize, t: StageTim
     requires { ⌜ Room maxKnots (now xs) n ⌝ ∗ ⌜ Room maxKnots (now ys) n ⌝ ∗ ⌜ Ascending (take n (now xs)) ⌝ }
     ensures { λ r. ⌜ r ≡ mapStageToClip (knotsOf (take n (now (xs .entry))) (take n (now (ys .entry)))) t ⌝ }
 {
-    ClipTime(lists::map_time(&xs[..n], &ys[..n], t.0))
+    lists::map_time(&xs[..n], &ys[..n], t)
 }
 
 // The value at a stage time: the Rust's `value_in_set`.
@@ -82,7 +82,7 @@ pub fn value<'a>(
         values,
         marks,
         ends,
-        t.0,
+        t,
     )
 }
 

@@ -5,11 +5,14 @@ use mathlib.Core.Path.{_≡_}
 use mathlib.Core.Bool.{true, false}
 use mathlib.Core.List.{List}
 use Rattle.gf.specs.Doubles.{0·0}
+use Rattle.definitions.specs.declared.Answer.{Answer}
+use Rattle.definitions.specs.declared.Answer.the-variants as answer
 use Rattle.definitions.specs.declared.StageTime.{StageTime}
 use Rattle.definitions.specs.declared.ClipTime.{ClipTime}
 use Rattle.definitions.specs.declared.Answer.{Answer}
 use Rattle.definitions.specs.declared.Answer.the-variants as answer
 use Rattle.definitions.specs.ClipSet.{markValue, markBlock, markNone}
+use Rattle.definitions.specs.ClipSet as sets
 use Rattle.definitions.specs.Samples.{Samples}
 use Rattle.names.specs.declared.Named.{Named}
 use Rattle.names.specs.declared.Named.the-variants as named
@@ -40,8 +43,8 @@ clipCode clip.NoClip = record { number = 0; found = false; clip = 0 }
 clipCode (clip.Refused n) = record { number = n; found = false; clip = 0 }
 
 abbrev pub timeCode : TimeReply → TimeCode
-timeCode (time.Time t) = record { number = 0; time = t .0 }
-timeCode (time.Refused n) = record { number = n; time = 0·0 }
+timeCode (time.Time t) = record { number = 0; time = t }
+timeCode (time.Refused n) = record { number = n; time = sets.clip 0·0 }
 
 -- "a number has mark 0, a blocked value 1, an absent one 2". A number has the bits that the question gives, whatever a track would write; where there is none stands 0.0.
 abbrev pub answerCode : Answer → ValueCode

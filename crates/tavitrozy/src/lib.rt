@@ -18,7 +18,6 @@ use steps::entry::Entry;
 use track::bake::Baked;
 use value::untimed::ValueState;
 ghost use mathlib.Core.Path.{_≡_};
-ghost use Rattle.definitions.specs.ClipSet.{stage, clip};
 ghost use Rattle.definitions.specs.Track.{readTrack};
 ghost use Rattle.cell_laws.specs.Unpacked.{samplesOf};
 ghost use Rattle.clip.specs.Holding.{manifest};
@@ -43,7 +42,7 @@ pub struct ClipCode {
 #[repr(C)]
 pub struct TimeCode {
     pub number: u8,
-    pub time: f64,
+    pub time: ClipTime,
 }
 
 // Mark 0: the value; 1: blocked; 2: absent.
@@ -87,13 +86,10 @@ fn time_code(r: TimeReply) -> TimeCode
     ensures { λ a. ⌜ a ≡ timeCode r ⌝ }
 {
     match r {
-        TimeReply::Time(t) => TimeCode {
-            number: 0,
-            time: t.0,
-        },
+        TimeReply::Time(t) => TimeCode { number: 0, time: t },
         TimeReply::Refused(n) => TimeCode {
             number: n,
-            time: 0.0,
+            time: ClipTime(0.0),
         },
     }
 }
@@ -211,21 +207,19 @@ pub extern "C" fn tavitrozy_retime(resolver: Resolver, offset: LayerOffset) -> A
 }
 
 #[no_mangle]
-pub extern "C" fn tavitrozy_active_clip(resolver: Resolver, time: f64) -> ClipCode
+pub extern "C" fn tavitrozy_active_clip(resolver: Resolver, time: StageTime) -> ClipCode
     requires { ⌜ Made resolver ⌝ }
-    ensures { λ a. ⌜ TellsClip resolver (stage time) a ⌝ }
+    ensures { λ a. ⌜ TellsClip resolver time a ⌝ }
 {
-    let t = StageTime(time);
-    clip_code(resolver.active_clip(t))
+    clip_code(resolver.active_clip(time))
 }
 
 #[no_mangle]
-pub extern "C" fn tavitrozy_clip_time(resolver: Resolver, time: f64) -> TimeCode
+pub extern "C" fn tavitrozy_clip_time(resolver: Resolver, time: StageTime) -> TimeCode
     requires { ⌜ Made resolver ⌝ }
-    ensures { λ a. ⌜ TellsTime resolver (stage time) a ⌝ }
+    ensures { λ a. ⌜ TellsTime resolver time a ⌝ }
 {
-    let t = StageTime(time);
-    time_code(resolver.clip_time(t))
+    time_code(resolver.clip_time(time))
 }
 
 #[no_mangle]
@@ -235,13 +229,12 @@ pub extern "C" fn tavitrozy_value(
     values: &[f64],
     marks: &[u8],
     ends: &[u64],
-    time: f64,
+    time: StageTime,
 ) -> ValueCode
     requires { ⌜ Made resolver ⌝ }
-    ensures { λ a. ⌜ TellsValue resolver (samplesOf (now (times .entry)) (now (values .entry)) (now (marks .entry)) (now (ends .entry))) (stage time) a ⌝ }
+    ensures { λ a. ⌜ TellsValue resolver (samplesOf (now (times .entry)) (now (values .entry)) (now (marks .entry)) (now (ends .entry))) time a ⌝ }
 {
-    let t = StageTime(time);
-    value_code(resolver.value(times, values, marks, ends, t))
+    value_code(resolver.value(times, values, marks, ends, time))
 }
 
 #[no_mangle]
@@ -312,11 +305,11 @@ pub extern "C" fn tavitrozy_read(
     times: &[f64],
     values: &[f64],
     marks: &[u8],
-    time: f64,
+    time: StageTime,
 ) -> Entry
-    ensures { λ r. ⌜ entryIs r ≡ readTrack (trackOfLists (head .value) (head .mark) (now (times .entry)) (now (values .entry)) (now (marks .entry))) time ⌝ }
+    ensures { λ r. ⌜ entryIs r ≡ readTrack (trackOfLists (head .value) (head .mark) (now (times .entry)) (now (values .entry)) (now (marks .entry))) (time .0) ⌝ }
 {
-    track::held::read_held(head.mark, head.value, times, values, marks, time)
+    track::held::read_held(head.mark, head.value, times, values, marks, time.0)
 }
 
 // The count is the name's length.
@@ -336,11 +329,10 @@ fn name_code(r: Named) -> Counted
 }
 
 #[no_mangle]
-pub extern "C" fn tavitrozy_name(pattern: &[u8], time: f64, out: &mut [u8]) -> Counted
-    ensures { λ a. ⌜ SaysName (now (pattern .entry)) (clip time) (now (out .entry)) (now (out .exit)) a ⌝ }
+pub extern "C" fn tavitrozy_name(pattern: &[u8], time: ClipTime, out: &mut [u8]) -> Counted
+    ensures { λ a. ⌜ SaysName (now (pattern .entry)) time (now (out .entry)) (now (out .exit)) a ⌝ }
 {
-    let t = ClipTime(time);
-    name_code(names::name(pattern, t, out))
+    name_code(names::name(pattern, time, out))
 }
 
 #[no_mangle]

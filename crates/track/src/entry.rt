@@ -1,5 +1,6 @@
 // The value at a key, as a track holds it.
 use definitions::Manifest;
+use definitions::StageTime;
 use steps::entry::Entry;
 use steps::entry::entry_of;
 ghost use mathlib.Core.Path.{_≡_};
@@ -40,6 +41,6 @@ pub fn entry_at(
         values,
         marks,
         ends,
-        t,
+        StageTime(t),
     ))
 }

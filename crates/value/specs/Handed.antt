@@ -15,7 +15,7 @@ use Rattle.definitions.specs.declared.Source.the-variants.{Sample as sample}
 use Rattle.definitions.specs.Lists.{any, keep}
 use Rattle.definitions.specs.Doubles.{FiniteDouble}
 use Rattle.definitions.specs.ClipSet.{ClipSet, stage}
-use Rattle.definitions.specs.Timing.{lastAtMost, mapTime}
+use Rattle.definitions.specs.Timing.{lastAtMost, mapTime, mapStageToClip}
 use Rattle.definitions.specs.Samples.{Samples, clipBegin, clipEnd}
 use Rattle.definitions.specs.Value.{startOf, gathered, directSource}
 use Rattle.set_laws.specs.Tests.{is-true, holds}
@@ -74,7 +74,7 @@ module _ {starts : List Float} {clips : List ℕ} {xs ys blocks : List Float} {m
 
     -- with samples that contribute
     pub window-samples : w .end ≡ clipEnd ends c → w .begin < w .end → own ≡ true → WindowIs starts clips xs ys blocks m times values marks ends p w
-    unfolding windowSource
+    unfolding windowSource mapStageToClip
     window-samples end l o = record {
       place = h;
       start = start;
@@ -85,7 +85,7 @@ module _ {starts : List Float} {clips : List ℕ} {xs ys blocks : List Float} {m
       upto = omega (arith, ready-readable R .inside c named);
       part = part ∙ ap (λ (b : Bool). ifOwn b (partOf times ends c)) (sym o);
       direct = λ t at.
-          sym (reads-own R t p (sym at) h o (sample c (lastAtMost (partOf times ends c) (mapTime (knotsOf xs ys) t))) (read-some xs ys times ends c t (ready-readable R) named (λ e. absurd (omega arith))))
+          sym (reads-own R t p (sym at) h o (sample c (lastAtMost (partOf times ends c) (mapTime (knotsOf xs ys) t))) (read-some xs ys times ends c (stage t) (ready-readable R) named (λ e. absurd (omega arith))))
           ∙ rw (lt-ltb (w .begin) (w .end) l) (ap₂ (λ (d : ℕ) (k : List Float). sample d (lastAtMost k (mapTime (knotsOf xs ys) t))) (sym clip) (sym part));
     }
       where
@@ -127,7 +127,7 @@ module _ {starts : List Float} {clips : List ℕ} {xs ys blocks : List Float} {m
         nothing false q = refl
 
         reads : (b : Bool) → own ≡ b → (t : Float) → lastAtMost starts t ≡ p → standIn set s p ≡ directSource set s (stage t)
-        reads true q t at = reads-empty R t p (sym at) h q (read-none xs ys times ends c t (empty q))
+        reads true q t at = reads-empty R t p (sym at) h q (read-none xs ys times ends c (stage t) (empty q))
         reads false q t at = reads-out R t p (sym at) h q
 
   -- ---- what is known of one

@@ -6,6 +6,7 @@ use super::windowed::window_of;
 use definitions::Answer;
 use definitions::Manifest;
 use definitions::Source;
+use definitions::StageTime;
 use near::Window;
 use near::near_in;
 use window::Bound;
@@ -15,21 +16,20 @@ ghost use mathlib.Core.Path.{_≡_};
 ghost use lib.Dec.{T};
 ghost use lib.ListN.{length};
 ghost use lib.Ieee.Scale.{finite};
-ghost use Rattle.definitions.specs.ClipSet.{stage};
 ghost use Rattle.definitions.specs.Value.{valueSource, valueInSet};
 ghost use Rattle.cell_laws.specs.Unpacked.{setOf, samplesOf, Ready};
 ghost use Rattle.value.specs.Says.{saysIn, Sayable};
 ghost use Rattle.value.specs.Values.{Valued, ValueIn};
 
 // What is read at the time `t` of a window: directly, or held from the lower neighbour.
-fn value_in(xs: &[f64], ys: &[f64], times: &[f64], w: Window, t: f64) -> Source
-    requires { ⌜ Valued (now xs) (now ys) (now times) w t ⌝ }
-    ensures { λ r. ⌜ ValueIn (now (xs .entry)) (now (ys .entry)) (now (times .entry)) w t r ⌝ }
+fn value_in(xs: &[f64], ys: &[f64], times: &[f64], w: Window, t: StageTime) -> Source
+    requires { ⌜ Valued (now xs) (now ys) (now times) w (t .0) ⌝ }
+    ensures { λ r. ⌜ ValueIn (now (xs .entry)) (now (ys .entry)) (now (times .entry)) w (t .0) r ⌝ }
 {
     let begin = w.begin;
     let end = w.end;
     // One question is not worth the tops of all segments.
-    let found = near_in(xs, ys, &xs[0..0], &times[begin..end], w, t, 0, 0);
+    let found = near_in(xs, ys, &xs[0..0], &times[begin..end], w, t.0, 0, 0);
     let lower = found.lower;
     let upper = found.upper;
     let knot = found.knot;
@@ -43,7 +43,7 @@ fn value_in(xs: &[f64], ys: &[f64], times: &[f64], w: Window, t: f64) -> Source
     if is_jump(xs, ys, l, h, knot) {
         return source_in(xs, ys, times, w, t, knot, sample);
     }
-    source_in(xs, ys, times, w, l, knot, sample)
+    source_in(xs, ys, times, w, StageTime(l), knot, sample)
 }
 
 // What is read at the stage time `t`.
@@ -58,15 +58,15 @@ pub fn value_source(
     values: &[f64],
     marks: &[u8],
     ends: &[u64],
-    t: f64,
+    t: StageTime,
 ) -> Source
-    requires { ⌜ Ready (now starts) (now clips) (now xs) (now ys) (now blocks) m (now times) (now values) (now marks) (now ends) ⌝ ∗ ⌜ T (finite t) ⌝ }
-    ensures { λ r. ⌜ r ≡ valueSource (setOf (length (now (ends .entry))) (now (starts .entry)) (now (clips .entry)) (now (xs .entry)) (now (ys .entry)) (now (blocks .entry)) m) (samplesOf (now (times .entry)) (now (values .entry)) (now (marks .entry)) (now (ends .entry))) (stage t) ⌝ }
+    requires { ⌜ Ready (now starts) (now clips) (now xs) (now ys) (now blocks) m (now times) (now values) (now marks) (now ends) ⌝ ∗ ⌜ T (finite (t .0)) ⌝ }
+    ensures { λ r. ⌜ r ≡ valueSource (setOf (length (now (ends .entry))) (now (starts .entry)) (now (clips .entry)) (now (xs .entry)) (now (ys .entry)) (now (blocks .entry)) m) (samplesOf (now (times .entry)) (now (values .entry)) (now (marks .entry)) (now (ends .entry))) t ⌝ }
 {
     if starts.len() == 0 {
         return Source::Absent;
     }
-    let p = lists::last_at_most(starts, t);
+    let p = lists::last_at_most(starts, t.0);
     let w = window_of(
         starts,
         clips,
@@ -125,10 +125,10 @@ pub fn value(
     values: &[f64],
     marks: &[u8],
     ends: &[u64],
-    t: f64,
+    t: StageTime,
 ) -> Answer
-    requires { ⌜ Ready (now starts) (now clips) (now xs) (now ys) (now blocks) m (now times) (now values) (now marks) (now ends) ⌝ ∗ ⌜ T (finite t) ⌝ }
-    ensures { λ r. ⌜ r ≡ valueInSet (setOf (length (now (ends .entry))) (now (starts .entry)) (now (clips .entry)) (now (xs .entry)) (now (ys .entry)) (now (blocks .entry)) m) (samplesOf (now (times .entry)) (now (values .entry)) (now (marks .entry)) (now (ends .entry))) (stage t) ⌝ }
+    requires { ⌜ Ready (now starts) (now clips) (now xs) (now ys) (now blocks) m (now times) (now values) (now marks) (now ends) ⌝ ∗ ⌜ T (finite (t .0)) ⌝ }
+    ensures { λ r. ⌜ r ≡ valueInSet (setOf (length (now (ends .entry))) (now (starts .entry)) (now (clips .entry)) (now (xs .entry)) (now (ys .entry)) (now (blocks .entry)) m) (samplesOf (now (times .entry)) (now (values .entry)) (now (marks .entry)) (now (ends .entry))) t ⌝ }
 {
     let source = value_source(
         starts,

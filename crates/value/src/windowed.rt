@@ -1,7 +1,9 @@
 // A window handed on: what the times between two starts are read from.
 
+use definitions::ClipTime;
 use definitions::Manifest;
 use definitions::Source;
+use definitions::StageTime;
 use direct::contributes;
 use direct::gap_source;
 use near::Window;
@@ -16,7 +18,7 @@ ghost use lib.Dec.{ltb};
 ghost use lib.ListN.{length};
 ghost use lib.Ieee.{Float, eq};
 ghost use Rattle.definitions.specs.Lists.{any};
-ghost use Rattle.definitions.specs.Timing.{mapTime};
+ghost use Rattle.definitions.specs.Timing.{mapStageToClip};
 ghost use Rattle.set_laws.specs.Places.{Ascending};
 ghost use Rattle.cell_laws.specs.Unpacked.{knotsOf, Ready};
 ghost use Rattle.near.specs.Windowed.{Lent, windowSource};
@@ -107,16 +109,16 @@ pub fn is_between(xs: &[f64], t: f64, knot: usize) -> bool
 }
 
 // The clip time at `t`, looked for at a hint.
-fn clip_time(xs: &[f64], ys: &[f64], t: f64, knot: usize) -> f64
+fn clip_time(xs: &[f64], ys: &[f64], t: StageTime, knot: usize) -> ClipTime
     requires { ⌜ Ascending (now xs) ⌝ ∗ ⌜ length (now xs) ≡ length (now ys) ⌝ }
-    ensures { λ r. ⌜ r ≡ mapTime (knotsOf (now (xs .entry)) (now (ys .entry))) t ⌝ }
+    ensures { λ r. ⌜ r ≡ mapStageToClip (knotsOf (now (xs .entry)) (now (ys .entry))) t ⌝ }
 {
-    if is_between(xs, t, knot) {
+    if is_between(xs, t.0, knot) {
         let next = knot + 1;
-        if t == xs[knot] {
-            return ys[knot];
+        if t.0 == xs[knot] {
+            return ClipTime(ys[knot]);
         }
-        return gf::lerp(xs[knot], xs[next], ys[knot], ys[next], t);
+        return ClipTime(gf::lerp(xs[knot], xs[next], ys[knot], ys[next], t.0));
     }
     lists::map_time(xs, ys, t)
 }
@@ -127,18 +129,18 @@ pub fn source_in(
     ys: &[f64],
     times: &[f64],
     w: Window,
-    t: f64,
+    t: StageTime,
     knot: usize,
     sample: usize,
 ) -> Source
     requires { ⌜ Ascending (now xs) ⌝ ∗ ⌜ length (now xs) ≡ length (now ys) ⌝ ∗ ⌜ Lent (now times) w ⌝ }
-    ensures { λ r. ⌜ r ≡ windowSource (now (xs .entry)) (now (ys .entry)) (now (times .entry)) w t ⌝ }
+    ensures { λ r. ⌜ r ≡ windowSource (now (xs .entry)) (now (ys .entry)) (now (times .entry)) w (t .0) ⌝ }
 {
     let begin = w.begin;
     let end = w.end;
     if begin < end {
         let c = clip_time(xs, ys, t, knot);
-        let place = lists::near::last_at_most_near(&times[begin..end], c, sample);
+        let place = lists::near::last_at_most_near(&times[begin..end], c.0, sample);
         return Source::Sample(w.clip, place as u64);
     }
     w.gap

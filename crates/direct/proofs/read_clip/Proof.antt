@@ -2,7 +2,7 @@
 use mathlib.Core.Path.{sym, ap, ap₂, _∙_}
 use Prim.Native.Nat.{ℕ}
 use denote.Ref.{now}
-use Rattle.definitions.specs.Timing.{mapTime}
+use Rattle.definitions.specs.Timing.{mapStageToClip}
 use Rattle.cell_laws.specs.Unpacked.{knotsOf}
 use Rattle.look.specs.Reads.{heldReading, held-none}
 use Rattle.direct.specs.Reads.{part-looked}
@@ -43,7 +43,7 @@ returns-2 c =
     let a = entry k .args in
     c .read-clip .ensures
     ∙ ap (heldReading (now (a .times)) (now (a .values)) (now (a .marks)) (k .before .clip-begin .result) (k .clip-end .result)) (c .before .map-time .ensures)
-    ∙ ap₂ (λ (b e : ℕ). heldReading (now (a .times)) (now (a .values)) (now (a .marks)) b e (mapTime (knotsOf (now (a .xs)) (now (a .ys))) (a .t))) (k .before .clip-begin .ensures) (k .clip-end .ensures)
+    ∙ ap₂ (λ (b e : ℕ). heldReading (now (a .times)) (now (a .values)) (now (a .marks)) b e (mapStageToClip (knotsOf (now (a .xs)) (now (a .ys))) (a .t))) (k .before .clip-begin .ensures) (k .clip-end .ensures)
 
 pub read-clip-spec : {M : Type 1} → statement M
 read-clip-spec =

@@ -1,7 +1,8 @@
 -- `look::held_reading` meets its contract: between two ends that are unlike the search finds the place, which lies before the end, and between equal ones is nothing. Assumes nothing.
-use mathlib.Core.Path.{sym, ap, _∙_, subst}
+use mathlib.Core.Path.{ap, _∙_}
 use mathlib.Core.Option.{some}
 use lib.Dec.{T}
+use lib.Ieee.{binary64, fits}
 use denote.Ref.{now}
 use borrow.Author.Needs.{needs}
 use Rattle.definitions.specs.declared.Answer.{Answer}
@@ -35,7 +36,8 @@ marked-at-requires c κs =
     let e = c .before .before in
     let s = entry e in
     let a = s .args in
-    held-inside (now (a .times)) (now (a .values)) (now (a .marks)) (a .begin) (a .end) (a .t) (s .pre) (e .if1 .left) (c .last-at-most .result) (c .last-at-most .ensures) (subst T (sym (s .good .1 .1 .1 .1 .1 .0 .1)) tt)
+    let ft : T (fits binary64 (a .t .0)) = search needs in
+    held-inside (now (a .times)) (now (a .values)) (now (a .marks)) (a .begin) (a .end) (a .t) (s .pre) (e .if1 .left) (c .last-at-most .result) (c .last-at-most .ensures) ft
 
 returns-2 : tie.Need-returns-2
 returns-2 c =

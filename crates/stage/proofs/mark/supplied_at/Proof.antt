@@ -25,7 +25,7 @@ last-at-most-requires c κs = ready-starts (entry (c .before) .pre)
 
 -- the active start's place
 active : (c : tie.After-last-at-most) → c .last-at-most .result < length (now (entry (c .before .before) .args .starts))
-active c = let s = entry (c .before .before) in omega (arith, last-short (now (s .args .starts)) (s .args .t) (omega arith))
+active c = let s = entry (c .before .before) in omega (arith, last-short (now (s .args .starts)) (s .args .t .0) (omega arith))
 
 mul-read-clip : tie.Need-mul-read-clip
 mul-read-clip c = let h = active c in let e = entry (c .before .before) .pre .starts-paired in search needs

@@ -38,11 +38,11 @@ lent s = samplesOf (now (s .args .times)) (now (s .args .values)) (now (s .args 
 room : (c : tie.In-loop Inv-loop μ-loop) → c .before .loop .i < length (c .before .loop .out)
 room c = omega (arith, c .before .loop .inv .1 .long, entry (c .before) .pre .1, c .loop-test .taken)
 
-mul-supplied-at : tie.Need-mul-supplied-at Inv-loop μ-loop
-mul-supplied-at c = omega (arith, c .loop-test .taken, entry (c .before) .good .1 .1 .1 .1 .1 .1 .1 .1 .1 .1 .0)
+mul-t : tie.Need-mul-t Inv-loop μ-loop
+mul-t c = omega (arith, c .loop-test .taken, entry (c .before) .good .1 .1 .1 .1 .1 .1 .1 .1 .1 .1 .0)
 
-shared-slice-read-supplied-at : tie.Need-shared-slice-read-supplied-at Inv-loop μ-loop
-shared-slice-read-supplied-at c = c .before .loop-test .taken
+shared-slice-read-t : tie.Need-shared-slice-read-t Inv-loop μ-loop
+shared-slice-read-t c = c .before .loop-test .taken
 
 supplied-at-requires : tie.Need-supplied-at-requires Inv-loop μ-loop
 supplied-at-requires c κs = entry (c .before .before) .pre .0
@@ -85,8 +85,8 @@ write-marks-spec =
     Inv-loop
     μ-loop
     loop-holds
-    mul-supplied-at
-    shared-slice-read-supplied-at
+    mul-t
+    shared-slice-read-t
     supplied-at-requires
     slice-write-out
     add-i

@@ -1,8 +1,6 @@
 -- `standing::questions::map_stage_to_clip` meets its contract. Assumes nothing.
-use mathlib.Core.Path.{sym, ap, _∙_}
+use mathlib.Core.Path.{sym, _∙_}
 use borrow.Author.Needs.{needs}
-use Rattle.definitions.specs.ClipSet.{clip}
-use Rattle.definitions.specs.Timing.{mapStageToClip}
 use Rattle.standing.proofs.Arrays.{front}
 use Rattle.standing.proofs.questions.map_stage_to_clip.Statement.{statement}
 use Rattle.standing.proofs.questions.map_stage_to_clip.Tie as tie
@@ -17,8 +15,7 @@ map-time-requires : tie.Need-map-time-requires
 map-time-requires c κs = let p = c .before .before .before .before .pre in (p .1 .1, sym (front (p .0)) ∙ front (p .1 .0))
 
 returns : tie.Need-returns
-unfolding mapStageToClip
-returns c = ap clip (c .map-time .ensures)
+returns c = search needs
 
 pub map-stage-to-clip-spec : {M : Type 1} → statement M
 map-stage-to-clip-spec =

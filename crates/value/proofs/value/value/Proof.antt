@@ -2,7 +2,6 @@
 use mathlib.Core.Path.{sym, ap, _∙_, subst}
 use lib.ListN.{length}
 use denote.Ref.{now}
-use Rattle.definitions.specs.ClipSet.{stage}
 use Rattle.definitions.specs.Value.{says, valueInSet}
 use Rattle.cell_laws.specs.Unpacked.{setOf, samplesOf}
 use Rattle.value.specs.Says.{Sayable, says-ready, ready-marks, value-in}
@@ -20,7 +19,7 @@ says-requires : tie.Need-says-requires
 says-requires c κs =
     let s = entry (c .before) in
     let a = s .args in
-    (subst (Sayable (length (now (a .values))) (now (a .ends))) (sym (c .value-source .ensures)) (value-in (s .pre .0) (stage (a .t))), ready-marks (s .pre .0))
+    (subst (Sayable (length (now (a .values))) (now (a .ends))) (sym (c .value-source .ensures)) (value-in (s .pre .0) (a .t)), ready-marks (s .pre .0))
 
 returns : tie.Need-returns
 unfolding valueInSet

@@ -51,7 +51,7 @@ returns : tie.Need-returns
 returns c =
     let n = c .before .before .before in
     let a = entry n .args in
-    read-below (now (a .xs)) (now (a .ys)) (now (a .times)) (a .w) (a .t) (boundsOf (n .near-in .result)) (n .near-in .ensures) (c .source-in .result) (c .before .enum-told .given .1) (c .source-in .ensures)
+    read-below (now (a .xs)) (now (a .ys)) (now (a .times)) (a .w) (a .t .0) (boundsOf (n .near-in .result)) (n .near-in .ensures) (c .source-in .result) (c .before .enum-told .given .1) (c .source-in .ensures)
 
 enum-known-upper : tie.Need-enum-known-upper
 enum-known-upper c = search needs
@@ -67,7 +67,7 @@ returns-2 c =
     let v = c .before .before .before .before in
     let n = v .before .before in
     let a = entry n .args in
-    read-last (now (a .xs)) (now (a .ys)) (now (a .times)) (a .w) (a .t) (boundsOf (n .near-in .result)) (n .near-in .ensures) (c .source-in2 .result) (v .lower .given .0 .0) (v .lower .given .1) (c .before .enum-told2 .given .1) (c .source-in2 .ensures)
+    read-last (now (a .xs)) (now (a .ys)) (now (a .times)) (a .w) (a .t .0) (boundsOf (n .near-in .result)) (n .near-in .ensures) (c .source-in2 .result) (v .lower .given .0 .0) (v .lower .given .1) (c .before .enum-told2 .given .1) (c .source-in2 .ensures)
 
 is-jump-requires : tie.Need-is-jump-requires
 is-jump-requires c κs = search needs
@@ -82,7 +82,7 @@ returns-3 c =
     let v = u .before .before .before in
     let n = v .before .before in
     let a = entry n .args in
-    read-jump (now (a .xs)) (now (a .ys)) (now (a .times)) (a .w) (a .t) (boundsOf (n .near-in .result)) (n .near-in .ensures) (c .source-in3 .result) (v .lower .given .0 .0) (v .lower .given .1) (u .upper .given .0 .0) (u .upper .given .1) (sym (j .is-jump .ensures) ∙ c .before .if1 .taken) (c .source-in3 .ensures)
+    read-jump (now (a .xs)) (now (a .ys)) (now (a .times)) (a .w) (a .t .0) (boundsOf (n .near-in .result)) (n .near-in .ensures) (c .source-in3 .result) (v .lower .given .0 .0) (v .lower .given .1) (u .upper .given .0 .0) (u .upper .given .1) (sym (j .is-jump .ensures) ∙ c .before .if1 .taken) (c .source-in3 .ensures)
 
 source-in-requires-4 : tie.Need-source-in-requires-4
 source-in-requires-4 c κs = search needs
@@ -94,7 +94,7 @@ returns-4 c =
     let v = u .before .before .before in
     let n = v .before .before in
     let a = entry n .args in
-    read-held (now (a .xs)) (now (a .ys)) (now (a .times)) (a .w) (a .t) (boundsOf (n .near-in .result)) (n .near-in .ensures) (c .source-in4 .result) (v .lower .given .0 .0) (v .lower .given .1) (u .upper .given .0 .0) (u .upper .given .1) (sym (j .is-jump .ensures) ∙ c .before .if1 .left) (c .source-in4 .ensures)
+    read-held (now (a .xs)) (now (a .ys)) (now (a .times)) (a .w) (a .t .0) (boundsOf (n .near-in .result)) (n .near-in .ensures) (c .source-in4 .result) (v .lower .given .0 .0) (v .lower .given .1) (u .upper .given .0 .0) (u .upper .given .1) (sym (j .is-jump .ensures) ∙ c .before .if1 .left) (c .source-in4 .ensures)
 
 pub value-in-spec : {M : Type 1} → statement M
 value-in-spec =

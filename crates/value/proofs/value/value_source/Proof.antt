@@ -1,11 +1,12 @@
 -- `value::value::value_source` meets its contract: no start, one start directly, several in the window of t. Assumes nothing.
-use mathlib.Core.Path.{sym, _∙_, subst}
+use mathlib.Core.Path.{sym, _∙_}
 use Prim.Native.Nat.{_<_}
 use native.Mathlib.Omega.{arith}
 use lib.Dec.{T}
 use lib.ListN.{length}
 use lib.Ieee.{binary64, fits}
 use denote.Ref.{now}
+use borrow.Author.Needs.{needs}
 use Rattle.window.specs.Parts.{last-short, ready-starts, ready-readable}
 use Rattle.direct.specs.Sources.{reads-absent}
 use Rattle.value.specs.Handed.{window-lent}
@@ -17,14 +18,14 @@ abbrev entry : tie.After-shared-slice-known9 → tie.Start
 entry k = k .before .before .before .before .before .before .before .before .before
 
 -- what owning an `f64` tells: the format holds it
-held : (s : tie.Start) → T (fits binary64 (s .args .t))
-held s = subst T (sym (s .good .1 .1 .1 .1 .1 .1 .1 .1 .1 .1 .0 .1)) tt
+held : (s : tie.Start) → T (fits binary64 (s .args .t .0))
+held s = search needs
 
 active : (k : tie.After-last-at-most) → k .last-at-most .result < length (now (entry (k .before .before) .args .starts))
-active k = let s = entry (k .before .before) in omega (arith, last-short (now (s .args .starts)) (s .args .t) (omega arith))
+active k = let s = entry (k .before .before) in omega (arith, last-short (now (s .args .starts)) (s .args .t .0) (omega arith))
 
 returns : tie.Need-returns
-returns c = let s = entry (c .before) in reads-absent (s .pre .0) (s .args .t) (c .if1 .taken) ∙ value-few (s .pre .0) (s .args .t) (held s) (s .pre .1) (omega arith)
+returns c = let s = entry (c .before) in reads-absent (s .pre .0) (s .args .t .0) (c .if1 .taken) ∙ value-few (s .pre .0) (s .args .t .0) (held s) (s .pre .1) (omega arith)
 
 last-at-most-requires : tie.Need-last-at-most-requires
 last-at-most-requires c κs = ready-starts (entry (c .before) .pre .0)
@@ -43,21 +44,21 @@ returns-2 c =
     let w = c .before .before in
     let k = w .before in
     let s = entry (k .before .before) in
-    c .source-in .ensures ∙ sym (w .window-of .ensures .direct (s .args .t) (sym (k .last-at-most .ensures))) ∙ value-few (s .pre .0) (s .args .t) (held s) (s .pre .1) (c .before .if2 .taken)
+    c .source-in .ensures ∙ sym (w .window-of .ensures .direct (s .args .t .0) (sym (k .last-at-most .ensures))) ∙ value-few (s .pre .0) (s .args .t .0) (held s) (s .pre .1) (c .before .if2 .taken)
 
 value-in-requires : tie.Need-value-in-requires
 value-in-requires c κs =
     let w = c .before in
     let k = w .before in
     let s = entry (k .before .before) in
-    value-asks (s .pre .0) (s .args .t) (held s) (s .pre .1) (c .if2 .left) (k .last-at-most .result) (k .last-at-most .ensures) (w .window-of .result) (w .window-of .ensures)
+    value-asks (s .pre .0) (s .args .t .0) (held s) (s .pre .1) (c .if2 .left) (k .last-at-most .result) (k .last-at-most .ensures) (w .window-of .result) (w .window-of .ensures)
 
 returns-3 : tie.Need-returns-3
 returns-3 c =
     let w = c .before .before in
     let k = w .before in
     let s = entry (k .before .before) in
-    value-in (s .pre .0) (s .args .t) (held s) (s .pre .1) (c .before .if2 .left) (k .last-at-most .result) (k .last-at-most .ensures) (w .window-of .result) (w .window-of .ensures) (c .value-in .result) (c .value-in .ensures)
+    value-in (s .pre .0) (s .args .t .0) (held s) (s .pre .1) (c .before .if2 .left) (k .last-at-most .result) (k .last-at-most .ensures) (w .window-of .result) (w .window-of .ensures) (c .value-in .result) (c .value-in .ensures)
 
 pub value-source-spec : {M : Type 1} → statement M
 value-source-spec =

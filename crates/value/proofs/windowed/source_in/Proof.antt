@@ -2,8 +2,9 @@
 use mathlib.Core.Path.{ap, _∙_}
 use denote.Ref.{now}
 use borrow.Author.Tests.{lt-ltb, le-ltb}
+use Rattle.definitions.specs.declared.ClipTime.{ClipTime}
 use Rattle.definitions.specs.declared.Source.the-variants.{Sample as sample}
-use Rattle.definitions.specs.Timing.{lastAtMost}
+use Rattle.definitions.specs.Timing.{lastAtMost, mapStageToClip}
 use Rattle.near.specs.Windowed.{samplesIn, windowSource}
 use borrow.Author.Needs.{needs}
 use Rattle.value.proofs.windowed.source_in.Statement.{statement}
@@ -28,11 +29,11 @@ last-at-most-near-requires : tie.Need-last-at-most-near-requires
 last-at-most-near-requires c κs = search needs
 
 returns : tie.Need-returns
-unfolding windowSource
+unfolding windowSource mapStageToClip
 returns c =
     let s = c .before .before .before .before .before .before .before in
     let a = s .args in
-    rw (lt-ltb _ _ (c .before .before .before .if1 .taken)) (ap (sample (a .w .clip)) (c .last-at-most-near .ensures ∙ ap (lastAtMost (samplesIn (now (a .times)) (a .w))) (c .before .before .clip-time .ensures)))
+    rw (lt-ltb _ _ (c .before .before .before .if1 .taken)) (ap (sample (a .w .clip)) (c .last-at-most-near .ensures ∙ ap (λ (x : ClipTime). lastAtMost (samplesIn (now (a .times)) (a .w)) (x .0)) (c .before .before .clip-time .ensures)))
 
 returns-2 : tie.Need-returns-2
 unfolding windowSource

@@ -1,0 +1,190 @@
+-- `lists::y_at` meets its contract: below the first knot, from the last on, and between two. Assumes nothing.
+use Prim.Native.Nat.{suc, _+_, _-_, _≤_, _<_}
+use mathlib.Core.Path.{_≡_, sym, subst, _∙_}
+use native.Mathlib.Omega.{arith}
+use borrow.Author.Needs.{needs}
+use denote.Ref.{now}
+use lib.Dec.{T}
+use lib.ListN.{length, getD}
+use lib.Ieee.{Float, nan, binary64, fits}
+use mathlib.Core.List.{List}
+use Rattle.definitions.specs.Explicit.{knot}
+use Rattle.set_laws.specs.Places.{atMost, up-to, last-is}
+use Rattle.lists.proofs.ClipTimes.{map-none, map-first, map-last, map-between, next-knot, no-knot}
+use Rattle.lists.proofs.y_at.Statement.{statement}
+use Rattle.lists.proofs.y_at.Tie as tie
+
+abbrev entry : tie.After-last-at-most → tie.Start
+entry c = c .before .before .before .before .before .before .before .before
+
+abbrev xs : tie.After-last-at-most → List Float
+xs c = now (entry c .args .xs)
+
+abbrev ys : tie.After-last-at-most → List Float
+ys c = now (entry c .args .ys)
+
+-- what owning an `f64` tells: the format holds it
+held : (c : tie.Start) → T (fits binary64 (c .args .t))
+held c = subst T (sym (c .good .1 .1 .0 .1)) tt
+
+-- the last knot lies above t, or t is a NaN
+below : (c : tie.After-last-at-most) → atMost (xs c) (entry c .args .t) ≤ length (xs c) - 1
+below c = up-to (entry c .args .t) (held (entry c)) nan (xs c) (entry c .pre .0) (length (xs c) - 1) (omega arith) (c .before .if3 .left)
+
+found : (c : tie.After-last-at-most) → c .last-at-most .result ≡ atMost (xs c) (entry c .args .t) - 1
+found c = c .last-at-most .ensures ∙ last-is (entry c .args .t) (held (entry c)) (xs c) (entry c .pre .0)
+
+inside : (c : tie.Else4) → c .before .last-at-most .result + 1 < length (xs (c .before))
+inside c = omega (arith, below (c .before), found (c .before))
+
+returns : tie.Need-returns
+returns c = let a = c .before .before .before .args in sym (map-none (now (a .xs)) (now (a .ys)) (a .t) (c .if1 .taken))
+
+shared-slice-read-if2 : tie.Need-shared-slice-read-if2
+shared-slice-read-if2 c = search needs
+
+shared-slice-read-result : tie.Need-shared-slice-read-result
+shared-slice-read-result c = search needs
+
+returns-2 : tie.Need-returns-2
+returns-2 c =
+    let s = c .before .before .before .before .before .before in
+    sym (map-first nan (now (s .args .xs)) (now (s .args .ys)) (s .args .t) (s .pre .1) (omega arith) (c .before .if2 .taken))
+
+sub-last : tie.Need-sub-last
+sub-last c = search needs
+
+mul-if3 : tie.Need-mul-if3
+mul-if3 c = search needs
+
+shared-slice-read-if3 : tie.Need-shared-slice-read-if3
+shared-slice-read-if3 c = search needs
+
+mul-result : tie.Need-mul-result
+mul-result c = search needs
+
+shared-slice-read-result-2 : tie.Need-shared-slice-read-result-2
+shared-slice-read-result-2 c = search needs
+
+returns-3 : tie.Need-returns-3
+returns-3 c =
+    let s = c .before .before .before .before .before .before .before .before in
+    sym (map-last nan (now (s .args .xs)) (now (s .args .ys)) (s .args .t) (length (now (s .args .xs)) - 1) (s .pre .1) (omega arith) (c .before .before .before .if2 .left) (c .before .if3 .taken))
+
+last-at-most-requires : tie.Need-last-at-most-requires
+last-at-most-requires c κs = search needs
+
+mul-on-segment : tie.Need-mul-on-segment
+mul-on-segment c = search needs
+
+shared-slice-read-on-segment : tie.Need-shared-slice-read-on-segment
+shared-slice-read-on-segment c = search needs
+
+mul-on-segment-2 : tie.Need-mul-on-segment-2
+mul-on-segment-2 c = search needs
+
+shared-slice-read-on-segment-2 : tie.Need-shared-slice-read-on-segment-2
+shared-slice-read-on-segment-2 c = search needs
+
+mul-on-segment-3 : tie.Need-mul-on-segment-3
+mul-on-segment-3 c = search needs
+
+shared-slice-read-on-segment-3 : tie.Need-shared-slice-read-on-segment-3
+shared-slice-read-on-segment-3 c = search needs
+
+mul-on-segment-4 : tie.Need-mul-on-segment-4
+mul-on-segment-4 c = search needs
+
+shared-slice-read-on-segment-4 : tie.Need-shared-slice-read-on-segment-4
+shared-slice-read-on-segment-4 c = search needs
+
+on-segment-requires : tie.Need-on-segment-requires
+on-segment-requires c κs = search needs
+
+returns-4 : tie.Need-returns-4
+returns-4 c =
+    let a = c .before .before .before .before .before .before in
+    let s = entry a in
+    let i = a .last-at-most .result in
+    let z : i ≡ 0 = omega (arith, below a, found a) in
+    let n : length (xs a) ≤ suc i = omega arith in
+    c .on-segment .ensures
+    ∙ map-between nan (xs a) (ys a) (s .args .t) (length (xs a) - 1) i (knot (getD (xs a) i nan) (getD (ys a) i nan)) (s .pre .1) (omega arith) (a .before .before .before .if2 .left) (a .before .if3 .left)
+    (a .last-at-most .ensures) (omega arith) (no-knot nan (xs a) (ys a) i (s .pre .1) n z)
+
+add-hi : tie.Need-add-hi
+add-hi c = omega (arith, inside c)
+
+mul-on-segment-5 : tie.Need-mul-on-segment-5
+mul-on-segment-5 c = omega (arith, inside c)
+
+shared-slice-read-on-segment-5 : tie.Need-shared-slice-read-on-segment-5
+shared-slice-read-on-segment-5 c = omega (arith, inside (c .before))
+
+mul-on-segment-6 : tie.Need-mul-on-segment-6
+mul-on-segment-6 c = omega (arith, inside (c .before))
+
+shared-slice-read-on-segment-6 : tie.Need-shared-slice-read-on-segment-6
+shared-slice-read-on-segment-6 c = omega (arith, inside (c .before .before))
+
+mul-on-segment-7 : tie.Need-mul-on-segment-7
+mul-on-segment-7 c = omega (arith, inside (c .before .before))
+
+shared-slice-read-on-segment-7 : tie.Need-shared-slice-read-on-segment-7
+shared-slice-read-on-segment-7 c = omega (arith, inside (c .before .before .before))
+
+mul-on-segment-8 : tie.Need-mul-on-segment-8
+mul-on-segment-8 c = omega (arith, inside (c .before .before .before))
+
+shared-slice-read-on-segment-8 : tie.Need-shared-slice-read-on-segment-8
+shared-slice-read-on-segment-8 c = omega (arith, inside (c .before .before .before .before))
+
+on-segment-requires-2 : tie.Need-on-segment-requires-2
+on-segment-requires-2 c κs = search needs
+
+returns-5 : tie.Need-returns-5
+returns-5 c =
+    let a = c .before .before .before .before .before .before in
+    let s = entry a in
+    let i = a .last-at-most .result in
+    let n : suc i < length (xs a) = omega (arith, inside (c .before .before .before .before .before)) in
+    c .on-segment2 .ensures
+    ∙ map-between nan (xs a) (ys a) (s .args .t) (length (xs a) - 1) i (knot (getD (xs a) (i + 1) nan) (getD (ys a) (i + 1) nan)) (s .pre .1) (omega arith) (a .before .before .before .if2 .left) (a .before .if3 .left)
+    (a .last-at-most .ensures) (omega arith) (next-knot nan (xs a) (ys a) i (knot (getD (xs a) 0 nan) (getD (ys a) 0 nan)) (s .pre .1) n)
+
+pub y-at-spec : {M : Type 1} → statement M
+y-at-spec =
+    tie.close
+    (tie.spec
+    returns
+    shared-slice-read-if2
+    shared-slice-read-result
+    returns-2
+    sub-last
+    mul-if3
+    shared-slice-read-if3
+    mul-result
+    shared-slice-read-result-2
+    returns-3
+    last-at-most-requires
+    mul-on-segment
+    shared-slice-read-on-segment
+    mul-on-segment-2
+    shared-slice-read-on-segment-2
+    mul-on-segment-3
+    shared-slice-read-on-segment-3
+    mul-on-segment-4
+    shared-slice-read-on-segment-4
+    on-segment-requires
+    returns-4
+    add-hi
+    mul-on-segment-5
+    shared-slice-read-on-segment-5
+    mul-on-segment-6
+    shared-slice-read-on-segment-6
+    mul-on-segment-7
+    shared-slice-read-on-segment-7
+    mul-on-segment-8
+    shared-slice-read-on-segment-8
+    on-segment-requires-2
+    returns-5)
