@@ -34,7 +34,7 @@ use Rattle.beside.specs.Beside.{climb}
 use Rattle.stage.specs.Whole.{wholeTimes, nextStart}
 use Rattle.stage.specs.Times.{NextTime, every-below, part-each, part-first, part-finite, part-in, parts-finite, next-time}
 use Rattle.stage.specs.First.{FirstIs, Before, zeroOf, withZero, first-of-all, upper-first, first-next}
-use Rattle.stage.specs.Zeros.{minusGathered, minus-told, minus-listed}
+use Rattle.stage.specs.Zeros.{minusGathered, minus-found, minus-listed}
 
 module _ {starts : List Float} {clips : List ℕ} {xs ys blocks : List Float} {m : Manifest} {times values : List Float} {marks ends : List ℕ} (R : Ready starts clips xs ys blocks m times values marks ends) where
   abbrev set : ClipSet
@@ -160,4 +160,4 @@ module _ {starts : List Float} {clips : List ℕ} {xs ys blocks : List Float} {m
     next-searched (At u) U =
         let w = upper-first t ft searched searched-finite u U in
         let z = minusGathered starts clips xs times ends in
-        next-time R t ft (withZero (zeroOf z) (At u)) (first-next t ft all (parts-finite R) z (minus-listed R (omega arith)) (minus-told R) (w .0) (first-searched (At (w .0)) (w .2)) u (U .fits) (w .1))
+        next-time R t ft (withZero (zeroOf z) (At u)) (first-next t ft all (parts-finite R) z (minus-listed R (omega arith)) (minus-found R) (w .0) (first-searched (At (w .0)) (w .2)) u (U .fits) (w .1))

@@ -110,8 +110,8 @@ module _ (t : Float) (ft : Fits t) (l : List Float) (F : Every FiniteDouble l) w
         ),
       )
 
-  -- the first by `total_cmp`, if -0.0 is told to be among the times exactly where it is
-  module _ (minus : Bool) (listed : T minus → In minusZero l) (told : Every (λ (x : Float). x ≡ minusZero → T minus) l) (x : Float) (n : FirstIs l t (At x)) where
+  -- the first by `total_cmp`, if `minus` says whether -0.0 is among the times
+  module _ (minus : Bool) (listed : T minus → In minusZero l) (found : Every (λ (x : Float). x ≡ minusZero → T minus) l) (x : Float) (n : FirstIs l t (At x)) where
     fx : FiniteDouble x
     fx = in-every FiniteDouble x l F (n .0)
 
@@ -156,7 +156,7 @@ module _ (t : Float) (ft : Fits t) (l : List Float) (F : Every FiniteDouble l) w
       ])
         where
           never : (y : Float) → In y l → y ≡ minusZero → ⊥
-          never y i q = subst T e (in-every (λ (v : Float). v ≡ minusZero → T minus) y l told i q)
+          never y i q = subst T e (in-every (λ (v : Float). v ≡ minusZero → T minus) y l found i q)
 
           here : In 0·0 l
           here = elim (zeros x fx k) [ inl q ↦ subst (λ (v : Float). In v l) q (n .0) | inr q ↦ absurd (never x (n .0) q) ]

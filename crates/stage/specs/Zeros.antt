@@ -73,13 +73,13 @@ windows-sampled W h = record { rising = W .rising; some = h; paired = W .paired;
 
 -- ---- the test
 
-told : (x : Float) → Fits x → T (isMinusZero x) → x ≡ minusZero
-told x f h = total-same x minusZero f (minus-finite .fitting) (eqb→eq (totalKey x) 0x7fff_ffff_ffff_ffff h ∙ sym minus-total)
+is-minus : (x : Float) → Fits x → T (isMinusZero x) → x ≡ minusZero
+is-minus x f h = total-same x minusZero f (minus-finite .fitting) (eqb→eq (totalKey x) 0x7fff_ffff_ffff_ffff h ∙ sym minus-total)
 
-any-told : (x : Float) (l : List Float) → In x l → x ≡ minusZero → T (anyMinusZero l)
-any-told x [] i e = absurd i
-any-told x (y ∷ l) (inl q) e = or-l (isMinusZero y) (anyMinusZero l) (eq→eqb (ap totalKey (sym q ∙ e) ∙ minus-total))
-any-told x (y ∷ l) (inr i) e = or-r (isMinusZero y) (anyMinusZero l) (any-told x l i e)
+any-minus : (x : Float) (l : List Float) → In x l → x ≡ minusZero → T (anyMinusZero l)
+any-minus x [] i e = absurd i
+any-minus x (y ∷ l) (inl q) e = or-l (isMinusZero y) (anyMinusZero l) (eq→eqb (ap totalKey (sym q ∙ e) ∙ minus-total))
+any-minus x (y ∷ l) (inr i) e = or-r (isMinusZero y) (anyMinusZero l) (any-minus x l i e)
 
 -- ---- knots
 
@@ -87,9 +87,10 @@ pairs-first : (P : Float → Type 0) (k : Knot) (l : List Knot) → Every P (kno
 pairs-first P k [] h = tt
 pairs-first P k (n ∷ l) h = (h .0, pairs-first P n l (h .1))
 
-empty : (xs ys : List Float) → length xs ≡ 0 → knotsOf xs ys ≡ []
-empty [] ys e = refl
-empty (x ∷ xs) ys e = absurd (omega arith)
+-- with no knots the inverse times are the samples
+plain : (xs ys cs : List Float) → length xs ≡ 0 → inversesOf (knotsOf xs ys) cs ≡ cs
+plain [] ys cs e = inverses-none cs
+plain (x ∷ xs) ys cs e = absurd (omega arith)
 
 -- ---- over the lists
 
@@ -100,20 +101,33 @@ module _ {starts : List Float} {clips : List ℕ} {xs ys blocks : List Float} {m
   abbrev all : List Float
   all = gather part (below (length starts))
 
+  -- by a start, by a knot, by a sample
   abbrev minus : Bool
   minus = minusGathered starts clips xs times ends
 
-  -- the place of the start that is active at zero
-  abbrev zero : ℕ
-  zero = lastAtMost starts minusZero
+  abbrev by-start : Bool
+  by-start = anyMinusZero starts
 
-  -- it is the only one whose window has zero inside
-  own-window : (q : ℕ) → q < length starts → T (inside (windowOf starts q) minusZero) → q ≡ zero
+  abbrev by-knot : Bool
+  by-knot = anyMinusZero xs
+
+  abbrev by-sample : Bool
+  by-sample = eqb (length xs) 0 && anyMinusZero (samplesAtZero starts clips times ends)
+
+  -- the place of the start that is active at zero, and its window
+  abbrev at-zero : ℕ
+  at-zero = lastAtMost starts minusZero
+
+  abbrev window : Float → Bool
+  window = inside (windowOf starts at-zero)
+
+  -- no other window has zero inside
+  own-window : (q : ℕ) → q < length starts → T (inside (windowOf starts q) minusZero) → q ≡ at-zero
   own-window q l i =
       let f = minus-finite .fitting in
       let a = from (eqb q 0) refl (both-l (le (minOf starts q) minusZero) (lt minusZero (maxOf starts q)) i) in
       let b = upto (ltb (q + 1) (length starts)) refl (both-r (le (minOf starts q) minusZero) (lt minusZero (maxOf starts q)) i) in
-      place q (atMost starts minusZero) zero (last-is minusZero f starts (ready-starts R)) a b
+      place q (atMost starts minusZero) at-zero (last-is minusZero f starts (ready-starts R)) a b
     where
       from : (b : Bool) → eqb q 0 ≡ b → T (le (cond b (inf true) (getD starts q nan)) minusZero) → (q ≡ 0) ⊎ (q < atMost starts minusZero)
       from true e h = inl (eqb→eq q 0 (subst T (sym e) tt))
@@ -130,26 +144,26 @@ module _ {starts : List Float} {clips : List ℕ} {xs ys blocks : List Float} {m
       place q n z e (inl h) u = omega arith
       place q n z e (inr h) u = omega arith
 
-  -- ---- each time that is -0.0 is told
+  -- ---- each time that is -0.0 is found
 
-  abbrev Told : Float → Type 0
-  Told x = x ≡ minusZero → T minus
+  abbrev Found : Float → Type 0
+  Found x = x ≡ minusZero → T minus
 
-  knot-told : (x : Float) → In x xs → Told x
-  knot-told x i e = or-r (anyMinusZero starts) (anyMinusZero xs || (eqb (length xs) 0 && anyMinusZero (samplesAtZero starts clips times ends))) (or-l (anyMinusZero xs) (eqb (length xs) 0 && anyMinusZero (samplesAtZero starts clips times ends)) (any-told x xs i e))
+  knot-found : (x : Float) → In x xs → Found x
+  knot-found x i e = or-r by-start (by-knot || by-sample) (or-l by-knot by-sample (any-minus x xs i e))
 
-  pair-told : (c : Float) (q : Knot × Knot) → Segment q × In (q .0 .x) xs → Every Told (onPair c q)
-  pair-told c q s = go (spans (q .0 .y) (q .1 .y) c)
+  pair-found : (c : Float) (q : Knot × Knot) → Segment q × In (q .0 .x) xs → Every Found (onPair c q)
+  pair-found c q s = go (spans (q .0 .y) (q .1 .y) c)
     where
-      go : (b : Bool) → Every Told (cond b (inverse (q .0) (q .1) c ∷ []) [])
-      go true = (λ e. knot-told (q .0 .x) (s .1) (add-minus binary64 (q .0 .x) ((c ⊖ q .0 .y) ⊘ (q .1 .y ⊖ q .0 .y) ⊗ (q .1 .x ⊖ q .0 .x)) (s .0 .first .fx) (mul-fits binary64 ((c ⊖ q .0 .y) ⊘ (q .1 .y ⊖ q .0 .y)) (q .1 .x ⊖ q .0 .x)) e), tt)
+      go : (b : Bool) → Every Found (cond b (inverse (q .0) (q .1) c ∷ []) [])
+      go true = (λ e. knot-found (q .0 .x) (s .1) (add-minus binary64 (q .0 .x) ((c ⊖ q .0 .y) ⊘ (q .1 .y ⊖ q .0 .y) ⊗ (q .1 .x ⊖ q .0 .x)) (s .0 .first .fx) (mul-fits binary64 ((c ⊖ q .0 .y) ⊘ (q .1 .y ⊖ q .0 .y)) (q .1 .x ⊖ q .0 .x)) e), tt)
       go false = tt
 
-  inverse-told : (knots : List Knot) → 0 < length knots → Every Segment (pairs knots) → Every (λ (x : Float). In x xs) (knotTimes knots) → (c : Float) → Every Told (stageTimesForClipTime knots (clip c))
+  inverse-found : (knots : List Knot) → 0 < length knots → Every Segment (pairs knots) → Every (λ (x : Float). In x xs) (knotTimes knots) → (c : Float) → Every Found (stageTimesForClipTime knots (clip c))
   unfolding stageTimesForClipTime
-  inverse-told [] n s i c = absurd (omega arith)
-  inverse-told (k ∷ l) n s i c =
-      every-gather (λ (q : Knot × Knot). Segment q × In (q .0 .x) xs) Told (onPair c) (pair-told c) (pairs (k ∷ l))
+  inverse-found [] n s i c = absurd (omega arith)
+  inverse-found (k ∷ l) n s i c =
+      every-gather (λ (q : Knot × Knot). Segment q × In (q .0 .x) xs) Found (onPair c) (pair-found c) (pairs (k ∷ l))
       (every-zip Segment (λ (q : Knot × Knot). In (q .0 .x) xs) (λ (q : Knot × Knot). Segment q × In (q .0 .x) xs) (λ q a b. (a, b)) (pairs (k ∷ l)) s (pairs-first (λ (x : Float). In x xs) k l i))
 
   module _ (q : ℕ) (l : q < length starts) where
@@ -159,69 +173,68 @@ module _ {starts : List Float} {clips : List ℕ} {xs ys blocks : List Float} {m
     abbrev within : Float → Bool
     within = inside (windowOf starts q)
 
-    sample-told : length xs ≡ 0 → (x : Float) → In x cs → T (within x) → Told x
-    sample-told n x i u e =
-        or-r (anyMinusZero starts) (anyMinusZero xs || (eqb (length xs) 0 && anyMinusZero (samplesAtZero starts clips times ends)))
-        (or-r (anyMinusZero xs) (eqb (length xs) 0 && anyMinusZero (samplesAtZero starts clips times ends))
+    sample-found : length xs ≡ 0 → (x : Float) → In x cs → T (within x) → Found x
+    sample-found n x i u e =
+        or-r by-start (by-knot || by-sample)
+        (or-r by-knot by-sample
         (both (eqb (length xs) 0) (anyMinusZero (samplesAtZero starts clips times ends)) (eq→eqb n)
-        (any-told x (samplesAtZero starts clips times ends) (subst (λ (k : ℕ). In x (partOf times ends (getD clips k 0))) (own-window q l (subst (λ (v : Float). T (within v)) e u)) i) e)))
+        (any-minus x (samplesAtZero starts clips times ends) (subst (λ (k : ℕ). In x (partOf times ends (getD clips k 0))) (own-window q l (subst (λ (v : Float). T (within v)) e u)) i) e)))
 
-    inverses-told : Every Told (keep within (inversesOf (knotsOf xs ys) cs))
-    inverses-told = elim (decLe (length xs) 0) [
+    inverses-found : Every Found (keep within (inversesOf (knotsOf xs ys) cs))
+    inverses-found = elim (decLe (length xs) 0) [
       | yes n ↦
           let z : length xs ≡ 0 = omega arith in
-          subst (λ (k : List Float). Every Told (keep within k)) (sym (ap (λ (k : List Knot). inversesOf k cs) (empty xs ys z) ∙ inverses-none cs))
-          (every-if Told within cs (every-map (λ (x : Float). In x cs) (λ (x : Float). T (within x) → Told x) (sample-told z) cs (every-in cs)))
+          subst (λ (k : List Float). Every Found (keep within k)) (sym (plain xs ys cs z))
+          (every-if Found within cs (every-map (λ (x : Float). In x cs) (λ (x : Float). T (within x) → Found x) (sample-found z) cs (every-in cs)))
       | no n ↦
-          every-keep Told within (inversesOf (knotsOf xs ys) cs)
-          (every-gather (λ (c : Float). In c cs) Told (λ (c : Float). stageTimesForClipTime (knotsOf xs ys) (clip c))
-          (λ c i. inverse-told (knotsOf xs ys) (omega (arith, knots-long xs ys (R .knots-paired))) (ready-readable R .segments) (subst (Every (λ (x : Float). In x xs)) (sym (knot-times xs ys (R .knots-paired))) (every-in xs)) c) cs (every-in cs))
+          every-keep Found within (inversesOf (knotsOf xs ys) cs)
+          (every-gather (λ (c : Float). In c cs) Found (λ (c : Float). stageTimesForClipTime (knotsOf xs ys) (clip c))
+          (λ c i. inverse-found (knotsOf xs ys) (omega (arith, knots-long xs ys (R .knots-paired))) (ready-readable R .segments) (subst (Every (λ (x : Float). In x xs)) (sym (knot-times xs ys (R .knots-paired))) (every-in xs)) c) cs (every-in cs))
     ]
 
-    part-told : Every Told (part q)
+    part-found : Every Found (part q)
     unfolding windowPart
-    part-told = (
-      (λ e. or-l (anyMinusZero starts) (anyMinusZero xs || (eqb (length xs) 0 && anyMinusZero (samplesAtZero starts clips times ends))) (any-told (getD starts q nan) starts (every-at (λ (x : Float). In x starts) starts q nan (every-in starts) l) e)),
-      every-append Told (keep within xs) (keep within (inversesOf (knotsOf xs ys) cs)) (every-keep Told within xs (every-map (λ (x : Float). In x xs) Told knot-told xs (every-in xs))) inverses-told,
+    part-found = (
+      (λ e. or-l by-start (by-knot || by-sample) (any-minus (getD starts q nan) starts (every-at (λ (x : Float). In x starts) starts q nan (every-in starts) l) e)),
+      every-append Found (keep within xs) (keep within (inversesOf (knotsOf xs ys) cs)) (every-keep Found within xs (every-map (λ (x : Float). In x xs) Found knot-found xs (every-in xs))) inverses-found,
     )
 
-  pub minus-told : Every (λ (x : Float). x ≡ minusZero → T minus) all
-  minus-told = every-gather (λ (q : ℕ). q < length starts) Told part part-told (below (length starts)) (every-below (length starts))
+  pub minus-found : Every (λ (x : Float). x ≡ minusZero → T minus) all
+  minus-found = every-gather (λ (q : ℕ). q < length starts) Found part part-found (below (length starts)) (every-below (length starts))
 
-  -- ---- what is told is among them
+  -- ---- what is found is among them
 
   module _ (some : 0 < length starts) where
-    here : zero < length starts
+    here : at-zero < length starts
     here = last-inside minusZero (minus-finite .fitting) starts (ready-starts R) some
 
-    home : T (inside (windowOf starts zero) minusZero)
-    home = both (le (minOf starts zero) minusZero) (lt minusZero (maxOf starts zero)) (own-from (ready-windows R) zero here minusZero refl minus-finite) (own-below (ready-windows R) zero here minusZero refl minus-finite)
+    home : T (window minusZero)
+    home = both (le (minOf starts at-zero) minusZero) (lt minusZero (maxOf starts at-zero)) (own-from (ready-windows R) at-zero here minusZero refl minus-finite) (own-below (ready-windows R) at-zero here minusZero refl minus-finite)
 
-    listed : (l : List Float) → Every FiniteDouble l → Every (λ (x : Float). T (inside (windowOf starts zero) x) → In x all) l → T (anyMinusZero l) → In minusZero all
+    listed : (l : List Float) → Every FiniteDouble l → Every (λ (x : Float). T (window x) → In x all) l → T (anyMinusZero l) → In minusZero all
     listed l f i h =
-        let w = any-with isMinusZero (λ (x : Float). FiniteDouble x × (T (inside (windowOf starts zero) x) → In x all)) l h
-        (every-zip FiniteDouble (λ (x : Float). T (inside (windowOf starts zero) x) → In x all) (λ (x : Float). FiniteDouble x × (T (inside (windowOf starts zero) x) → In x all)) (λ x a b. (a, b)) l f i) in
-        let e = told (w .0) (w .2 .0 .fitting) (w .1) in
-        subst (λ (x : Float). In x all) e (w .2 .1 (subst (λ (x : Float). T (inside (windowOf starts zero) x)) (sym e) home))
+        let w = any-with isMinusZero (λ (x : Float). FiniteDouble x × (T (window x) → In x all)) l h
+        (every-zip FiniteDouble (λ (x : Float). T (window x) → In x all) (λ (x : Float). FiniteDouble x × (T (window x) → In x all)) (λ x a b. (a, b)) l f i) in
+        let e = is-minus (w .0) (w .2 .0 .fitting) (w .1) in
+        subst (λ (x : Float). In x all) e (w .2 .1 (subst (λ (x : Float). T (window x)) (sym e) home))
 
     -- the knots and the inverse times inside the window
-    inner : Every (λ (x : Float). In x all) (keep (inside (windowOf starts zero)) xs ++ keep (inside (windowOf starts zero)) (inversesOf (knotsOf xs ys) (samplesAtZero starts clips times ends)))
+    inner : Every (λ (x : Float). In x all) (keep window xs ++ keep window (inversesOf (knotsOf xs ys) (samplesAtZero starts clips times ends)))
     unfolding windowPart
-    inner = part-in R zero here .1
+    inner = part-in R at-zero here .1
 
     pub minus-listed : T minus → In minusZero all
     minus-listed h =
-        let w = inside (windowOf starts zero) in
         let cs = samplesAtZero starts clips times ends in
-        elim (or-split (anyMinusZero starts) (anyMinusZero xs || (eqb (length xs) 0 && anyMinusZero cs)) h) [
-          | inl a ↦ listed starts (ready-starts R .numbers) (every-by (λ (x : Float). T (w x) → In x all) starts nan (λ i l u. part-first R (λ (x : Float). In x all) i (part-in R i l))) a
-          | inr b ↦ elim (or-split (anyMinusZero xs) (eqb (length xs) 0 && anyMinusZero cs) b) [
-            | inl a ↦ listed xs (ready-readable R .knots .numbers) (every-kept (λ (x : Float). In x all) w xs (every-left (λ (x : Float). In x all) (keep w xs) (keep w (inversesOf (knotsOf xs ys) cs)) inner)) a
+        elim (or-split by-start (by-knot || by-sample) h) [
+          | inl a ↦ listed starts (ready-starts R .numbers) (every-by (λ (x : Float). T (window x) → In x all) starts nan (λ i l u. part-first R (λ (x : Float). In x all) i (part-in R i l))) a
+          | inr b ↦ elim (or-split by-knot by-sample b) [
+            | inl a ↦ listed xs (ready-readable R .knots .numbers) (every-kept (λ (x : Float). In x all) window xs (every-left (λ (x : Float). In x all) (keep window xs) (keep window (inversesOf (knotsOf xs ys) cs)) inner)) a
             | inr a ↦
                 let z = eqb→eq (length xs) 0 (both-l (eqb (length xs) 0) (anyMinusZero cs) a) in
-                listed cs (ready-readable R .rising (getD clips zero 0) (ready-clip R zero here) .numbers)
-                (every-kept (λ (x : Float). In x all) w cs
-                (subst (λ (k : List Float). Every (λ (x : Float). In x all) (keep w k)) (ap (λ (k : List Knot). inversesOf k cs) (empty xs ys z) ∙ inverses-none cs) (every-right (λ (x : Float). In x all) (keep w xs) (keep w (inversesOf (knotsOf xs ys) cs)) inner)))
+                listed cs (ready-readable R .rising (getD clips at-zero 0) (ready-clip R at-zero here) .numbers)
+                (every-kept (λ (x : Float). In x all) window cs
+                (subst (λ (k : List Float). Every (λ (x : Float). In x all) (keep window k)) (plain xs ys cs z) (every-right (λ (x : Float). In x all) (keep window xs) (keep window (inversesOf (knotsOf xs ys) cs)) inner)))
                 (both-r (eqb (length xs) 0) (anyMinusZero cs) a)
           ]
         ]
