@@ -42,7 +42,7 @@ use Rattle.clip.specs.Holding.{Room, clipSetOf}
 use Rattle.resolver.specs.declared.Resolver.{Resolver}
 use Rattle.resolver.specs.declared.Accepted.{Accepted}
 use Rattle.standing.specs.declared.StandingSet.{StandingSet}
-use Rattle.standing.specs.Standing.{setIn, Whole, Installed, Packed, Asked, lentSet, answered}
+use Rattle.standing.specs.Standing.{setIn, Installed, Packed, Asked, lentSet, answered}
 use Rattle.standing.specs.Lists.{counted, listed, itself, timeOf, markIn, ListsTimes, ListsSamples}
 use Rattle.resolver.specs.State.{standingIn, model, Made}
 use Rattle.resolver.specs.Promises.{Accepts, Expands, Retimes, TellsTimes, TellsSamples, Installable, Installs}

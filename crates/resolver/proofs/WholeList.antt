@@ -6,8 +6,8 @@ use lib.ListN.{length}
 use borrow.Author.Tests.{lt-ltb, le-ltb}
 use Rattle.definitions.specs.ClipSet.{Model, Standing, noSet, standing}
 use Rattle.definitions.specs.Samples.{Samples, samplesNumber}
-use Rattle.definitions.specs.Questions.{Reply, refused, replied, reply}
-use Rattle.definitions.specs.Track.{Outputs, slots, writeTrack, bakeNumber}
+use Rattle.definitions.specs.Questions.{Reply, reply}
+use Rattle.definitions.specs.Track.{Outputs, slots, bakeNumber}
 use Rattle.definitions.specs.Calls.{Call, explicit, template, retime, bake, step, Baked, bakedOf, outputsAfter, Bakes, Due}
 use Rattle.definitions.proofs.WholeList as any
 use Rattle.definitions.proofs.WholeList.{whole-list}

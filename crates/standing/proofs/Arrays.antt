@@ -17,10 +17,9 @@ use Rattle.clip.specs.declared.storage.Active.{Active}
 use Rattle.clip.specs.declared.storage.Knots.{Knots}
 use Rattle.clip.specs.declared.storage.Blocks.{Blocks}
 use Rattle.clip.specs.declared.storage.Plain.{Plain}
-use Rattle.clip.specs.Holding.{Room, Holds, Held, AllRoom, activeIn, activeClips, knotsIn, blocksIn, clipSetOf, manifestOf}
+use Rattle.clip.specs.Holding.{Room, Holds, Held, AllRoom, activeIn, activeClips, knotsIn, blocksIn, manifestOf}
 use Rattle.standing.specs.declared.Counts.{Counts}
-use Rattle.standing.specs.declared.StandingSet.{StandingSet}
-use Rattle.standing.specs.Standing.{Arrays, lentSet, Installed, Packed}
+use Rattle.standing.specs.Standing.{lentSet, Installed, Packed}
 
 -- ---- the entries of an array that count
 

@@ -9,7 +9,6 @@ use stage::Written;
 use track::bake::Baked;
 use value::untimed::ValueState;
 ghost use mathlib.Core.Path.{_≡_};
-ghost use Prim.Native.Nat.{_≤_};
 ghost use lib.Dec.{T};
 ghost use lib.ListN.{length, take};
 ghost use lib.Ieee.Scale.{finite};
