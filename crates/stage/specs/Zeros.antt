@@ -29,7 +29,7 @@ use Rattle.cell_laws.specs.Every.{any-with, every-map, every-zip, every-append,
 use Rattle.cell_laws.specs.Places.{Fits}
 use Rattle.cell_laws.specs.Unpacked.{knotsOf, knot-times, Ready}
 use Rattle.window.specs.Parts.{partOf, ready-starts, ready-clip, ready-readable}
-use Rattle.window.specs.Near.{Segment}
+use Rattle.window.specs.Near.{SoundSegment}
 use Rattle.window.specs.Bounds.{inside, In, every-in}
 use Rattle.window.specs.Inverses.{inversesOf, inverses-none, every-if, knots-long}
 use Rattle.window.specs.Windows.{minOf, maxOf, windowOf, windowPart}
@@ -138,19 +138,19 @@ module _ {starts : List Float} {clips : List ℕ} {xs ys blocks : List Float} {m
   knot-told : (x : Float) → In x xs → Told x
   knot-told x i e = or-r (anyMinusZero starts) (anyMinusZero xs || (eqb (length xs) 0 && anyMinusZero (samplesAtZero starts clips times ends))) (or-l (anyMinusZero xs) (eqb (length xs) 0 && anyMinusZero (samplesAtZero starts clips times ends)) (any-told x xs i e))
 
-  pair-told : (c : Float) (q : Knot × Knot) → Segment q × In (q .0 .x) xs → Every Told (onPair c q)
+  pair-told : (c : Float) (q : Knot × Knot) → SoundSegment q × In (q .0 .x) xs → Every Told (onPair c q)
   pair-told c q s = go (spans (q .0 .y) (q .1 .y) c)
     where
       go : (b : Bool) → Every Told (cond b (inverse (q .0) (q .1) c ∷ []) [])
       go true = (λ e. knot-told (q .0 .x) (s .1) (add-minus binary64 (q .0 .x) ((c ⊖ q .0 .y) ⊘ (q .1 .y ⊖ q .0 .y) ⊗ (q .1 .x ⊖ q .0 .x)) (s .0 .first .fx) (mul-fits binary64 ((c ⊖ q .0 .y) ⊘ (q .1 .y ⊖ q .0 .y)) (q .1 .x ⊖ q .0 .x)) e), tt)
       go false = tt
 
-  inverse-told : (knots : List Knot) → 0 < length knots → Every Segment (pairs knots) → Every (λ (x : Float). In x xs) (knotTimes knots) → (c : Float) → Every Told (stageTimesForClipTime knots (clip c))
+  inverse-told : (knots : List Knot) → 0 < length knots → Every SoundSegment (pairs knots) → Every (λ (x : Float). In x xs) (knotTimes knots) → (c : Float) → Every Told (stageTimesForClipTime knots (clip c))
   unfolding stageTimesForClipTime
   inverse-told [] n s i c = absurd (omega arith)
   inverse-told (k ∷ l) n s i c =
-      every-gather (λ (q : Knot × Knot). Segment q × In (q .0 .x) xs) Told (onPair c) (pair-told c) (pairs (k ∷ l))
-      (every-zip Segment (λ (q : Knot × Knot). In (q .0 .x) xs) (λ (q : Knot × Knot). Segment q × In (q .0 .x) xs) (λ q a b. (a, b)) (pairs (k ∷ l)) s (pairs-first (λ (x : Float). In x xs) k l i))
+      every-gather (λ (q : Knot × Knot). SoundSegment q × In (q .0 .x) xs) Told (onPair c) (pair-told c) (pairs (k ∷ l))
+      (every-zip SoundSegment (λ (q : Knot × Knot). In (q .0 .x) xs) (λ (q : Knot × Knot). SoundSegment q × In (q .0 .x) xs) (λ q a b. (a, b)) (pairs (k ∷ l)) s (pairs-first (λ (x : Float). In x xs) k l i))
 
   module _ (q : ℕ) (l : q < length starts) where
     abbrev cs : List Float
