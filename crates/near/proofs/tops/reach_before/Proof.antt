@@ -7,7 +7,6 @@ use denote.Ref.{now}
 use Rattle.definitions.specs.declared.Segment.{Segment}
 use Rattle.window.specs.Near.{SoundSegment}
 use Rattle.near.specs.Tops.{NewTop, ReachOf, reach-none, reach-next, segment-here}
-use borrow.Author.Needs.{needs}
 use Rattle.near.proofs.tops.reach_before.Statement.{statement}
 use Rattle.near.proofs.tops.reach_before.Tie as tie
 
