@@ -25,7 +25,7 @@ use Rattle.cell_laws.specs.Inverse.{inverse-fin-up, inverse-fin-down, inverse-u
 use Rattle.window.specs.declared.Bounds.{Bounds}
 use Rattle.window.specs.Bounds.{In, inside}
 use Rattle.window.specs.Inverses.{onSegment, every-of, every-each, every-if}
-use Rattle.window.specs.Near.{Segment, inverse-fits}
+use Rattle.window.specs.Near.{SoundSegment, inverse-fits}
 use Rattle.beside.specs.Nearest.{Met, Searched, withInside, searched-none, searched-inside}
 use Rattle.beside.specs.Beside.{Facing, meet-below, meet-above, number-at, climb}
 
@@ -98,7 +98,7 @@ module _ (w : Interval) (t : Float) (F : Facing w t) (lo hi : ℕ) (f : Float �
 
 -- ---- a segment is such a one
 
-module _ (t : Float) (nt : Number t) (q : Knot × Knot) (s : Segment q) where
+module _ (t : Float) (nt : Number t) (q : Knot × Knot) (s : SoundSegment q) where
   abbrev f : Float → Float
   f = inverse (q .0) (q .1)
 
@@ -296,7 +296,7 @@ module _ (P : Float → Type 0) (p : Float → Bool) (cs : List Float) (q : Knot
       let b : Every P (keep p (inverse (q .0) (q .1) (getD cs i nan) ∷ [])) = subst (λ (b : Bool). Every P (keep p (cond b (inverse (q .0) (q .1) (getD cs i nan) ∷ []) []))) (is-true (spans (q .0 .y) (q .1 .y) (getD cs i nan)) s) a in
       every-kept P p (inverse (q .0) (q .1) (getD cs i nan) ∷ []) b .0 u
 
-module _ (t : Float) (w : Interval) (F : Facing w t) (q : Knot × Knot) (s : Segment q) (cs : List Float) (a : Ascending cs) (n : ℕ) (U : Turn (isBeyond t q) cs n) {h m r : Bounds} where
+module _ (t : Float) (w : Interval) (F : Facing w t) (q : Knot × Knot) (s : SoundSegment q) (cs : List Float) (a : Ascending cs) (n : ℕ) (U : Turn (isBeyond t q) cs n) {h m r : Bounds} where
   pub turn-searched : Searched t (keep (inside w) (sampleBefore cs q n)) h m → Searched t (keep (inside w) (sampleAt cs q n)) m r → Searched t (keep (inside w) (onSegment cs q)) h r
   turn-searched A B = record {
     run = λ nt g N i e.

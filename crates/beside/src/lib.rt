@@ -4,18 +4,20 @@ pub mod candidate;
 pub mod turn;
 
 use candidate::near_inside;
+use definitions::Segment;
 use gf::interval::Interval;
+use lists::segment::spans;
+use lists::segment::stage_time;
 use window::Bounds;
 ghost use mathlib.Core.Path.{_≡_};
 ghost use Rattle.definitions.specs.Lists.{keep};
 ghost use Rattle.definitions.specs.Doubles.{FiniteDouble};
-ghost use Rattle.definitions.specs.Explicit.{knot};
 ghost use Rattle.definitions.specs.Timing.{lastAtMost};
 ghost use Rattle.definitions.specs.Value.{onPair};
 ghost use Rattle.set_laws.specs.Places.{Ascending};
 ghost use Rattle.window.specs.Bounds.{inside};
 ghost use Rattle.window.specs.Inverses.{onSegment};
-ghost use Rattle.window.specs.Near.{Segment};
+ghost use Rattle.window.specs.Near.{SoundSegment};
 ghost use Rattle.beside.specs.Nearest.{Searched};
 ghost use Rattle.beside.specs.Beside.{Facing, withPlace};
 ghost use Rattle.beside.specs.Turns.{isBeyond, Turn, sampleAt};
@@ -39,64 +41,35 @@ pub fn near_times(held: Bounds, xs: &[f64], i: usize, w: Interval, t: f64) -> Bo
     near_place(here, xs, i + 1, w, t)
 }
 
-// With the inverse time of the clip time `c` between two knots, if they span it.
-fn near_inverse(
-    held: Bounds,
-    sa: f64,
-    sb: f64,
-    ca: f64,
-    cb: f64,
-    c: f64,
-    w: Interval,
-    t: f64,
-) -> Bounds
-    ensures { λ r. ⌜ Searched t (keep (inside w) (onPair c (knot sa ca, knot sb cb))) held r ⌝ }
+// With the inverse time of the clip time `c` in a segment, if it spans it.
+fn near_inverse(held: Bounds, s: Segment, c: f64, w: Interval, t: f64) -> Bounds
+    ensures { λ r. ⌜ Searched t (keep (inside w) (onPair c (s .a, s .b))) held r ⌝ }
 {
-    if gf::segment::spans(ca, cb, c) {
-        let x = gf::segment::inverse(sa, sb, ca, cb, c);
+    if spans(s, c) {
+        let x = stage_time(s, c);
         return near_inside(held, x, w, t);
     }
     held
 }
 
 // With that of the sample at the place `i`, if there is one.
-fn near_sample(
-    held: Bounds,
-    sa: f64,
-    sb: f64,
-    ca: f64,
-    cb: f64,
-    cs: &[f64],
-    i: usize,
-    w: Interval,
-    t: f64,
-) -> Bounds
-    ensures { λ r. ⌜ Searched t (keep (inside w) (sampleAt (now (cs .entry)) (knot sa ca, knot sb cb) i)) held r ⌝ }
+fn near_sample(held: Bounds, s: Segment, cs: &[f64], i: usize, w: Interval, t: f64) -> Bounds
+    ensures { λ r. ⌜ Searched t (keep (inside w) (sampleAt (now (cs .entry)) (s .a, s .b) i)) held r ⌝ }
 {
     if i < cs.len() {
-        return near_inverse(held, sa, sb, ca, cb, cs[i], w, t);
+        return near_inverse(held, s, cs[i], w, t);
     }
     held
 }
 
-// With those of all samples between two knots, where their inverse times pass `t` at the place `n`.
-pub fn near_turn(
-    held: Bounds,
-    sa: f64,
-    sb: f64,
-    ca: f64,
-    cb: f64,
-    cs: &[f64],
-    n: usize,
-    w: Interval,
-    t: f64,
-) -> Bounds
-    requires { ⌜ Segment (knot sa ca, knot sb cb) ⌝ ∗ ⌜ Ascending (now cs) ⌝ ∗ ⌜ Facing w t ⌝ ∗ ⌜ Turn (isBeyond t (knot sa ca, knot sb cb)) (now cs) n ⌝ }
-    ensures { λ r. ⌜ Searched t (keep (inside w) (onSegment (now (cs .entry)) (knot sa ca, knot sb cb))) held r ⌝ }
+// With those of all samples of a segment, where their inverse times pass `t` at the place `n`.
+pub fn near_turn(held: Bounds, s: Segment, cs: &[f64], n: usize, w: Interval, t: f64) -> Bounds
+    requires { ⌜ SoundSegment (s .a, s .b) ⌝ ∗ ⌜ Ascending (now cs) ⌝ ∗ ⌜ Facing w t ⌝ ∗ ⌜ Turn (isBeyond t (s .a, s .b)) (now cs) n ⌝ }
+    ensures { λ r. ⌜ Searched t (keep (inside w) (onSegment (now (cs .entry)) (s .a, s .b))) held r ⌝ }
 {
     if n == 0 {
-        return near_sample(held, sa, sb, ca, cb, cs, n, w, t);
+        return near_sample(held, s, cs, n, w, t);
     }
-    let before = near_sample(held, sa, sb, ca, cb, cs, n - 1, w, t);
-    near_sample(before, sa, sb, ca, cb, cs, n, w, t)
+    let before = near_sample(held, s, cs, n - 1, w, t);
+    near_sample(before, s, cs, n, w, t)
 }

@@ -1,17 +1,20 @@
 // The place where the inverse times of ascending samples pass a time, in one segment: they rise or fall with the samples.
 
+use definitions::Segment;
+use lists::segment::stage_time;
 ghost use mathlib.Core.Path.{_≡_};
 ghost use mathlib.Core.Bool.{true, false};
 ghost use Prim.Native.Nat.{ℕ, suc, _≤_, _<_};
 ghost use lib.ListN.{length, getD};
 ghost use lib.Ieee.{nan};
-ghost use Rattle.definitions.specs.Explicit.{knot};
 ghost use Rattle.beside.specs.Turns.{isBeyond, Turn};
 
 // Whether the sample `c` lies behind the place.
-fn is_beyond(sa: f64, sb: f64, ca: f64, cb: f64, c: f64, t: f64) -> bool
-    ensures { λ r. ⌜ r ≡ isBeyond t (knot sa ca, knot sb cb) c ⌝ }
+fn is_beyond(s: Segment, c: f64, t: f64) -> bool
+    ensures { λ r. ⌜ r ≡ isBeyond t (s .a, s .b) c ⌝ }
 {
+    let ca = s.a.y;
+    let cb = s.b.y;
     if ca < cb {
         if cb < c {
             return true;
@@ -19,7 +22,7 @@ fn is_beyond(sa: f64, sb: f64, ca: f64, cb: f64, c: f64, t: f64) -> bool
         if c < ca {
             return false;
         }
-        return t < gf::segment::inverse(sa, sb, ca, cb, c);
+        return t < stage_time(s, c);
     }
     if ca < c {
         return true;
@@ -27,22 +30,22 @@ fn is_beyond(sa: f64, sb: f64, ca: f64, cb: f64, c: f64, t: f64) -> bool
     if c < cb {
         return false;
     }
-    gf::segment::inverse(sa, sb, ca, cb, c) <= t
+    stage_time(s, c) <= t
 }
 
 // Whether the sample at `n` does, or there is none.
-fn begins_at(cs: &[f64], sa: f64, sb: f64, ca: f64, cb: f64, t: f64, n: usize) -> bool
-    ensures { λ r. ⌜ ((r ≡ true) → n < length (now (cs .entry)) → isBeyond t (knot sa ca, knot sb cb) (getD (now (cs .entry)) n nan) ≡ true) ⌝ ∗ ⌜ ((r ≡ false) → (n < length (now (cs .entry))) × (isBeyond t (knot sa ca, knot sb cb) (getD (now (cs .entry)) n nan) ≡ false)) ⌝ }
+fn begins_at(cs: &[f64], s: Segment, t: f64, n: usize) -> bool
+    ensures { λ r. ⌜ ((r ≡ true) → n < length (now (cs .entry)) → isBeyond t (s .a, s .b) (getD (now (cs .entry)) n nan) ≡ true) ⌝ ∗ ⌜ ((r ≡ false) → (n < length (now (cs .entry))) × (isBeyond t (s .a, s .b) (getD (now (cs .entry)) n nan) ≡ false)) ⌝ }
 {
     if n < cs.len() {
-        return is_beyond(sa, sb, ca, cb, cs[n], t);
+        return is_beyond(s, cs[n], t);
     }
     true
 }
 
 // Whether `n` is a place in the list or its end, and the sample before it does not, or there is none.
-fn ends_before(cs: &[f64], sa: f64, sb: f64, ca: f64, cb: f64, t: f64, n: usize) -> bool
-    ensures { λ r. ⌜ ((r ≡ true) → (n ≤ length (now (cs .entry))) × ((i : ℕ) → suc i ≡ n → isBeyond t (knot sa ca, knot sb cb) (getD (now (cs .entry)) i nan) ≡ false)) ⌝ }
+fn ends_before(cs: &[f64], s: Segment, t: f64, n: usize) -> bool
+    ensures { λ r. ⌜ ((r ≡ true) → (n ≤ length (now (cs .entry))) × ((i : ℕ) → suc i ≡ n → isBeyond t (s .a, s .b) (getD (now (cs .entry)) i nan) ≡ false)) ⌝ }
 {
     if cs.len() < n {
         return false;
@@ -51,18 +54,18 @@ fn ends_before(cs: &[f64], sa: f64, sb: f64, ca: f64, cb: f64, t: f64, n: usize)
         return true;
     }
     let before = n - 1;
-    !is_beyond(sa, sb, ca, cb, cs[before], t)
+    !is_beyond(s, cs[before], t)
 }
 
 // The place, by bisection.
-fn search_turn(cs: &[f64], sa: f64, sb: f64, ca: f64, cb: f64, t: f64) -> usize
-    ensures { λ r. ⌜ Turn (isBeyond t (knot sa ca, knot sb cb)) (now (cs .entry)) r ⌝ }
+fn search_turn(cs: &[f64], s: Segment, t: f64) -> usize
+    ensures { λ r. ⌜ Turn (isBeyond t (s .a, s .b)) (now (cs .entry)) r ⌝ }
 {
     let mut lo: usize = 0;
     let mut hi = cs.len();
     while lo < hi {
         let mid = lo + (hi - lo) / 2;
-        if is_beyond(sa, sb, ca, cb, cs[mid], t) {
+        if is_beyond(s, cs[mid], t) {
             hi = mid;
         } else {
             lo = mid + 1;
@@ -72,26 +75,26 @@ fn search_turn(cs: &[f64], sa: f64, sb: f64, ca: f64, cb: f64, t: f64) -> usize
 }
 
 // The place, looked for at the hint, behind it and before it: as a segment rises or falls it moves on or back.
-pub fn turn(cs: &[f64], sa: f64, sb: f64, ca: f64, cb: f64, t: f64, hint: usize) -> usize
-    ensures { λ r. ⌜ Turn (isBeyond t (knot sa ca, knot sb cb)) (now (cs .entry)) r ⌝ }
+pub fn turn(cs: &[f64], s: Segment, t: f64, hint: usize) -> usize
+    ensures { λ r. ⌜ Turn (isBeyond t (s .a, s .b)) (now (cs .entry)) r ⌝ }
 {
-    if !begins_at(cs, sa, sb, ca, cb, t, hint) {
+    if !begins_at(cs, s, t, hint) {
         let next = hint + 1;
-        if begins_at(cs, sa, sb, ca, cb, t, next) {
+        if begins_at(cs, s, t, next) {
             return next;
         }
-        return search_turn(cs, sa, sb, ca, cb, t);
+        return search_turn(cs, s, t);
     }
-    if ends_before(cs, sa, sb, ca, cb, t, hint) {
+    if ends_before(cs, s, t, hint) {
         return hint;
     }
     if 0 < hint {
         let before = hint - 1;
-        if begins_at(cs, sa, sb, ca, cb, t, before) {
-            if ends_before(cs, sa, sb, ca, cb, t, before) {
+        if begins_at(cs, s, t, before) {
+            if ends_before(cs, s, t, before) {
                 return before;
             }
         }
     }
-    search_turn(cs, sa, sb, ca, cb, t)
+    search_turn(cs, s, t)
 }

@@ -2,3 +2,4 @@
 pub mod Fronts
 pub mod Filled
 pub mod Placed
+pub mod Segments

@@ -1,10 +1,15 @@
 // Lists of times as they are lent: tests over the whole list, and the search in an ascending one.
 pub mod near;
+pub mod segment;
 pub mod sorting;
 pub mod writing;
 
 use definitions::ClipTime;
+use definitions::Segment;
 use definitions::StageTime;
+use segment::clip_time;
+use segment::knot_at;
+use segment::segment_at;
 ghost use mathlib.Core.Path.{_≡_};
 ghost use mathlib.Core.Bool.{not, _&&_, cond};
 ghost use lib.ListN.{length};
@@ -12,8 +17,7 @@ ghost use lib.Ieee.{eq};
 ghost use Rattle.gf.specs.Doubles.{storable};
 ghost use Rattle.definitions.specs.Doubles.{twoEqual, threeEqual};
 ghost use Rattle.definitions.specs.ClipSet.{anyUnstorable};
-ghost use Rattle.definitions.specs.Explicit.{knot};
-ghost use Rattle.definitions.specs.Timing.{lastAtMost, onSegment, mapTime, mapStageToClip};
+ghost use Rattle.definitions.specs.Timing.{lastAtMost, mapTime, mapStageToClip};
 ghost use Rattle.set_laws.specs.Places.{Ascending};
 ghost use Rattle.cell_laws.specs.Unpacked.{knotsOf};
 
@@ -96,16 +100,6 @@ pub fn last_at_most(times: &[f64], t: f64) -> usize
     if lo > 0 { lo - 1 } else { 0 }
 }
 
-// The clip time at `t` of the segment from (x0, y0) to (x1, y1), whose beginning is kept as it is.
-fn on_segment(x0: f64, x1: f64, y0: f64, y1: f64, t: f64) -> f64
-    ensures { λ r. ⌜ r ≡ onSegment (knot x0 y0) (knot x1 y1) t ⌝ }
-{
-    if t == x0 {
-        return y0;
-    }
-    gf::lerp(x0, x1, y0, y1, t)
-}
-
 // The y at `t` of the knots (x, y), bare as the lists are.
 fn y_at(xs: &[f64], ys: &[f64], t: f64) -> f64
     requires { ⌜ Ascending (now xs) ⌝ ∗ ⌜ length (now xs) ≡ length (now ys) ⌝ }
@@ -125,10 +119,10 @@ fn y_at(xs: &[f64], ys: &[f64], t: f64) -> f64
     let lo = last_at_most(xs, t);
     // A NaN, which lies on no side of a single knot.
     if lo == last {
-        return on_segment(xs[lo], xs[lo], ys[lo], ys[lo], t);
+        let only = knot_at(xs, ys, lo);
+        return clip_time(Segment { a: only, b: only }, t);
     }
-    let hi = lo + 1;
-    on_segment(xs[lo], xs[hi], ys[lo], ys[hi], t)
+    clip_time(segment_at(xs, ys, lo), t)
 }
 
 // The knot mapping, which alone turns a stage time into a clip time: the Rust's `map_stage_to_clip`.

@@ -29,7 +29,7 @@ use Rattle.window.specs.declared.Bound.the-variants.{At, Nothing}
 use Rattle.window.specs.declared.Bounds.{Bounds}
 use Rattle.window.specs.Bounds.{In, in-every, inside}
 use Rattle.window.specs.Inverses.{onSegment, inversesOf, every-of, every-each, every-if, by-samples, by-segments, knots-long, knots-at}
-use Rattle.window.specs.Near.{Segment, inverse-fits, range}
+use Rattle.window.specs.Near.{SoundSegment, inverse-fits, range}
 use Rattle.beside.specs.Nearest.{LowerMet, UpperMet, Met, LowerIn, Sided, Nearer, Searched}
 use Rattle.beside.specs.Beside.{Facing, meet-above, number-at, climb, next-above}
 use Rattle.near.specs.Tops.{segmentOf, ReachOf, segment-here}
@@ -39,7 +39,7 @@ use Rattle.near.specs.Tops.{segmentOf, ReachOf, segment-here}
 pub record Searchable (xs ys cs : List Float) (w : Interval) (t : Float) : Type 0 where
   pub knots : Ascending xs
   pub paired : length xs ≡ length ys
-  pub segments : Every Segment (pairs (knotsOf xs ys))
+  pub segments : Every SoundSegment (pairs (knotsOf xs ys))
   pub samples : Ascending cs
   pub time : FiniteDouble t
   pub faces : Facing w t
@@ -111,7 +111,7 @@ module _ (t : Float) (w : Interval) (xs ys cs : List Float) where
       each [] = tt
       each (c ∷ l) = (one c, each l)
 
-  module _ (F : Facing w t) (ft : FiniteDouble t) (a : Ascending xs) (e : length xs ≡ length ys) (S : Every Segment (pairs (knotsOf xs ys))) (i : ℕ) (at : i ≡ lastAtMost xs t) (l : i < length xs) where
+  module _ (F : Facing w t) (ft : FiniteDouble t) (a : Ascending xs) (e : length xs ≡ length ys) (S : Every SoundSegment (pairs (knotsOf xs ys))) (i : ℕ) (at : i ≡ lastAtMost xs t) (l : i < length xs) where
     abbrev inv : ℕ → Float → Float
     inv j c = inverse (segmentOf xs ys j .0) (segmentOf xs ys j .1) c
 

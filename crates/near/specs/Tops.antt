@@ -23,13 +23,11 @@ use Rattle.set_laws.specs.Every.{Every}
 use Rattle.cell_laws.specs.Every.{both, both-l, or-l, or-r, or-split}
 use Rattle.cell_laws.specs.Ends.{Number}
 use Rattle.cell_laws.specs.Unpacked.{knotsOf}
+use Rattle.lists.specs.Segments.{knotAt}
 use Rattle.window.specs.Inverses.{knots-long, knots-at}
-use Rattle.window.specs.Near.{Segment, segment-at, topOf, inverse-fits, range}
+use Rattle.window.specs.Near.{SoundSegment, segment-at, topOf, inverse-fits, range}
 
--- the knot at i, and the segment from it to the next
-abbrev pub knotAt : List Float → List Float → ℕ → Knot
-knotAt xs ys i = knot (getD xs i nan) (getD ys i nan)
-
+-- the segment from the knot at j on, as a pair
 abbrev pub segmentOf : List Float → List Float → ℕ → Knot × Knot
 segmentOf xs ys j = (knotAt xs ys j, knotAt xs ys (j + 1))
 
@@ -46,10 +44,10 @@ pub no-tops : (xs ys tops : List Float) → length tops ≡ 0 → TopsOf xs ys t
 no-tops xs ys tops e = record { above = λ k h. absurd (omega arith) }
 
 -- of sound knots each is a segment
-pub segment-here : (xs ys : List Float) → length xs ≡ length ys → Every Segment (pairs (knotsOf xs ys)) → (j : ℕ) → j + 1 < length xs → Segment (segmentOf xs ys j)
+pub segment-here : (xs ys : List Float) → length xs ≡ length ys → Every SoundSegment (pairs (knotsOf xs ys)) → (j : ℕ) → j + 1 < length xs → SoundSegment (segmentOf xs ys j)
 segment-here xs ys e s j h =
     let d = knot nan nan in
-    subst Segment (ap₂ (λ (u v : Knot). (u, v)) (knots-at xs ys e j nan nan d (omega arith)) (knots-at xs ys e (j + 1) nan nan d h))
+    subst SoundSegment (ap₂ (λ (u v : Knot). (u, v)) (knots-at xs ys e j nan nan d (omega arith)) (knots-at xs ys e (j + 1) nan nan d h))
     (segment-at (knotsOf xs ys) s j d (omega (arith, knots-long xs ys e)))
 
 -- ---- one segment more
@@ -60,7 +58,7 @@ pub record NewTop (q : Knot × Knot) (top r : Float) : Type 0 where
   pub over : T (le top r)
   pub reach : (c : Float) → T (spans (q .0 .y) (q .1 .y) c) → T (le (inverse (q .0) (q .1) c) r)
 
-module _ (q : Knot × Knot) (s : Segment q) (top : Float) (nt : Number top) where
+module _ (q : Knot × Knot) (s : SoundSegment q) (top : Float) (nt : Number top) where
   na : Number (q .0 .y)
   na = (s .first .fy, finite-no-nan (q .0 .y) (within-finite 40 (q .0 .y) (s .first .by)))
 

@@ -22,7 +22,7 @@ use Rattle.cell_laws.specs.Unpacked.{knotsOf}
 use Rattle.window.specs.declared.Bounds.{Bounds}
 use Rattle.window.specs.Bounds.{inside, nothing, NeighboursAre}
 use Rattle.window.specs.Inverses.{inversesOf, inverses-none}
-use Rattle.window.specs.Near.{Segment}
+use Rattle.window.specs.Near.{SoundSegment}
 use Rattle.beside.specs.Nearest.{withNear, Searched, searched-one, searched-then, searched-same, nearest-of}
 use Rattle.beside.specs.Beside.{Facing, facing, finite-number}
 use Rattle.near.specs.declared.Window.{Window}
@@ -83,7 +83,7 @@ module _ (w : Window) (t : Float) {h : Bounds} (first : h ≡ withNear t nothing
 pub record Nearing (xs ys tops cs : List Float) (w : Window) (t : Float) : Type 0 where
   pub knots : Ascending xs
   pub paired : length xs ≡ length ys
-  pub segments : Every Segment (pairs (knotsOf xs ys))
+  pub segments : Every SoundSegment (pairs (knotsOf xs ys))
   pub reach : TopsOf xs ys tops
   pub samples : Ascending cs
   pub time : FiniteDouble t

@@ -9,6 +9,7 @@ use beside::near_turn;
 use beside::turn::turn;
 use definitions::Source;
 use gf::interval::Interval;
+use lists::segment::segment_at;
 use tops::top_before;
 use window::Bound;
 use window::Bounds;
@@ -56,13 +57,9 @@ fn near_segment(
     requires { ⌜ Searchable (now xs) (now ys) (now cs) w t ⌝ ∗ ⌜ j + 1 < length (now xs) ⌝ }
     ensures { λ r. ⌜ Searched t (timesOf w (now (xs .entry)) (now (ys .entry)) (now (cs .entry)) j) held (boundsOf r) ⌝ }
 {
-    let next = j + 1;
-    let sa = xs[j];
-    let sb = xs[next];
-    let ca = ys[j];
-    let cb = ys[next];
-    let n = turn(cs, sa, sb, ca, cb, t, sample);
-    let found = near_turn(held, sa, sb, ca, cb, cs, n, w, t);
+    let s = segment_at(xs, ys, j);
+    let n = turn(cs, s, t, sample);
+    let found = near_turn(held, s, cs, n, w, t);
     let lower = found.lower;
     let upper = found.upper;
     Near {

@@ -1,15 +1,17 @@
 // How far the inverse times of the segments reach.
 
+use definitions::Segment;
+use lists::segment::segment_at;
+use lists::segment::stage_time;
 ghost use mathlib.Core.Path.{_≡_};
 ghost use Prim.Native.Nat.{_≤_, _<_};
 ghost use lib.ListN.{length};
 ghost use Rattle.definitions.specs.Lists.{pairs};
-ghost use Rattle.definitions.specs.Explicit.{knot};
 ghost use Rattle.definitions.specs.ClipSet.{maxKnots};
 ghost use Rattle.set_laws.specs.Every.{Every};
 ghost use Rattle.cell_laws.specs.Ends.{Number};
 ghost use Rattle.cell_laws.specs.Unpacked.{knotsOf};
-ghost use Rattle.window.specs.Near.{Segment};
+ghost use Rattle.window.specs.Near.{SoundSegment};
 ghost use Rattle.near.specs.Tops.{NewTop, ReachOf, TopsOf};
 
 // For each segment a time that no inverse time of it or of a segment before it is above.
@@ -25,14 +27,15 @@ fn some_tops() -> [f64; 512]
 }
 
 // The greater of `top` and the last inverse time of a segment, which is that of its second clip time; with equal clip times it has none.
-fn next_top(top: f64, sa: f64, sb: f64, ca: f64, cb: f64) -> f64
-    requires { ⌜ Segment (knot sa ca, knot sb cb) ⌝ ∗ ⌜ Number top ⌝ }
-    ensures { λ r. ⌜ NewTop (knot sa ca, knot sb cb) top r ⌝ }
+fn next_top(top: f64, s: Segment) -> f64
+    requires { ⌜ SoundSegment (s .a, s .b) ⌝ ∗ ⌜ Number top ⌝ }
+    ensures { λ r. ⌜ NewTop (s .a, s .b) top r ⌝ }
 {
-    if ca == cb {
+    let cb = s.b.y;
+    if s.a.y == cb {
         return top;
     }
-    let last = gf::segment::inverse(sa, sb, ca, cb, cb);
+    let last = stage_time(s, cb);
     if top < last {
         return last;
     }
@@ -41,22 +44,21 @@ fn next_top(top: f64, sa: f64, sb: f64, ca: f64, cb: f64) -> f64
 
 // A time that no inverse time of the segments before the knot at `i` is above.
 fn reach_before(xs: &[f64], ys: &[f64], i: usize) -> f64
-    requires { ⌜ length (now xs) ≡ length (now ys) ⌝ ∗ ⌜ Every Segment (pairs (knotsOf (now xs) (now ys))) ⌝ ∗ ⌜ i < length (now xs) ⌝ }
+    requires { ⌜ length (now xs) ≡ length (now ys) ⌝ ∗ ⌜ Every SoundSegment (pairs (knotsOf (now xs) (now ys))) ⌝ ∗ ⌜ i < length (now xs) ⌝ }
     ensures { λ r. ⌜ ReachOf (now (xs .entry)) (now (ys .entry)) i r ⌝ }
 {
     let mut top = -1.0 / 0.0;
     let mut k: usize = 0;
     while k < i {
-        let next = k + 1;
-        top = next_top(top, xs[k], xs[next], ys[k], ys[next]);
-        k = next;
+        top = next_top(top, segment_at(xs, ys, k));
+        k += 1;
     }
     top
 }
 
 // The same where tops may be at hand.
 pub fn top_before(xs: &[f64], ys: &[f64], tops: &[f64], i: usize) -> f64
-    requires { ⌜ length (now xs) ≡ length (now ys) ⌝ ∗ ⌜ Every Segment (pairs (knotsOf (now xs) (now ys))) ⌝ ∗ ⌜ TopsOf (now xs) (now ys) (now tops) ⌝ ∗ ⌜ i < length (now xs) ⌝ ∗ ⌜ 0 < i ⌝ }
+    requires { ⌜ length (now xs) ≡ length (now ys) ⌝ ∗ ⌜ Every SoundSegment (pairs (knotsOf (now xs) (now ys))) ⌝ ∗ ⌜ TopsOf (now xs) (now ys) (now tops) ⌝ ∗ ⌜ i < length (now xs) ⌝ ∗ ⌜ 0 < i ⌝ }
     ensures { λ r. ⌜ ReachOf (now (xs .entry)) (now (ys .entry)) i r ⌝ }
 {
     let last = i - 1;
@@ -68,17 +70,16 @@ pub fn top_before(xs: &[f64], ys: &[f64], tops: &[f64], i: usize) -> f64
 
 // The tops of all segments.
 pub fn tops_of(xs: &[f64], ys: &[f64]) -> Tops
-    requires { ⌜ length (now xs) ≡ length (now ys) ⌝ ∗ ⌜ length (now xs) ≤ maxKnots ⌝ ∗ ⌜ Every Segment (pairs (knotsOf (now xs) (now ys))) ⌝ }
+    requires { ⌜ length (now xs) ≡ length (now ys) ⌝ ∗ ⌜ length (now xs) ≤ maxKnots ⌝ ∗ ⌜ Every SoundSegment (pairs (knotsOf (now xs) (now ys))) ⌝ }
     ensures { λ r. ⌜ TopsOf (now (xs .entry)) (now (ys .entry)) (r .items) ⌝ }
 {
     let mut items = some_tops();
     let mut top = -1.0 / 0.0;
     let mut i: usize = 0;
     while i + 1 < xs.len() {
-        let next = i + 1;
-        top = next_top(top, xs[i], xs[next], ys[i], ys[next]);
+        top = next_top(top, segment_at(xs, ys, i));
         items[i] = top;
-        i = next;
+        i += 1;
     }
     Tops { items }
 }

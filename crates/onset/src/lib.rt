@@ -1,7 +1,11 @@
 // Where a run of samples in one segment of knots begins: its lower neighbour, and the inverse time up to which it goes.
 use beside::turn::turn;
+use definitions::Segment;
 use gf::LEAST;
 use gf::MOST;
+use lists::segment::segment_at;
+use lists::segment::spans;
+use lists::segment::stage_time;
 use near::Window;
 use near::near_in;
 use value::windowed::is_between;
@@ -13,7 +17,6 @@ ghost use Prim.Native.Nat.{_+_, _≤_, _<_};
 ghost use lib.Dec.{T};
 ghost use lib.ListN.{length};
 ghost use lib.Ieee.{inf, isNan, lt, le};
-ghost use Rattle.definitions.specs.Explicit.{knot};
 ghost use Rattle.set_laws.specs.Places.{Ascending};
 ghost use Rattle.near.specs.Windowed.{samplesIn, Lent, Nearing};
 ghost use Rattle.onset.specs.Begins.{BeforeIs, LastIs, PastTops, OnsetIs};
@@ -35,22 +38,22 @@ fn lesser_time(a: f64, b: f64) -> f64
 }
 
 // The sample that is passed last before the turn at n: the one before it where the segment rises.
-fn place_passed(y0: f64, y1: f64, n: usize) -> usize
+fn place_passed(s: Segment, n: usize) -> usize
     ensures { λ r. ⌜ r ≤ n ⌝ }
 {
     if n == 0 {
         return n;
     }
-    if y0 < y1 {
+    if s.a.y < s.b.y {
         return n - 1;
     }
     n
 }
 
 // The last inverse time below `ceil`, by the turn at the double below it.
-fn last_before(cs: &[f64], x0: f64, y0: f64, x1: f64, y1: f64, ceil: f64) -> Bound
+fn last_before(cs: &[f64], s: Segment, ceil: f64) -> Bound
     requires { ⌜ T (not (isNan ceil)) ⌝ }
-    ensures { λ r. ⌜ BeforeIs (now (cs .entry)) (knot x0 y0, knot x1 y1) ceil r ⌝ }
+    ensures { λ r. ⌜ BeforeIs (now (cs .entry)) (s .a, s .b) ceil r ⌝ }
 {
     let k = gf::key(ceil);
     if k <= LEAST {
@@ -59,12 +62,12 @@ fn last_before(cs: &[f64], x0: f64, y0: f64, x1: f64, y1: f64, ceil: f64) -> Bou
     if MOST < k {
         return Bound::Nothing;
     }
-    let n = turn(cs, x0, x1, y0, y1, gf::of_key(k - 1), 0);
-    let i = place_passed(y0, y1, n);
+    let n = turn(cs, s, gf::of_key(k - 1), 0);
+    let i = place_passed(s, n);
     if i < cs.len() {
         let c = cs[i];
-        if gf::segment::spans(y0, y1, c) {
-            let h = gf::segment::inverse(x0, x1, y0, y1, c);
+        if spans(s, c) {
+            let h = stage_time(s, c);
             if h < ceil {
                 return Bound::At(h);
             }
@@ -79,9 +82,9 @@ fn last_in(xs: &[f64], ys: &[f64], cs: &[f64], i: usize, max: f64) -> Bound
     requires { ⌜ T (not (isNan max)) ⌝ }
     ensures { λ r. ⌜ LastIs (now (xs .entry)) (now (ys .entry)) (now (cs .entry)) i max r ⌝ }
 {
-    let next = i + 1;
-    let ceil = lesser_time(max, xs[next]);
-    last_before(cs, xs[i], ys[i], xs[next], ys[next], ceil)
+    let s = segment_at(xs, ys, i);
+    let ceil = lesser_time(max, s.b.x);
+    last_before(cs, s, ceil)
 }
 
 // Whether the run begins at t: from the start on, and below h.

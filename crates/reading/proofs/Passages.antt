@@ -22,7 +22,7 @@ use Rattle.cell_laws.specs.Every.{every-by, both, both-l, both-r, or-l, or-r, o
 use Rattle.cell_laws.specs.Ends.{Number}
 use Rattle.cell_laws.specs.Inverse.{inverse-fin-up, inverse-fin-down, inverse-up, inverse-down}
 use Rattle.window.specs.Inverses.{onSegment, every-of}
-use Rattle.window.specs.Near.{Segment, inverse-fits}
+use Rattle.window.specs.Near.{SoundSegment, inverse-fits}
 use Rattle.beside.specs.Beside.{number-at, climb}
 use Rattle.beside.specs.Turns.{isBeyond, Turn}
 use Rattle.reading.specs.declared.passing.Ahead.{Ahead}
@@ -34,7 +34,7 @@ differ q = let z : _≡_ {A = ℕ} 0 1 = cc in absurd (omega arith)
 
 -- ---- the samples by their keys
 
-module _ (cs : List Float) (a : Ascending cs) (q : Knot × Knot) (s : Segment q) where
+module _ (cs : List Float) (a : Ascending cs) (q : Knot × Knot) (s : SoundSegment q) where
   abbrev c : ℕ → Float
   c i = getD cs i nan
 

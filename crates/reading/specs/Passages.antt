@@ -22,7 +22,7 @@ use Rattle.cell_laws.specs.Keys.{Keys}
 use Rattle.cell_laws.specs.Neighbours.{IsLower, lower-found}
 use Rattle.cell_laws.specs.Places.{Fits}
 use Rattle.window.specs.Inverses.{onSegment}
-use Rattle.window.specs.Near.{Segment, inverse-fits}
+use Rattle.window.specs.Near.{SoundSegment, inverse-fits}
 use Rattle.steps.specs.declared.line.Line.{Line}
 use Rattle.steps.specs.declared.line.Line.the-variants as lines
 use Rattle.reading.specs.declared.passing.Ahead.{Ahead}
@@ -33,7 +33,7 @@ use Rattle.reading.specs.Readings.{Reads, readingAt}
 
 -- the line between two knots
 abbrev pub lineOn : Knot × Knot → Line
-lineOn q = lines.Segment (q .0 .x) (q .0 .y) (q .1 .x) (q .1 .y)
+lineOn q = lines.Segment (record { a = q .0; b = q .1 })
 
 -- the last of the floor and the segment's inverse times that are at most t
 unfoldable pub passedBy : List Float → Knot × Knot → Float → Float → Float
@@ -47,7 +47,7 @@ passingAt cs vs ms q floor k = readingAt cs vs ms (lineOn q) (key (passedBy cs q
 pub record Passing (cs vs : List Float) (ms : List ℕ) (q : Knot × Knot) (floor : Float) (e : Entry) (k hi : ℕ) : Type 0 where
   pub reads : Reads cs vs ms
   pub keys : Keys k hi
-  pub segment : Segment q
+  pub segment : SoundSegment q
   pub ground : FiniteDouble floor
   pub under : T (le floor (ofKey k))
   pub last : e ≡ passingAt cs vs ms q floor k

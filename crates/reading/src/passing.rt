@@ -4,7 +4,9 @@ use crate::entry_of_sample;
 use crate::walk::Went;
 use crate::walk::offer;
 use beside::turn::turn;
+use definitions::Segment;
 use lists::near::last_at_most_near;
+use lists::segment::stage_time;
 use steps::entry::Entry;
 use steps::line::Line;
 use steps::line::along;
@@ -12,9 +14,8 @@ ghost use mathlib.Core.Path.{_≡_};
 ghost use Prim.Native.Nat.{_≤_, _<_};
 ghost use lib.ListN.{length};
 ghost use Rattle.gf.specs.Key as Key;
-ghost use Rattle.definitions.specs.Explicit.{knot};
 ghost use Rattle.set_laws.specs.Places.{Ascending};
-ghost use Rattle.window.specs.Near.{Segment};
+ghost use Rattle.window.specs.Near.{SoundSegment};
 ghost use Rattle.steps.specs.Entries.{entryIs};
 ghost use Rattle.reading.specs.Readings.{Reads, readingAt};
 ghost use Rattle.reading.specs.Passages.{spanned, passingAt, Passing, Passes, SampleIs, NextPassed};
@@ -37,21 +38,12 @@ fn entry_along(cs: &[f64], vs: &[f64], ms: &[u8], line: Line, k: u64, hint: usiz
 }
 
 // The inverse time of the sample at i, where it is not above hi; p is the place behind it.
-fn sample_ahead(
-    cs: &[f64],
-    x0: f64,
-    y0: f64,
-    x1: f64,
-    y1: f64,
-    i: usize,
-    p: usize,
-    hi: u64,
-) -> Ahead
-    requires { ⌜ Segment (knot x0 y0, knot x1 y1) ⌝ ∗ ⌜ Ascending (now cs) ⌝ }
-    requires { ⌜ i < length (now cs) ⌝ ∗ ⌜ spanned (now cs) (knot x0 y0, knot x1 y1) i ⌝ }
-    ensures { λ r. ⌜ SampleIs (now (cs .entry)) (knot x0 y0, knot x1 y1) i p hi r ⌝ }
+fn sample_ahead(cs: &[f64], s: Segment, i: usize, p: usize, hi: u64) -> Ahead
+    requires { ⌜ SoundSegment (s .a, s .b) ⌝ ∗ ⌜ Ascending (now cs) ⌝ }
+    requires { ⌜ i < length (now cs) ⌝ ∗ ⌜ spanned (now cs) (s .a, s .b) i ⌝ }
+    ensures { λ r. ⌜ SampleIs (now (cs .entry)) (s .a, s .b) i p hi r ⌝ }
 {
-    let m = gf::key(gf::segment::inverse(x0, x1, y0, y1, cs[i]));
+    let m = gf::key(stage_time(s, cs[i]));
     if hi < m {
         return Ahead::Nothing;
     }
@@ -59,24 +51,26 @@ fn sample_ahead(
 }
 
 // The next inverse time from the key k on, whose place among the samples is n: they are passed upwards where the segment rises, downwards where it falls.
-fn next_passed(cs: &[f64], x0: f64, y0: f64, x1: f64, y1: f64, n: usize, k: u64, hi: u64) -> Ahead
-    requires { ⌜ Segment (knot x0 y0, knot x1 y1) ⌝ ∗ ⌜ Ascending (now cs) ⌝ }
-    requires { ⌜ Passes (now cs) (knot x0 y0, knot x1 y1) n k ⌝ }
-    ensures { λ r. ⌜ NextPassed (now (cs .entry)) (knot x0 y0, knot x1 y1) n k hi r ⌝ }
+fn next_passed(cs: &[f64], s: Segment, n: usize, k: u64, hi: u64) -> Ahead
+    requires { ⌜ SoundSegment (s .a, s .b) ⌝ ∗ ⌜ Ascending (now cs) ⌝ }
+    requires { ⌜ Passes (now cs) (s .a, s .b) n k ⌝ }
+    ensures { λ r. ⌜ NextPassed (now (cs .entry)) (s .a, s .b) n k hi r ⌝ }
 {
-    if y0 < y1 {
+    let ca = s.a.y;
+    let cb = s.b.y;
+    if ca < cb {
         if n < cs.len() {
-            if cs[n] <= y1 {
-                return sample_ahead(cs, x0, y0, x1, y1, n, n + 1, hi);
+            if cs[n] <= cb {
+                return sample_ahead(cs, s, n, n + 1, hi);
             }
         }
         return Ahead::Nothing;
     }
-    if y1 < y0 {
+    if cb < ca {
         if 0 < n {
             let before = n - 1;
-            if y1 <= cs[before] {
-                return sample_ahead(cs, x0, y0, x1, y1, before, before, hi);
+            if cb <= cs[before] {
+                return sample_ahead(cs, s, before, before, hi);
             }
         }
     }
@@ -89,10 +83,7 @@ pub fn fill_passed(
     vs: &[f64],
     ms: &[u8],
     floor: f64,
-    x0: f64,
-    y0: f64,
-    x1: f64,
-    y1: f64,
+    s: Segment,
     last: Entry,
     n: usize,
     k: u64,
@@ -103,17 +94,17 @@ pub fn fill_passed(
     outvalues: &mut [f64],
     outmarks: &mut [u8],
 ) -> Went
-    requires { ⌜ Passing (now cs) (now vs) (now ms) (knot x0 y0, knot x1 y1) floor (entryIs last) k hi ⌝ }
+    requires { ⌜ Passing (now cs) (now vs) (now ms) (s .a, s .b) floor (entryIs last) k hi ⌝ }
     requires { ⌜ Room room slot (outputs (now outtimes) (now outvalues) (now outmarks)) ⌝ }
-    ensures { λ r. ⌜ Walked (passingAt (now (cs .entry)) (now (vs .entry)) (now (ms .entry)) (knot x0 y0, knot x1 y1) floor) k hi room slot (outputs (now (outtimes .entry)) (now (outvalues .entry)) (now (outmarks .entry))) (outputs (now (outtimes .exit)) (now (outvalues .exit)) (now (outmarks .exit))) r ⌝ }
+    ensures { λ r. ⌜ Walked (passingAt (now (cs .entry)) (now (vs .entry)) (now (ms .entry)) (s .a, s .b) floor) k hi room slot (outputs (now (outtimes .entry)) (now (outvalues .entry)) (now (outmarks .entry))) (outputs (now (outtimes .exit)) (now (outvalues .exit)) (now (outmarks .exit))) r ⌝ }
 {
-    let line = Line::Segment(x0, y0, x1, y1);
+    let line = Line::Segment(s);
     let mut at = k;
-    let mut place = turn(cs, x0, x1, y0, y1, gf::of_key(k), n);
+    let mut place = turn(cs, s, gf::of_key(k), n);
     let mut held = last;
     let mut count = slot;
     loop {
-        let Ahead::At(m, i, next) = next_passed(cs, x0, y0, x1, y1, place, at, hi) else {
+        let Ahead::At(m, i, next) = next_passed(cs, s, place, at, hi) else {
             return Went {
                 key: hi,
                 last: held,

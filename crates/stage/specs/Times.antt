@@ -31,7 +31,7 @@ use Rattle.cell_laws.specs.Unpacked.{start, activeOf, knotsOf, setOf, samplesOf
 use Rattle.window.specs.declared.Bound.{Bound}
 use Rattle.window.specs.declared.Bound.the-variants.{At, Nothing}
 use Rattle.window.specs.Parts.{partOf, ready-readable}
-use Rattle.window.specs.Near.{Segment, inverse-fits}
+use Rattle.window.specs.Near.{SoundSegment, inverse-fits}
 use Rattle.window.specs.Bounds.{inside, In, every-in, in-every}
 use Rattle.window.specs.Inverses.{inversesOf, every-if}
 use Rattle.window.specs.Windows.{windowOf, windowPart, window-times}
@@ -93,7 +93,7 @@ unfolding fits
 power-fits = tt
 
 -- an inverse time is not before the knot that it is measured from
-inverse-from : (q : Knot × Knot) (c : Float) → Segment q → T (spans (q .0 .y) (q .1 .y) c) → T (finite (inverse (q .0) (q .1) c)) × T (le (q .0 .x) (inverse (q .0) (q .1) c))
+inverse-from : (q : Knot × Knot) (c : Float) → SoundSegment q → T (spans (q .0 .y) (q .1 .y) c) → T (finite (inverse (q .0) (q .1) c)) × T (le (q .0 .x) (inverse (q .0) (q .1) c))
 inverse-from q c s h = elim (or-split (up && from && to) (down && under && over) h) [
   | inl u ↦ inverse-fin-up (q .0) (q .1) (s .first) (s .second) (s .wide) (both-l up from (both-l (up && from) to u)) c (both-r up from (both-l (up && from) to u)) (both-r (up && from) to u)
   | inr u ↦ inverse-fin-down (q .0) (q .1) (s .first) (s .second) (s .wide) (both-l down under (both-l (down && under) over u)) c (both-r down under (both-l (down && under) over u)) (both-r (down && under) over u)
@@ -117,24 +117,24 @@ inverse-from q c s h = elim (or-split (up && from && to) (down && under && over)
     over : Bool
     over = le c (q .0 .y)
 
-inverse-timely : (q : Knot × Knot) (c : Float) → Segment q → T (spans (q .0 .y) (q .1 .y) c) → Timely (inverse (q .0) (q .1) c)
+inverse-timely : (q : Knot × Knot) (c : Float) → SoundSegment q → T (spans (q .0 .y) (q .1 .y) c) → Timely (inverse (q .0) (q .1) c)
 inverse-timely q c s h =
     let f = inverse-from q c s h in (
       record { fitting = inverse-fits q c; finitely = f .0 },
       le-trans (power true 40) (q .0 .x) (inverse (q .0) (q .1) c) power-fits (s .first .fx) (inverse-fits q c) (within-lo 40 (q .0 .x) (s .first .bx)) (f .1),
     )
 
-pair-timely : (c : Float) (q : Knot × Knot) → Segment q → Every Timely (onPair c q)
+pair-timely : (c : Float) (q : Knot × Knot) → SoundSegment q → Every Timely (onPair c q)
 pair-timely c q s = go (spans (q .0 .y) (q .1 .y) c) (λ h. h)
   where
     go : (b : Bool) → (T b → T (spans (q .0 .y) (q .1 .y) c)) → Every Timely (cond b (inverse (q .0) (q .1) c ∷ []) [])
     go true h = (inverse-timely q c s (h tt), tt)
     go false h = tt
 
-stage-timely : (knots : List Knot) → Every Segment (pairs knots) → (c : Float) → Stored c → Every Timely (stageTimesForClipTime knots (clip c))
+stage-timely : (knots : List Knot) → Every SoundSegment (pairs knots) → (c : Float) → Stored c → Every Timely (stageTimesForClipTime knots (clip c))
 unfolding stageTimesForClipTime
 stage-timely [] s c f = (stored-timely c f, tt)
-stage-timely (k ∷ l) s c f = every-gather Segment Timely (onPair c) (λ q h. pair-timely c q h) (pairs (k ∷ l)) s
+stage-timely (k ∷ l) s c f = every-gather SoundSegment Timely (onPair c) (λ q h. pair-timely c q h) (pairs (k ∷ l)) s
 
 -- before all of them
 abbrev pub beforeAll : Float

@@ -29,7 +29,7 @@ use Rattle.cell_laws.specs.Every.{any-with, every-map, every-zip, every-append,
 use Rattle.cell_laws.specs.Places.{Fits}
 use Rattle.cell_laws.specs.Unpacked.{knotsOf, knot-times, Ready}
 use Rattle.window.specs.Parts.{partOf, ready-starts, ready-clip, ready-readable}
-use Rattle.window.specs.Near.{Segment}
+use Rattle.window.specs.Near.{SoundSegment}
 use Rattle.window.specs.Bounds.{inside, In, every-in}
 use Rattle.window.specs.Inverses.{inversesOf, inverses-none, every-if, knots-long}
 use Rattle.window.specs.Windows.{minOf, maxOf, windowOf, windowPart}
@@ -152,19 +152,19 @@ module _ {starts : List Float} {clips : List ℕ} {xs ys blocks : List Float} {m
   knot-found : (x : Float) → In x xs → Found x
   knot-found x i e = or-r by-start (by-knot || by-sample) (or-l by-knot by-sample (any-minus x xs i e))
 
-  pair-found : (c : Float) (q : Knot × Knot) → Segment q × In (q .0 .x) xs → Every Found (onPair c q)
+  pair-found : (c : Float) (q : Knot × Knot) → SoundSegment q × In (q .0 .x) xs → Every Found (onPair c q)
   pair-found c q s = go (spans (q .0 .y) (q .1 .y) c)
     where
       go : (b : Bool) → Every Found (cond b (inverse (q .0) (q .1) c ∷ []) [])
       go true = (λ e. knot-found (q .0 .x) (s .1) (add-minus binary64 (q .0 .x) ((c ⊖ q .0 .y) ⊘ (q .1 .y ⊖ q .0 .y) ⊗ (q .1 .x ⊖ q .0 .x)) (s .0 .first .fx) (mul-fits binary64 ((c ⊖ q .0 .y) ⊘ (q .1 .y ⊖ q .0 .y)) (q .1 .x ⊖ q .0 .x)) e), tt)
       go false = tt
 
-  inverse-found : (knots : List Knot) → 0 < length knots → Every Segment (pairs knots) → Every (λ (x : Float). In x xs) (knotTimes knots) → (c : Float) → Every Found (stageTimesForClipTime knots (clip c))
+  inverse-found : (knots : List Knot) → 0 < length knots → Every SoundSegment (pairs knots) → Every (λ (x : Float). In x xs) (knotTimes knots) → (c : Float) → Every Found (stageTimesForClipTime knots (clip c))
   unfolding stageTimesForClipTime
   inverse-found [] n s i c = absurd (omega arith)
   inverse-found (k ∷ l) n s i c =
-      every-gather (λ (q : Knot × Knot). Segment q × In (q .0 .x) xs) Found (onPair c) (pair-found c) (pairs (k ∷ l))
-      (every-zip Segment (λ (q : Knot × Knot). In (q .0 .x) xs) (λ (q : Knot × Knot). Segment q × In (q .0 .x) xs) (λ q a b. (a, b)) (pairs (k ∷ l)) s (pairs-first (λ (x : Float). In x xs) k l i))
+      every-gather (λ (q : Knot × Knot). SoundSegment q × In (q .0 .x) xs) Found (onPair c) (pair-found c) (pairs (k ∷ l))
+      (every-zip SoundSegment (λ (q : Knot × Knot). In (q .0 .x) xs) (λ (q : Knot × Knot). SoundSegment q × In (q .0 .x) xs) (λ q a b. (a, b)) (pairs (k ∷ l)) s (pairs-first (λ (x : Float). In x xs) k l i))
 
   module _ (q : ℕ) (l : q < length starts) where
     abbrev cs : List Float

@@ -9,6 +9,7 @@ pub mod entry;
 use line::Line;
 use line::along;
 use lists::near::is_place;
+use lists::segment::stage_time;
 use track_laws::Next;
 ghost use mathlib.Core.Path.{_≡_};
 ghost use Prim.Native.Nat.{_≤_, _<_};
@@ -63,12 +64,12 @@ fn guess(ts: &[f64], line: Line, q: usize, k: u64, hi: u64) -> u64
             hi
         }
         Line::Flat(_) => hi,
-        Line::Segment(x0, y0, x1, y1) => {
-            if y1 < y0 {
-                return key_within(gf::segment::inverse(x0, x1, y0, y1, ts[q]), k, hi);
+        Line::Segment(s) => {
+            if s.b.y < s.a.y {
+                return key_within(stage_time(s, ts[q]), k, hi);
             }
             if next < ts.len() {
-                return key_within(gf::segment::inverse(x0, x1, y0, y1, ts[next]), k, hi);
+                return key_within(stage_time(s, ts[next]), k, hi);
             }
             hi
         }

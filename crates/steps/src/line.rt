@@ -1,4 +1,7 @@
 // The line that leads from stage times to clip times in a cell, and the place that is read along it.
+use definitions::Segment;
+use lists::segment::clip_time;
+use lists::segment::segment_at;
 ghost use mathlib.Core.Path.{_≡_};
 ghost use mathlib.Core.Bool.{not};
 ghost use Prim.Native.Nat.{_≤_};
@@ -12,11 +15,11 @@ ghost use Rattle.cell_laws.specs.Unpacked.{knotsOf};
 ghost use Rattle.steps.specs.Lines.{lineIs, placeOn};
 
 // How stage times lead to clip times in a cell: no knots, below the first or from the last on, or
-// between two knots (x0, y0) and (x1, y1).
+// between two knots.
 pub enum Line {
     Plain,
     Flat(f64),
-    Segment(f64, f64, f64, f64),
+    Segment(Segment),
 }
 
 // The line at the stage time t.
@@ -38,8 +41,7 @@ pub fn line_of(xs: &[f64], ys: &[f64], t: f64) -> Line
         return Line::Flat(ys[last]);
     }
     let lo = lists::last_at_most(xs, t);
-    let hi = lo + 1;
-    Line::Segment(xs[lo], ys[lo], xs[hi], ys[hi])
+    Line::Segment(segment_at(xs, ys, lo))
 }
 
 // The clip time that a line gives.
@@ -49,12 +51,7 @@ pub fn along(line: Line, t: f64) -> f64
     match line {
         Line::Plain => t,
         Line::Flat(y) => y,
-        Line::Segment(x0, y0, x1, y1) => {
-            if t == x0 {
-                return y0;
-            }
-            gf::lerp(x0, x1, y0, y1, t)
-        }
+        Line::Segment(s) => clip_time(s, t),
     }
 }
 

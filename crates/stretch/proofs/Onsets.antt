@@ -34,7 +34,7 @@ use Rattle.cell_laws.specs.Zeros.{zero-direct}
 use Rattle.cell_laws.specs.Unpacked.{Ready, setOf, samplesOf, knotsOf}
 use Rattle.window.specs.declared.Bound.the-variants.{At, Nothing}
 use Rattle.window.specs.Bounds.{NeighboursAre}
-use Rattle.window.specs.Near.{Segment}
+use Rattle.window.specs.Near.{SoundSegment}
 use Rattle.window.specs.Parts.{partOf, last-short, ready-clip, ready-readable, ready-starts}
 use Rattle.window.specs.Windows.{ifOwn}
 use Rattle.beside.specs.Beside.{finite-number}
@@ -195,7 +195,7 @@ module _ {starts : List Float} {clips : List ℕ} {xs ys blocks : List Float} {m
           let b = lt→key (ofKey k) (getD xs (i + 1) nan) (ntk .0) (x .fitting) (ntk .1) (finite-no-nan (getD xs (i + 1) nan) (x .finitely)) (holds (lt (ofKey k) (getD xs (i + 1) nan)) (O .here .upto)) in
           finite-by l n (knot-low xs ys tops (samplesIn times w) w (ofKey k) i l h O i (le-of-eq refl)) (omega arith)
 
-      segment-is : Segment (segmentOf xs ys i)
+      segment-is : SoundSegment (segmentOf xs ys i)
       segment-is = segment-here xs ys (R .knots-paired) (ready-readable R .segments) i (O .here .place)
 
       -- ---- a key of the run

@@ -8,7 +8,6 @@ use Rattle.definitions.specs.declared.Manifest.{Manifest}
 use Rattle.definitions.specs.declared.Source.{Source}
 use Rattle.definitions.specs.declared.Source.the-variants.{Sample}
 use Rattle.definitions.specs.declared.Knot.{Knot}
-use Rattle.definitions.specs.Explicit.{knot}
 use Rattle.definitions.specs.ClipSet.{ClipSet}
 use Rattle.definitions.specs.Samples.{Samples, clipBegin, clipEnd}
 use Rattle.definitions.specs.Track.{Entry}
@@ -69,12 +68,12 @@ pub record PastRun (times values : List Float) (marks ends : List ℕ) (c : ℕ)
 
 abbrev pub Goes : List Float → List Float → List ℕ → List ℕ → Way → Entry → ℕ → ℕ → Type 0
 Goes times values marks ends (Within c) here k hi = Runs times values marks ends c k hi
-Goes times values marks ends (Past c floor x0 y0 x1 y1 n) here k hi = PastRun times values marks ends c (knot x0 y0, knot x1 y1) floor here k hi
+Goes times values marks ends (Past c floor g n) here k hi = PastRun times values marks ends c (g .a, g .b) floor here k hi
 
 -- what is said at the key j: what the cell says, or what the sample says whose inverse time was passed last
 abbrev pub saysBy : List Float → List Float → List ℕ → List ℕ → Way → Entry → ℕ → Entry
 saysBy times values marks ends (Within c) here j = saysOn times values marks ends c here j
-saysBy times values marks ends (Past c floor x0 y0 x1 y1 n) here j = passingAt (part times ends c) (part values ends c) (part marks ends c) (knot x0 y0, knot x1 y1) floor j
+saysBy times values marks ends (Past c floor g n) here j = passingAt (part times ends c) (part values ends c) (part marks ends c) (g .a, g .b) floor j
 
 -- the stretch from k on, up to top: the value there is what its way says
 pub record StretchIs (set : ClipSet) (s : Samples) (k top : ℕ) (r : Stretch) : Type 0 where

@@ -97,7 +97,7 @@ pub fn fill_in(
             outvalues,
             outmarks,
         ),
-        Way::Past(clip, floor, x0, y0, x1, y1, near) => {
+        Way::Past(clip, floor, segment, near) => {
             let a = clip_begin(ends, clip);
             let b = clip_end(ends, clip);
             fill_passed(
@@ -105,10 +105,7 @@ pub fn fill_in(
                 &values[a..b],
                 &marks[a..b],
                 floor,
-                x0,
-                y0,
-                x1,
-                y1,
+                segment,
                 here,
                 near,
                 k,

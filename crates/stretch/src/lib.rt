@@ -12,7 +12,9 @@ use cell::piece_at;
 use cell::spot::Spot;
 use cell::spot::spot_at;
 use definitions::Manifest;
+use definitions::Segment;
 use definitions::Source;
+use lists::segment::segment_at;
 use onset::Onset;
 use onset::onset_at;
 use plain::is_plain;
@@ -37,11 +39,11 @@ ghost use Rattle.value.specs.Passes as Passes;
 ghost use Rattle.cell.specs.Spots.{SpotIs, SpotAt};
 ghost use Rattle.stretch.specs.Runs.{Runs, readOn, StepIs};
 
-// How the value goes on: within a cell, or past the samples of a clip in one segment of knots, (x0, y0) and (x1, y1), from
-// the lower neighbour where the run begins and near a sample's place.
+// How the value goes on: within a cell, or past the samples of a clip from the lower neighbour on where the run begins, in
+// one segment and near a sample's place.
 pub enum Way {
     Within(Cell),
-    Past(u64, f64, f64, f64, f64, f64, usize),
+    Past(u64, f64, Segment, usize),
 }
 
 // The way from a key on, what it says there, and its last key up to a top.
@@ -205,19 +207,15 @@ fn run_step(
     ensures { λ r. ⌜ StepIs (now (starts .entry)) (now (clips .entry)) (now (xs .entry)) (now (ys .entry)) (now (blocks .entry)) m (now (times .entry)) (now (values .entry)) (now (marks .entry)) (now (ends .entry)) k top r ⌝ }
 {
     let w = at.w;
-    let next = i + 1;
-    let x0 = xs[i];
-    let y0 = ys[i];
-    let x1 = xs[next];
-    let y1 = ys[next];
+    let s = segment_at(xs, ys, i);
     let past = gf::key(h);
     let hi = lesser(top, past - 1);
     let a = clip_begin(ends, w.clip);
     let b = clip_end(ends, w.clip);
-    let line = Line::Segment(x0, y0, x1, y1);
+    let line = Line::Segment(s);
     let place = place_on(&times[a..b], line, gf::key(l));
     let here = entry_of_sample(&values[a..b], &marks[a..b], place);
-    let way = Way::Past(w.clip, l, x0, y0, x1, y1, n);
+    let way = Way::Past(w.clip, l, s, n);
     let stretch = Stretch { way, here, hi };
     let reached = Spot {
         p: at.p,

@@ -6,9 +6,8 @@ use Prim.Native.Nat.{ℕ, suc, _+_, _-_, _<_}
 use native.Mathlib.Numerals.{add-one}
 use native.Mathlib.Omega.{arith}
 use lib.ListN.{length, getD}
-use lib.Ieee.{Float, nan, eq, lt, le}
+use lib.Ieee.{Float, nan, lt, le}
 use Rattle.gf.specs.Key.{le-trans, lt-not-le}
-use Rattle.gf.specs.Lerp.{lerp}
 use Rattle.definitions.specs.Explicit.{knot}
 use Rattle.definitions.specs.Timing.{lastAtMost, lastKnot, onSegment, mapTime}
 use Rattle.set_laws.specs.Tests.{is-false, holds}
@@ -17,6 +16,7 @@ use Rattle.set_laws.specs.LastKnot.{last-knot-is}
 use Rattle.set_laws.specs.Places.{Ascending, beyond, up-to, last-is}
 use Rattle.cell_laws.specs.Places.{Fits}
 use Rattle.cell_laws.specs.Unpacked.{knotsOf, knot-times, zip-length}
+use Rattle.lists.specs.Segments.{knotAt}
 use Rattle.beside.specs.Beside.{number-at}
 use Rattle.value.specs.Jumps.{step-le}
 
@@ -53,12 +53,12 @@ module _ (xs ys : List Float) (a : Ascending xs) (e : length xs ≡ length ys) (
       (λ h. lt-not-le t (getD xs (i + 1) nan) ft (fits-at (i + 1) (O .place)) (holds (lt t (getD xs (i + 1) nan)) (O .upto))
       (le-trans (getD xs (i + 1) nan) (getD xs (length xs - 1) nan) t (fits-at (i + 1) (O .place)) (fits-at (length xs - 1) l) ft (step-le xs a t t ft ft (i + 1) (length xs - 1) (omega (arith, O .place)) l) h))
 
-  pub on-segment : onSegment (knot (getD xs i nan) (getD ys i nan)) (knot (getD xs (i + 1) nan) (getD ys (i + 1) nan)) t ≡ mapTime (knotsOf xs ys) t
+  pub on-segment : onSegment (knotAt xs ys i) (knotAt xs ys (i + 1)) t ≡ mapTime (knotsOf xs ys) t
   unfolding mapTime
   on-segment = go xs ys e (length xs - 1) (omega (arith, O .place)) first last found (O .place)
     where
       go : (xs ys : List Float) → length xs ≡ length ys → (n : ℕ) → suc n ≡ length xs → lt t (getD xs 0 nan) ≡ false → le (getD xs n nan) t ≡ false → i ≡ lastAtMost xs t → i + 1 < length xs
-          → onSegment (knot (getD xs i nan) (getD ys i nan)) (knot (getD xs (i + 1) nan) (getD ys (i + 1) nan)) t ≡ mapTime (knotsOf xs ys) t
+          → onSegment (knotAt xs ys i) (knotAt xs ys (i + 1)) t ≡ mapTime (knotsOf xs ys) t
       go [] ys e n m p q l b = absurd (omega arith)
       go (x ∷ xs) [] e n m p q l b = absurd (omega arith)
       go (x ∷ xs) (y ∷ ys) e n m p q l b =
@@ -68,18 +68,3 @@ module _ (xs ys : List Float) (a : Ascending xs) (e : length xs ≡ length ys) (
           last-knot-is d (knotsOf xs ys) d ∙ rw (zip-length knot xs ys (omega arith)) (zip-at knot (x ∷ xs) (y ∷ ys) (length xs) nan nan d (omega arith) (omega arith)) in
           let f : getD (knotsOf (x ∷ xs) (y ∷ ys)) (suc i) d ≡ knot (getD (x ∷ xs) (i + 1) nan) (getD (y ∷ ys) (i + 1) nan) = rw add-one (zip-at knot (x ∷ xs) (y ∷ ys) (suc i) nan nan d (omega arith) (omega arith)) in
           rw (p, w, z, q, knot-times (x ∷ xs) (y ∷ ys) e, ← l, zip-at knot (x ∷ xs) (y ∷ ys) i nan nan d (omega arith) (omega arith), f)
-
-  -- "its y if t equals its x"
-  pub time-at : eq t (getD xs i nan) ≡ true → getD ys i nan ≡ mapTime (knotsOf xs ys) t
-  unfolding onSegment
-  time-at h = step ∙ on-segment
-    where
-      step : getD ys i nan ≡ onSegment (knot (getD xs i nan) (getD ys i nan)) (knot (getD xs (i + 1) nan) (getD ys (i + 1) nan)) t
-      step = rw h
-
-  pub time-between : eq t (getD xs i nan) ≡ false → lerp (getD xs i nan) (getD xs (i + 1) nan) (getD ys i nan) (getD ys (i + 1) nan) t ≡ mapTime (knotsOf xs ys) t
-  unfolding onSegment
-  time-between h = step ∙ on-segment
-    where
-      step : lerp (getD xs i nan) (getD xs (i + 1) nan) (getD ys i nan) (getD ys (i + 1) nan) t ≡ onSegment (knot (getD xs i nan) (getD ys i nan)) (knot (getD xs (i + 1) nan) (getD ys (i + 1) nan)) t
-      step = rw h

@@ -6,6 +6,7 @@ use definitions::Source;
 use definitions::StageTime;
 use direct::contributes;
 use direct::gap_source;
+use lists::segment::segment_at;
 use near::Window;
 use window::part::clip_begin;
 use window::part::clip_end;
@@ -114,11 +115,7 @@ fn clip_time(xs: &[f64], ys: &[f64], t: StageTime, knot: usize) -> ClipTime
     ensures { λ r. ⌜ r ≡ mapStageToClip (knotsOf (now (xs .entry)) (now (ys .entry))) t ⌝ }
 {
     if is_between(xs, t.0, knot) {
-        let next = knot + 1;
-        if t.0 == xs[knot] {
-            return ClipTime(ys[knot]);
-        }
-        return ClipTime(gf::lerp(xs[knot], xs[next], ys[knot], ys[next], t.0));
+        return ClipTime(lists::segment::clip_time(segment_at(xs, ys, knot), t.0));
     }
     lists::map_time(xs, ys, t)
 }

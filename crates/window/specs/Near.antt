@@ -26,24 +26,24 @@ use Rattle.cell_laws.specs.Knots.{SoundKnot}
 use Rattle.cell_laws.specs.Inverse.{inverse-fin-up, inverse-fin-down, inverse-up, inverse-down}
 
 -- two neighbouring knots of a set
-pub record Segment (q : Knot × Knot) : Type 0 where
+pub record SoundSegment (q : Knot × Knot) : Type 0 where
   pub first : SoundKnot (q .0)
   pub second : SoundKnot (q .1)
   pub wide : T (le (q .0 .x) (q .1 .x))
 
-segments-from : (k : Knot) (l : List Knot) → Every SoundKnot (k ∷ l) → ChainFrom Le (k .x) (knotTimes l) → Every Segment (pairsFrom k l)
+segments-from : (k : Knot) (l : List Knot) → Every SoundKnot (k ∷ l) → ChainFrom Le (k .x) (knotTimes l) → Every SoundSegment (pairsFrom k l)
 segments-from k [] s c = tt
 segments-from k (n ∷ l) s c = (record { first = s .0; second = s .1 .0; wide = c .0 }, segments-from n l (s .1) (c .1))
 
-pub segments : (l : List Knot) → Every SoundKnot l → Chain Le (knotTimes l) → Every Segment (pairs l)
+pub segments : (l : List Knot) → Every SoundKnot l → Chain Le (knotTimes l) → Every SoundSegment (pairs l)
 segments [] s c = tt
 segments (k ∷ l) s c = segments-from k l s c
 
 -- by its place
-pub segment-at : (l : List Knot) → Every Segment (pairs l) → (i : ℕ) (d : Knot) → i + 1 < length l → Segment (getD l i d, getD l (i + 1) d)
+pub segment-at : (l : List Knot) → Every SoundSegment (pairs l) → (i : ℕ) (d : Knot) → i + 1 < length l → SoundSegment (getD l i d, getD l (i + 1) d)
 segment-at [] h i d k = absurd (omega arith)
 segment-at (x ∷ l) h i d k =
-    rw (add-one i) (subst Segment (pairs-at (x ∷ l) i d (omega arith)) (every-at Segment (pairs (x ∷ l)) i (d, d) h (omega (arith, length-pairs x l))))
+    rw (add-one i) (subst SoundSegment (pairs-at (x ∷ l) i d (omega arith)) (every-at SoundSegment (pairs (x ∷ l)) i (d, d) h (omega (arith, length-pairs x l))))
 
 -- the last of the inverse times
 abbrev pub topOf : Knot × Knot → Float
@@ -52,7 +52,7 @@ topOf q = inverse (q .0) (q .1) (q .1 .y)
 pub inverse-fits : (q : Knot × Knot) (c : Float) → Fits (inverse (q .0) (q .1) c)
 inverse-fits q c = add-fits binary64 (q .0 .x) ((c ⊖ q .0 .y) ⊘ (q .1 .y ⊖ q .0 .y) ⊗ (q .1 .x ⊖ q .0 .x))
 
-pub range : (q : Knot × Knot) → Segment q → (c : Float) → T (spans (q .0 .y) (q .1 .y) c) → T (le (q .0 .x) (inverse (q .0) (q .1) c)) × T (le (inverse (q .0) (q .1) c) (topOf q))
+pub range : (q : Knot × Knot) → SoundSegment q → (c : Float) → T (spans (q .0 .y) (q .1 .y) c) → T (le (q .0 .x) (inverse (q .0) (q .1) c)) × T (le (inverse (q .0) (q .1) c) (topOf q))
 range q s c h = elim (or-split (up && from && to) (down && under && over) h) [
   | inl u ↦
       let p = both-l (up && from) to u in

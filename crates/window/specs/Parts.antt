@@ -17,7 +17,7 @@ use Rattle.set_laws.specs.Places.{Ascending}
 use Rattle.set_laws.specs.Sound.{sound-active, sound-knots}
 use Rattle.set_laws.specs.Accepted.{clip-ascending}
 use Rattle.cell_laws.specs.Unpacked.{start, activeOf, knotsOf, setOf, samplesOf, zip-length, active-times, knot-times, sound-set, Ready}
-use Rattle.window.specs.Near.{Segment, segments}
+use Rattle.window.specs.Near.{SoundSegment, segments}
 
 -- ---- a clip's part of the lent times
 
@@ -28,7 +28,7 @@ partOf times ends c = take (clipEnd ends c - clipBegin ends c) (drop (clipBegin 
 pub record Readable (xs ys times : List Float) (ends : List ℕ) : Type 0 where
   pub knots : Ascending xs
   pub paired : length xs ≡ length ys
-  pub segments : Every Segment (pairs (knotsOf xs ys))
+  pub segments : Every SoundSegment (pairs (knotsOf xs ys))
   pub from : (c : ℕ) → c < length ends → clipBegin ends c ≤ clipEnd ends c
   pub inside : (c : ℕ) → c < length ends → clipEnd ends c ≤ length times
   pub rising : (c : ℕ) → c < length ends → Ascending (partOf times ends c)

@@ -1,6 +1,5 @@
 -- `beside::near_sample` meets its contract. Assumes nothing.
 use denote.Ref.{now}
-use Rattle.definitions.specs.Explicit.{knot}
 use Rattle.beside.specs.Turns.{sample-here, sample-none}
 use borrow.Author.Needs.{needs}
 use Rattle.beside.proofs.near_sample.Statement.{statement}
@@ -18,12 +17,12 @@ near-inverse-requires c κs = search needs
 returns : tie.Need-returns
 returns c =
     let a = c .before .before .before .before .args in
-    sample-here (a .t) (a .w) (a .held) (now (a .cs)) (knot (a .sa) (a .ca), knot (a .sb) (a .cb)) (a .i) (c .before .before .if1 .taken) (c .near-inverse .ensures)
+    sample-here (a .t) (a .w) (a .held) (now (a .cs)) (a .s .a, a .s .b) (a .i) (c .before .before .if1 .taken) (c .near-inverse .ensures)
 
 returns-2 : tie.Need-returns-2
 returns-2 c =
     let a = c .before .before .args in
-    sample-none (a .t) (a .w) (a .held) (now (a .cs)) (knot (a .sa) (a .ca), knot (a .sb) (a .cb)) (a .i) (c .if1 .left)
+    sample-none (a .t) (a .w) (a .held) (now (a .cs)) (a .s .a, a .s .b) (a .i) (c .if1 .left)
 
 pub near-sample-spec : {M : Type 1} → statement M
 near-sample-spec =

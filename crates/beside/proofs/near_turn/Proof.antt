@@ -1,7 +1,6 @@
 -- `beside::near_turn` meets its contract. Assumes nothing.
 use native.Mathlib.Omega.{arith}
 use denote.Ref.{now}
-use Rattle.definitions.specs.Explicit.{knot}
 use Rattle.beside.specs.Turns.{before-here, before-none, turn-searched}
 use borrow.Author.Needs.{needs}
 use Rattle.beside.proofs.near_turn.Statement.{statement}
@@ -14,8 +13,8 @@ returns : tie.Need-returns
 returns c =
     let s = c .before .before .before in
     let a = s .args in
-    turn-searched (a .t) (a .w) (s .pre .1 .1 .0) (knot (a .sa) (a .ca), knot (a .sb) (a .cb)) (s .pre .0) (now (a .cs)) (s .pre .1 .0) (a .n) (s .pre .1 .1 .1)
-    (before-none (a .t) (a .w) (a .held) (now (a .cs)) (knot (a .sa) (a .ca), knot (a .sb) (a .cb)) (a .n) (c .before .if1 .taken)) (c .near-sample .ensures)
+    turn-searched (a .t) (a .w) (s .pre .1 .1 .0) (a .s .a, a .s .b) (s .pre .0) (now (a .cs)) (s .pre .1 .0) (a .n) (s .pre .1 .1 .1)
+    (before-none (a .t) (a .w) (a .held) (now (a .cs)) (a .s .a, a .s .b) (a .n) (c .before .if1 .taken)) (c .near-sample .ensures)
 
 sub-near-sample : tie.Need-sub-near-sample
 sub-near-sample c = search needs
@@ -30,8 +29,8 @@ returns-2 : tie.Need-returns-2
 returns-2 c =
     let s = c .before .before .before .before in
     let a = s .args in
-    turn-searched (a .t) (a .w) (s .pre .1 .1 .0) (knot (a .sa) (a .ca), knot (a .sb) (a .cb)) (s .pre .0) (now (a .cs)) (s .pre .1 .0) (a .n) (s .pre .1 .1 .1)
-    (before-here (a .t) (a .w) (a .held) (now (a .cs)) (knot (a .sa) (a .ca), knot (a .sb) (a .cb)) (a .n) (omega arith) (c .before .near-sample2 .ensures)) (c .near-sample3 .ensures)
+    turn-searched (a .t) (a .w) (s .pre .1 .1 .0) (a .s .a, a .s .b) (s .pre .0) (now (a .cs)) (s .pre .1 .0) (a .n) (s .pre .1 .1 .1)
+    (before-here (a .t) (a .w) (a .held) (now (a .cs)) (a .s .a, a .s .b) (a .n) (omega arith) (c .before .near-sample2 .ensures)) (c .near-sample3 .ensures)
 
 pub near-turn-spec : {M : Type 1} → statement M
 near-turn-spec =

@@ -1,15 +1,18 @@
 -- `lists::y_at` meets its contract: below the first knot, from the last on, and between two. Assumes nothing.
 use Prim.Native.Nat.{suc, _+_, _-_, _≤_, _<_}
-use mathlib.Core.Path.{_≡_, sym, subst, _∙_}
+use mathlib.Core.Path.{_≡_, sym, ap, subst, _∙_}
 use native.Mathlib.Omega.{arith}
 use borrow.Author.Needs.{needs}
 use denote.Ref.{now}
 use lib.Dec.{T}
-use lib.ListN.{length, getD}
+use lib.ListN.{length}
 use lib.Ieee.{Float, nan, binary64, fits}
 use mathlib.Core.List.{List}
-use Rattle.definitions.specs.Explicit.{knot}
+use Rattle.definitions.specs.declared.Knot.{Knot}
+use Rattle.definitions.specs.declared.Segment.{Segment}
+use Rattle.definitions.specs.Timing.{onSegment}
 use Rattle.set_laws.specs.Places.{atMost, up-to, last-is}
+use Rattle.lists.specs.Segments.{knotAt}
 use Rattle.lists.proofs.ClipTimes.{map-none, map-first, map-last, map-between, next-knot, no-knot}
 use Rattle.lists.proofs.y_at.Statement.{statement}
 use Rattle.lists.proofs.y_at.Tie as tie
@@ -74,83 +77,40 @@ returns-3 c =
 last-at-most-requires : tie.Need-last-at-most-requires
 last-at-most-requires c κs = search needs
 
-mul-on-segment : tie.Need-mul-on-segment
-mul-on-segment c = search needs
+knot-at-requires : tie.Need-knot-at-requires
+knot-at-requires c κs = search needs
 
-shared-slice-read-on-segment : tie.Need-shared-slice-read-on-segment
-shared-slice-read-on-segment c = search needs
-
-mul-on-segment-2 : tie.Need-mul-on-segment-2
-mul-on-segment-2 c = search needs
-
-shared-slice-read-on-segment-2 : tie.Need-shared-slice-read-on-segment-2
-shared-slice-read-on-segment-2 c = search needs
-
-mul-on-segment-3 : tie.Need-mul-on-segment-3
-mul-on-segment-3 c = search needs
-
-shared-slice-read-on-segment-3 : tie.Need-shared-slice-read-on-segment-3
-shared-slice-read-on-segment-3 c = search needs
-
-mul-on-segment-4 : tie.Need-mul-on-segment-4
-mul-on-segment-4 c = search needs
-
-shared-slice-read-on-segment-4 : tie.Need-shared-slice-read-on-segment-4
-shared-slice-read-on-segment-4 c = search needs
-
-on-segment-requires : tie.Need-on-segment-requires
-on-segment-requires c κs = search needs
+clip-time-requires : tie.Need-clip-time-requires
+clip-time-requires c κs = search needs
 
 returns-4 : tie.Need-returns-4
 returns-4 c =
-    let a = c .before .before .before .before .before .before in
+    let a = c .before .before .before in
     let s = entry a in
     let i = a .last-at-most .result in
     let z : i ≡ 0 = omega (arith, below a, found a) in
     let n : length (xs a) ≤ suc i = omega arith in
-    c .on-segment .ensures
-    ∙ map-between nan (xs a) (ys a) (s .args .t) (length (xs a) - 1) i (knot (getD (xs a) i nan) (getD (ys a) i nan)) (s .pre .1) (omega arith) (a .before .before .before .if2 .left) (a .before .if3 .left)
+    c .clip-time .ensures
+    ∙ ap (λ (k : Knot). onSegment k k (s .args .t)) (c .before .knot-at .ensures)
+    ∙ map-between nan (xs a) (ys a) (s .args .t) (length (xs a) - 1) i (knotAt (xs a) (ys a) i) (s .pre .1) (omega arith) (a .before .before .before .if2 .left) (a .before .if3 .left)
     (a .last-at-most .ensures) (omega arith) (no-knot nan (xs a) (ys a) i (s .pre .1) n z)
 
-add-hi : tie.Need-add-hi
-add-hi c = omega (arith, inside c)
+segment-at-requires : tie.Need-segment-at-requires
+segment-at-requires c κs = let h = inside c in search needs
 
-mul-on-segment-5 : tie.Need-mul-on-segment-5
-mul-on-segment-5 c = omega (arith, inside c)
-
-shared-slice-read-on-segment-5 : tie.Need-shared-slice-read-on-segment-5
-shared-slice-read-on-segment-5 c = omega (arith, inside (c .before))
-
-mul-on-segment-6 : tie.Need-mul-on-segment-6
-mul-on-segment-6 c = omega (arith, inside (c .before))
-
-shared-slice-read-on-segment-6 : tie.Need-shared-slice-read-on-segment-6
-shared-slice-read-on-segment-6 c = omega (arith, inside (c .before .before))
-
-mul-on-segment-7 : tie.Need-mul-on-segment-7
-mul-on-segment-7 c = omega (arith, inside (c .before .before))
-
-shared-slice-read-on-segment-7 : tie.Need-shared-slice-read-on-segment-7
-shared-slice-read-on-segment-7 c = omega (arith, inside (c .before .before .before))
-
-mul-on-segment-8 : tie.Need-mul-on-segment-8
-mul-on-segment-8 c = omega (arith, inside (c .before .before .before))
-
-shared-slice-read-on-segment-8 : tie.Need-shared-slice-read-on-segment-8
-shared-slice-read-on-segment-8 c = omega (arith, inside (c .before .before .before .before))
-
-on-segment-requires-2 : tie.Need-on-segment-requires-2
-on-segment-requires-2 c κs = search needs
+clip-time-requires-2 : tie.Need-clip-time-requires-2
+clip-time-requires-2 c κs = search needs
 
 returns-5 : tie.Need-returns-5
 returns-5 c =
-    let a = c .before .before .before .before .before .before in
+    let a = c .before .before .before in
     let s = entry a in
     let i = a .last-at-most .result in
-    let n : suc i < length (xs a) = omega (arith, inside (c .before .before .before .before .before)) in
-    c .on-segment2 .ensures
-    ∙ map-between nan (xs a) (ys a) (s .args .t) (length (xs a) - 1) i (knot (getD (xs a) (i + 1) nan) (getD (ys a) (i + 1) nan)) (s .pre .1) (omega arith) (a .before .before .before .if2 .left) (a .before .if3 .left)
-    (a .last-at-most .ensures) (omega arith) (next-knot nan (xs a) (ys a) i (knot (getD (xs a) 0 nan) (getD (ys a) 0 nan)) (s .pre .1) n)
+    let n : suc i < length (xs a) = omega (arith, inside (c .before .before)) in
+    c .clip-time2 .ensures
+    ∙ ap (λ (q : Segment). onSegment (q .a) (q .b) (s .args .t)) (c .before .segment-at .ensures)
+    ∙ map-between nan (xs a) (ys a) (s .args .t) (length (xs a) - 1) i (knotAt (xs a) (ys a) (i + 1)) (s .pre .1) (omega arith) (a .before .before .before .if2 .left) (a .before .if3 .left)
+    (a .last-at-most .ensures) (omega arith) (next-knot nan (xs a) (ys a) i (knotAt (xs a) (ys a) 0) (s .pre .1) n)
 
 pub y-at-spec : {M : Type 1} → statement M
 y-at-spec =
@@ -167,24 +127,9 @@ y-at-spec =
     shared-slice-read-result-2
     returns-3
     last-at-most-requires
-    mul-on-segment
-    shared-slice-read-on-segment
-    mul-on-segment-2
-    shared-slice-read-on-segment-2
-    mul-on-segment-3
-    shared-slice-read-on-segment-3
-    mul-on-segment-4
-    shared-slice-read-on-segment-4
-    on-segment-requires
+    knot-at-requires
+    clip-time-requires
     returns-4
-    add-hi
-    mul-on-segment-5
-    shared-slice-read-on-segment-5
-    mul-on-segment-6
-    shared-slice-read-on-segment-6
-    mul-on-segment-7
-    shared-slice-read-on-segment-7
-    mul-on-segment-8
-    shared-slice-read-on-segment-8
-    on-segment-requires-2
+    segment-at-requires
+    clip-time-requires-2
     returns-5)

@@ -1,62 +1,38 @@
 -- `near::near_segment` meets its contract. Assumes nothing.
+use mathlib.Core.Path.{sym, subst}
 use denote.Ref.{now}
+use Rattle.definitions.specs.declared.Segment.{Segment}
+use Rattle.definitions.specs.Lists.{keep}
+use Rattle.window.specs.Bounds.{inside}
+use Rattle.window.specs.Inverses.{onSegment}
+use Rattle.window.specs.Near.{SoundSegment}
+use Rattle.beside.specs.Nearest.{Searched}
 use Rattle.near.specs.Tops.{segment-here}
 use borrow.Author.Needs.{needs}
 use Rattle.near.proofs.near_segment.Statement.{statement}
 use Rattle.near.proofs.near_segment.Tie as tie
 
-add-next : tie.Need-add-next
-add-next c = search needs
+abbrev entry : tie.After-segment-at → tie.Start
+entry c = c .before .before .before .before
 
-mul-sa : tie.Need-mul-sa
-mul-sa c = search needs
-
-shared-slice-read-sa : tie.Need-shared-slice-read-sa
-shared-slice-read-sa c = search needs
-
-mul-sb : tie.Need-mul-sb
-mul-sb c = search needs
-
-shared-slice-read-sb : tie.Need-shared-slice-read-sb
-shared-slice-read-sb c = search needs
-
-mul-ca : tie.Need-mul-ca
-mul-ca c = search needs
-
-shared-slice-read-ca : tie.Need-shared-slice-read-ca
-shared-slice-read-ca c = search needs
-
-mul-cb : tie.Need-mul-cb
-mul-cb c = search needs
-
-shared-slice-read-cb : tie.Need-shared-slice-read-cb
-shared-slice-read-cb c = search needs
+segment-at-requires : tie.Need-segment-at-requires
+segment-at-requires c κs = let s = c .before .before .before in (s .pre .0 .paired, s .pre .1)
 
 turn-requires : tie.Need-turn-requires
 turn-requires c κs = search needs
 
 near-turn-requires : tie.Need-near-turn-requires
 near-turn-requires c κs =
-    let s = c .before .before .before .before .before .before .before .before in
+    let m = c .before in
+    let s = entry m in
     let R = s .pre .0 in
-    (segment-here (now (s .args .xs)) (now (s .args .ys)) (R .paired) (R .segments) (s .args .j) (s .pre .1), (R .samples, (R .faces, c .turn .ensures)))
+    (subst (λ (q : Segment). SoundSegment (q .a, q .b)) (sym (m .segment-at .ensures)) (segment-here (now (s .args .xs)) (now (s .args .ys)) (R .paired) (R .segments) (s .args .j) (s .pre .1)), (R .samples, (R .faces, c .turn .ensures)))
 
 returns : tie.Need-returns
-returns c = search needs
+returns c =
+    let m = c .before .before in
+    let a = entry m .args in
+    subst (λ (q : Segment). Searched (a .t) (keep (inside (a .w)) (onSegment (now (a .cs)) (q .a, q .b))) (a .held) (c .near-turn .result)) (m .segment-at .ensures) (c .near-turn .ensures)
 
 pub near-segment-spec : {M : Type 1} → statement M
-near-segment-spec =
-    tie.close
-    (tie.spec
-    add-next
-    mul-sa
-    shared-slice-read-sa
-    mul-sb
-    shared-slice-read-sb
-    mul-ca
-    shared-slice-read-ca
-    mul-cb
-    shared-slice-read-cb
-    turn-requires
-    near-turn-requires
-    returns)
+near-segment-spec = tie.close (tie.spec segment-at-requires turn-requires near-turn-requires returns)

@@ -3,7 +3,6 @@ use mathlib.Core.Path.{sym, _∙_, subst}
 use lib.Ieee.{Float, lt}
 use denote.Ref.{now}
 use Rattle.definitions.specs.declared.Knot.{Knot}
-use Rattle.definitions.specs.Explicit.{knot}
 use Rattle.set_laws.specs.Tests.{holds}
 use Rattle.window.specs.Bounds.{In}
 use Rattle.window.specs.Inverses.{onSegment}
@@ -42,17 +41,17 @@ shared-slice-read-c c = search needs
 spans-requires : tie.Need-spans-requires
 spans-requires c κs = search needs
 
-inverse-requires : tie.Need-inverse-requires
-inverse-requires c κs = search needs
+stage-time-requires : tie.Need-stage-time-requires
+stage-time-requires c κs = search needs
 
 returns-3 : tie.Need-returns-3
 returns-3 c =
     let i = c .before in
     let sp = i .before .before in
     let a = c .before .before .before .before .before .before .before .before .before .before .before .before .before .args in
-    let k : Knot × Knot = (knot (a .x0) (a .y0), knot (a .x1) (a .y1)) in (
-      subst (λ (h : Float). In h (onSegment (now (a .cs)) k)) (sym (i .inverse .ensures)) (in-segment (now (a .cs)) k _ (sp .before .before .if3 .taken) (holds _ (sym (sp .spans .ensures) ∙ i .before .if4 .taken))),
-      holds (lt (i .inverse .result) (a .ceil)) (c .if5 .taken),
+    let k : Knot × Knot = (a .s .a, a .s .b) in (
+      subst (λ (h : Float). In h (onSegment (now (a .cs)) k)) (sym (i .stage-time .ensures)) (in-segment (now (a .cs)) k _ (sp .before .before .if3 .taken) (holds _ (sym (sp .spans .ensures) ∙ i .before .if4 .taken))),
+      holds (lt (i .stage-time .result) (a .ceil)) (c .if5 .taken),
     )
 
 returns-4 : tie.Need-returns-4
@@ -78,7 +77,7 @@ last-before-spec =
     mul-c
     shared-slice-read-c
     spans-requires
-    inverse-requires
+    stage-time-requires
     returns-3
     returns-4
     returns-5

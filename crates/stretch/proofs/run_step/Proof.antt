@@ -1,5 +1,5 @@
 -- `stretch::run_step` meets its contract: the run up to the key below its end, where the floor is read at k. Assumes nothing.
-use mathlib.Core.Path.{_≡_, refl, sym, ap, _∙_}
+use mathlib.Core.Path.{_≡_, refl, sym, ap, ap₂, _∙_, subst}
 use mathlib.Core.List.{List}
 use Prim.Native.Nat.{ℕ, _-_, _≤_, _<_, min}
 use native.Mathlib.Nat.{le-of-eq}
@@ -7,9 +7,13 @@ use native.Mathlib.Omega.{arith}
 use lib.ListN.{length}
 use lib.Ieee.{Float}
 use Rattle.gf.specs.Key.{key, ofKey, ofKey-fits, ofKey-finite, finite→key, finite-no-nan}
+use Rattle.definitions.specs.declared.Segment.{Segment}
 use Rattle.definitions.specs.Doubles.{FiniteDouble}
 use Rattle.cell_laws.specs.Keys.{Keys}
+use Rattle.cell_laws.specs.Unpacked.{setOf, samplesOf}
+use Rattle.lists.specs.Segments.{segmentAt}
 use Rattle.window.specs.Parts.{ready-readable}
+use Rattle.steps.specs.declared.line.Line.the-variants as Line
 use Rattle.steps.specs.Entries.{entryIs}
 use Rattle.steps.specs.Lines.{placeOn}
 use Rattle.near.specs.Tops.{segmentOf}
@@ -18,7 +22,8 @@ use Rattle.reading.specs.Passages.{lineOn}
 use Rattle.reading.specs.Readings.{Reads, entryAt, readingAt}
 use Rattle.value.specs.Handed.{WindowIs}
 use Rattle.value.specs.Passes.{Onset, nh}
-use Rattle.stretch.specs.Runs.{part}
+use Rattle.stretch.specs.declared.Way.the-variants.{Past}
+use Rattle.stretch.specs.Runs.{part, StretchIs}
 use Rattle.stretch.proofs.Cuts.{cut, uncut, recut}
 use Rattle.cell.proofs.Lent.{spot-window}
 use Rattle.stretch.proofs.Onsets.{clip-named, part-reads, place-short, run-above, run-floor, run-says, run-begins, run-passing}
@@ -54,7 +59,11 @@ reads : (a : tie.Start) → Reads (part (a .args .times .now) (a .args .ends .no
 reads a = part-reads (a .pre .0) (a .args .at .p) (a .args .at .w) (window a) (full a)
 
 abbrev entry : tie.After-clip-end → tie.Start
-entry c = c .before .before .before .before .before .before .before .before .before .before .before .before .before .before .before .before .before .before .before
+entry c = c .before .before .before .before .before .before .before .before .before .before .before .before .before .before .before .before
+
+-- the segment that is read
+abbrev taken : (e : tie.After-clip-end) → e .before .before .before .before .segment-at .result ≡ segmentAt (entry e .args .xs .now) (entry e .args .ys .now) (entry e .args .i)
+taken e = e .before .before .before .before .segment-at .ensures
 
 inside : (c : tie.After-clip-end) → (c .before .clip-begin .result ≤ c .clip-end .result) × (c .clip-end .result ≤ length (entry c .args .times .now)) × (c .clip-end .result ≤ length (entry c .args .values .now)) × (c .clip-end .result ≤ length (entry c .args .marks .now))
 inside c =
@@ -71,47 +80,23 @@ inside c =
 cut-reads : (e : tie.After-clip-end) → Reads (cut (entry e .args .times .now) (e .before .clip-begin .result) (e .clip-end .result)) (cut (entry e .args .values .now) (e .before .clip-begin .result) (e .clip-end .result)) (cut (entry e .args .marks .now) (e .before .clip-begin .result) (e .clip-end .result))
 cut-reads e = let a = entry e in recut (a .args .times .now) (a .args .values .now) (a .args .marks .now) (a .args .ends .now) (a .args .at .w .clip) (e .before .clip-begin .result) (e .clip-end .result) (e .before .clip-begin .ensures) (e .clip-end .ensures) Reads (reads a)
 
-add-next : tie.Need-add-next
-add-next c = search needs
-
-mul-x0 : tie.Need-mul-x0
-mul-x0 c = search needs
-
-shared-slice-read-x0 : tie.Need-shared-slice-read-x0
-shared-slice-read-x0 c = search needs
-
-mul-y0 : tie.Need-mul-y0
-mul-y0 c = search needs
-
-shared-slice-read-y0 : tie.Need-shared-slice-read-y0
-shared-slice-read-y0 c = search needs
-
-mul-x1 : tie.Need-mul-x1
-mul-x1 c = search needs
-
-shared-slice-read-x1 : tie.Need-shared-slice-read-x1
-shared-slice-read-x1 c = search needs
-
-mul-y1 : tie.Need-mul-y1
-mul-y1 c = search needs
-
-shared-slice-read-y1 : tie.Need-shared-slice-read-y1
-shared-slice-read-y1 c = search needs
+segment-at-requires : tie.Need-segment-at-requires
+segment-at-requires c κs = search needs
 
 key-requires : tie.Need-key-requires
-key-requires c κs = let a = c .before .before .before .before .before .before .before .before .before .before .before .before .before .before .before in nh (a .args .xs .now) (a .args .ys .now) (a .args .tops .now) (samplesIn (a .args .times .now) (a .args .at .w)) (a .args .at .w) (ofKey (a .args .k)) (a .args .i) (a .args .l) (a .args .h) (onset a) .1
+key-requires c κs = let a = c .before .before .before .before .before .before .before .before .before .before .before .before in nh (a .args .xs .now) (a .args .ys .now) (a .args .tops .now) (samplesIn (a .args .times .now) (a .args .at .w)) (a .args .at .w) (ofKey (a .args .k)) (a .args .i) (a .args .l) (a .args .h) (onset a) .1
 
 sub-lesser : tie.Need-sub-lesser
-sub-lesser c = let a = c .before .before .before .before .before .before .before .before .before .before .before .before .before .before .before .before in omega (arith, above a, c .key .ensures)
+sub-lesser c = let a = c .before .before .before .before .before .before .before .before .before .before .before .before .before in omega (arith, above a, c .key .ensures)
 
 lesser-requires : tie.Need-lesser-requires
 lesser-requires c κs = search needs
 
 clip-begin-requires : tie.Need-clip-begin-requires
-clip-begin-requires c κs = let a = c .before .before .before .before .before .before .before .before .before .before .before .before .before .before .before .before .before in clip-named (a .pre .0) (a .args .at .p) (a .args .at .w) (window a) (full a)
+clip-begin-requires c κs = let a = c .before .before .before .before .before .before .before .before .before .before .before .before .before .before in clip-named (a .pre .0) (a .args .at .p) (a .args .at .w) (window a) (full a)
 
 clip-end-requires : tie.Need-clip-end-requires
-clip-end-requires c κs = let a = c .before .before .before .before .before .before .before .before .before .before .before .before .before .before .before .before .before .before in clip-named (a .pre .0) (a .args .at .p) (a .args .at .w) (window a) (full a)
+clip-end-requires c κs = let a = c .before .before .before .before .before .before .before .before .before .before .before .before .before .before .before in clip-named (a .pre .0) (a .args .at .p) (a .args .at .w) (window a) (full a)
 
 mul-place-on : tie.Need-mul-place-on
 mul-place-on c = let h = inside c in omega (arith, entry c .good)
@@ -126,7 +111,7 @@ part-place-on-end : tie.Need-part-place-on-end
 part-place-on-end c = let h = inside c in search needs
 
 key-requires-2 : tie.Need-key-requires-2
-key-requires-2 c κs = let a = c .before .before .before .before .before .before .before .before .before .before .before .before .before .before .before .before .before .before .before .before in finite-no-nan (a .args .l) (floor a .finitely)
+key-requires-2 c κs = let a = c .before .before .before .before .before .before .before .before .before .before .before .before .before .before .before .before .before in finite-no-nan (a .args .l) (floor a .finitely)
 
 place-on-requires : tie.Need-place-on-requires
 place-on-requires c κs =
@@ -161,7 +146,7 @@ entry-of-sample-requires c κs =
     let p = c .before .before in
     let e = p .before .before .before in
     let R = cut-reads e in
-    let s = place-short (cut (entry e .args .times .now) (e .before .clip-begin .result) (e .clip-end .result)) (lineOn (segmentOf (entry e .args .xs .now) (entry e .args .ys .now) (entry e .args .i))) (p .before .key2 .result) (R .some) in
+    let s = place-short (cut (entry e .args .times .now) (e .before .clip-begin .result) (e .clip-end .result)) (Line.Segment (e .before .before .before .before .segment-at .result)) (p .before .key2 .result) (R .some) in
     (omega (arith, p .place-on .ensures, R .values), omega (arith, p .place-on .ensures, R .marks))
 
 returns : tie.Need-returns
@@ -179,23 +164,24 @@ returns c =
     uncut (a .args .times .now) (a .args .values .now) (a .args .marks .now) (a .args .ends .now) (a .args .at .w .clip) (e .before .clip-begin .result) (e .clip-end .result) (e .before .clip-begin .ensures) (e .clip-end .ensures) (λ (ts vs : List Float) (ms : List ℕ). entryIs (c .entry-of-sample .result) ≡ readingAt ts vs ms line (key (a .args .l)))
     (c .entry-of-sample .ensures
     ∙ ap (entryAt (cut (a .args .values .now) (e .before .clip-begin .result) (e .clip-end .result)) (cut (a .args .marks .now) (e .before .clip-begin .result) (e .clip-end .result)))
-    (p .place-on .ensures ∙ ap (placeOn (cut (a .args .times .now) (e .before .clip-begin .result) (e .clip-end .result)) line) (p .before .key2 .ensures))) in
+    (p .place-on .ensures ∙ ap₂ (λ (g : Segment) (j : ℕ). placeOn (cut (a .args .times .now) (e .before .clip-begin .result) (e .clip-end .result)) (Line.Segment g) j) (taken e) (p .before .key2 .ensures))) in
     let n = clip-named (a .pre .0) (a .args .at .p) (a .args .at .w) (window a) (full a) in
     record {
-      stretch = record {
-        keys = S;
-        within = omega arith;
-        here = read ∙ sym (run-begins (a .pre .0) (a .args .at .p) (a .args .at .w) (window a) (full a) (a .pre .1 .1 .0) (a .args .tops .now) (a .args .k) (point a) (a .args .i) (a .args .l) (a .args .h) (onset a)) ∙ sym (run-says (a .pre .0) (a .args .at .p) (a .args .at .w) (window a) (full a) (a .pre .1 .1 .0) (a .args .tops .now) (a .args .k) (point a) (a .args .i) (a .args .l) (a .args .h) (onset a) (a .args .k) (le-of-eq refl) up (point a .high));
-        runs = record {
-          clip = n;
-          from = ready-readable (a .pre .0) .from (a .args .at .w .clip) n;
-          inside = ready-readable (a .pre .0) .inside (a .args .at .w .clip) n;
-          valued = a .pre .0 .accepted .values;
-          flagged = a .pre .0 .accepted .marks;
-          passing = run-passing (a .pre .0) (a .args .at .p) (a .args .at .w) (window a) (full a) (a .pre .1 .1 .0) (a .args .tops .now) (a .args .k) (point a) (a .args .i) (a .args .l) (a .args .h) (onset a) (entryIs (c .entry-of-sample .result)) (l .lesser .result) S read;
-        };
-        says = λ j x y. run-says (a .pre .0) (a .args .at .p) (a .args .at .w) (window a) (full a) (a .pre .1 .1 .0) (a .args .tops .now) (a .args .k) (point a) (a .args .i) (a .args .l) (a .args .h) (onset a) j x (omega arith) (omega (arith, S .high));
-      };
+      stretch =
+          subst (λ (g : Segment). StretchIs (setOf (length (a .args .ends .now)) (a .args .starts .now) (a .args .clips .now) (a .args .xs .now) (a .args .ys .now) (a .args .blocks .now) (a .args .m)) (samplesOf (a .args .times .now) (a .args .values .now) (a .args .marks .now) (a .args .ends .now)) (a .args .k) (a .args .top) (record { way = Past (a .args .at .w .clip) (a .args .l) g (a .args .n); here = c .entry-of-sample .result; hi = l .lesser .result })) (sym (taken e)) (record {
+            keys = S;
+            within = omega arith;
+            here = read ∙ sym (run-begins (a .pre .0) (a .args .at .p) (a .args .at .w) (window a) (full a) (a .pre .1 .1 .0) (a .args .tops .now) (a .args .k) (point a) (a .args .i) (a .args .l) (a .args .h) (onset a)) ∙ sym (run-says (a .pre .0) (a .args .at .p) (a .args .at .w) (window a) (full a) (a .pre .1 .1 .0) (a .args .tops .now) (a .args .k) (point a) (a .args .i) (a .args .l) (a .args .h) (onset a) (a .args .k) (le-of-eq refl) up (point a .high));
+            runs = record {
+              clip = n;
+              from = ready-readable (a .pre .0) .from (a .args .at .w .clip) n;
+              inside = ready-readable (a .pre .0) .inside (a .args .at .w .clip) n;
+              valued = a .pre .0 .accepted .values;
+              flagged = a .pre .0 .accepted .marks;
+              passing = run-passing (a .pre .0) (a .args .at .p) (a .args .at .w) (window a) (full a) (a .pre .1 .1 .0) (a .args .tops .now) (a .args .k) (point a) (a .args .i) (a .args .l) (a .args .h) (onset a) (entryIs (c .entry-of-sample .result)) (l .lesser .result) S read;
+            };
+            says = λ j x y. run-says (a .pre .0) (a .args .at .p) (a .args .at .w) (window a) (full a) (a .pre .1 .1 .0) (a .args .tops .now) (a .args .k) (point a) (a .args .i) (a .args .l) (a .args .h) (onset a) j x (omega arith) (omega (arith, S .high));
+          });
       spot = a .pre .1 .0 .spot;
     }
 
@@ -203,15 +189,7 @@ pub run-step-spec : {M : Type 1} → statement M
 run-step-spec =
     tie.close
     (tie.spec
-    add-next
-    mul-x0
-    shared-slice-read-x0
-    mul-y0
-    shared-slice-read-y0
-    mul-x1
-    shared-slice-read-x1
-    mul-y1
-    shared-slice-read-y1
+    segment-at-requires
     key-requires
     sub-lesser
     lesser-requires

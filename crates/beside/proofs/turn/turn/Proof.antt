@@ -2,7 +2,6 @@
 use native.Mathlib.Omega.{arith}
 use denote.Ref.{now}
 use borrow.Author.Tests.{not-true, not-false}
-use Rattle.definitions.specs.Explicit.{knot}
 use Rattle.beside.specs.Turns.{isBeyond, turn-next}
 use borrow.Author.Needs.{needs}
 use Rattle.beside.proofs.turn.turn.Statement.{statement}
@@ -22,7 +21,7 @@ returns c =
     let b = c .before .before .before in
     let a = b .before .before .args in
     let h = b .begins-at .ensures .1 (not-true (b .begins-at .result) (c .before .before .if1 .taken)) in
-    turn-next (isBeyond (a .t) (knot (a .sa) (a .ca), knot (a .sb) (a .cb))) (now (a .cs)) (a .hint) (h .0) (h .1) (c .before .begins-at2 .ensures .0 (c .if2 .taken))
+    turn-next (isBeyond (a .t) (a .s .a, a .s .b)) (now (a .cs)) (a .hint) (h .0) (h .1) (c .before .begins-at2 .ensures .0 (c .if2 .taken))
 
 search-turn-requires : tie.Need-search-turn-requires
 search-turn-requires c κs = search needs

@@ -1,11 +1,12 @@
 -- `near::tops::reach_before` meets its contract: top stands for the segments before k. Assumes nothing.
 use Prim.Native.Nat.{ℕ, _-_, _≤_}
-use mathlib.Core.Path.{_≡_, subst}
+use mathlib.Core.Path.{_≡_, sym, subst}
 use native.Mathlib.Omega.{arith}
 use lib.Ieee.{ofBits, neg, div, fits, isNan}
 use denote.Ref.{now}
-use Rattle.near.specs.Tops.{ReachOf, reach-none, reach-next, segment-here}
-use borrow.Author.Needs.{needs}
+use Rattle.definitions.specs.declared.Segment.{Segment}
+use Rattle.window.specs.Near.{SoundSegment}
+use Rattle.near.specs.Tops.{NewTop, ReachOf, reach-none, reach-next, segment-here}
 use Rattle.near.proofs.tops.reach_before.Statement.{statement}
 use Rattle.near.proofs.tops.reach_before.Tie as tie
 
@@ -22,47 +23,28 @@ loop-holds : tie.Need-loop-holds Inv-loop μ-loop
 unfolding ofBits neg div fits isNan
 loop-holds c = (omega arith, reach-none _ _ _ (tt, tt))
 
-add-next : tie.Need-add-next Inv-loop μ-loop
-add-next c = omega arith
-
-mul-next-top : tie.Need-mul-next-top Inv-loop μ-loop
-mul-next-top c = search needs
-
-shared-slice-read-next-top : tie.Need-shared-slice-read-next-top Inv-loop μ-loop
-shared-slice-read-next-top c = omega arith
-
-mul-next-top-2 : tie.Need-mul-next-top-2 Inv-loop μ-loop
-mul-next-top-2 c = search needs
-
-shared-slice-read-next-top-2 : tie.Need-shared-slice-read-next-top-2 Inv-loop μ-loop
-shared-slice-read-next-top-2 c = omega arith
-
-mul-next-top-3 : tie.Need-mul-next-top-3 Inv-loop μ-loop
-mul-next-top-3 c = search needs
-
-shared-slice-read-next-top-3 : tie.Need-shared-slice-read-next-top-3 Inv-loop μ-loop
-shared-slice-read-next-top-3 c = omega arith
-
-mul-next-top-4 : tie.Need-mul-next-top-4 Inv-loop μ-loop
-mul-next-top-4 c = search needs
-
-shared-slice-read-next-top-4 : tie.Need-shared-slice-read-next-top-4 Inv-loop μ-loop
-shared-slice-read-next-top-4 c = omega arith
+segment-at-requires : tie.Need-segment-at-requires Inv-loop μ-loop
+segment-at-requires c κs = let s = entry (c .before) in (s .pre .0, omega (arith, s .pre .1 .1))
 
 next-top-requires : tie.Need-next-top-requires Inv-loop μ-loop
 next-top-requires c κs =
-    let l = c .before .before .before .before .before in
+    let l = c .before .before in
     let s = entry l in
-    (segment-here (now (s .args .xs)) (now (s .args .ys)) (s .pre .0) (s .pre .1 .0) (l .loop .k) (omega arith), l .loop .inv .1 .number)
+    (subst (λ (q : Segment). SoundSegment (q .a, q .b)) (sym (c .segment-at .ensures)) (segment-here (now (s .args .xs)) (now (s .args .ys)) (s .pre .0) (s .pre .1 .0) (l .loop .k) (omega (arith, s .pre .1 .1))), l .loop .inv .1 .number)
+
+add-k : tie.Need-add-k Inv-loop μ-loop
+add-k c = omega arith
 
 loop-less : tie.Need-loop-less Inv-loop μ-loop
 loop-less c = omega arith
 
 loop-again : tie.Need-loop-again Inv-loop μ-loop
 loop-again c =
-    let l = c .before .before .before .before .before .before in
+    let m = c .before in
+    let l = m .before .before in
     let a = entry l .args in
-    (omega arith, reach-next (now (a .xs)) (now (a .ys)) (l .loop .top) (c .next-top .result) (l .loop .k) (l .loop .inv .1) (c .next-top .ensures))
+    let N = subst (λ (q : Segment). NewTop (q .a, q .b) (l .loop .top) (c .next-top .result)) (m .segment-at .ensures) (c .next-top .ensures) in
+    (omega arith, reach-next (now (a .xs)) (now (a .ys)) (l .loop .top) (c .next-top .result) (l .loop .k) (l .loop .inv .1) N)
 
 returns : tie.Need-returns Inv-loop μ-loop
 returns c =
@@ -78,16 +60,9 @@ reach-before-spec =
     Inv-loop
     μ-loop
     loop-holds
-    add-next
-    mul-next-top
-    shared-slice-read-next-top
-    mul-next-top-2
-    shared-slice-read-next-top-2
-    mul-next-top-3
-    shared-slice-read-next-top-3
-    mul-next-top-4
-    shared-slice-read-next-top-4
+    segment-at-requires
     next-top-requires
+    add-k
     loop-less
     loop-again
     returns)

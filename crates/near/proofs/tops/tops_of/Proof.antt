@@ -1,10 +1,13 @@
 -- `near::tops::tops_of` meets its contract: the tops of the segments before i stand. Assumes nothing.
 use Prim.Native.Nat.{_-_, _≤_}
+use mathlib.Core.Path.{sym, subst}
 use native.Mathlib.Omega.{arith}
 use lib.ListN.{length}
 use lib.Ieee.{ofBits, neg, div, fits, isNan}
 use denote.Ref.{now}
-use Rattle.near.specs.Tops.{TopsTo, tops-none, tops-next, tops-all, segment-here}
+use Rattle.definitions.specs.declared.Segment.{Segment}
+use Rattle.window.specs.Near.{SoundSegment}
+use Rattle.near.specs.Tops.{NewTop, TopsTo, tops-none, tops-next, tops-all, segment-here}
 use borrow.Author.Needs.{needs}
 use Rattle.near.proofs.tops.tops_of.Statement.{statement}
 use Rattle.near.proofs.tops.tops_of.Tie as tie
@@ -28,53 +31,34 @@ loop-holds c = (tops-none _ _ _ _ (c .some-tops .ensures) (tt, tt), omega arith)
 add-loop : tie.Need-add-loop Inv-loop μ-loop
 add-loop c = omega arith
 
-add-next : tie.Need-add-next Inv-loop μ-loop
-add-next c = omega arith
-
-mul-next-top : tie.Need-mul-next-top Inv-loop μ-loop
-mul-next-top c = search needs
-
-shared-slice-read-next-top : tie.Need-shared-slice-read-next-top Inv-loop μ-loop
-shared-slice-read-next-top c = omega arith
-
-mul-next-top-2 : tie.Need-mul-next-top-2 Inv-loop μ-loop
-mul-next-top-2 c = search needs
-
-shared-slice-read-next-top-2 : tie.Need-shared-slice-read-next-top-2 Inv-loop μ-loop
-shared-slice-read-next-top-2 c = omega arith
-
-mul-next-top-3 : tie.Need-mul-next-top-3 Inv-loop μ-loop
-mul-next-top-3 c = search needs
-
-shared-slice-read-next-top-3 : tie.Need-shared-slice-read-next-top-3 Inv-loop μ-loop
-shared-slice-read-next-top-3 c = omega arith
-
-mul-next-top-4 : tie.Need-mul-next-top-4 Inv-loop μ-loop
-mul-next-top-4 c = search needs
-
-shared-slice-read-next-top-4 : tie.Need-shared-slice-read-next-top-4 Inv-loop μ-loop
-shared-slice-read-next-top-4 c = omega arith
+segment-at-requires : tie.Need-segment-at-requires Inv-loop μ-loop
+segment-at-requires c κs = let s = entry (c .before) in (s .pre .0, omega arith)
 
 next-top-requires : tie.Need-next-top-requires Inv-loop μ-loop
 next-top-requires c κs =
-    let k = c .before .before .before .before .before in
+    let k = c .before .before in
     let s = entry k in
-    (segment-here (now (s .args .xs)) (now (s .args .ys)) (s .pre .0) (s .pre .1 .1) (k .loop .i) (omega arith), k .loop .inv .0 .here .number)
+    (subst (λ (q : Segment). SoundSegment (q .a, q .b)) (sym (c .segment-at .ensures)) (segment-here (now (s .args .xs)) (now (s .args .ys)) (s .pre .0) (s .pre .1 .1) (k .loop .i) (omega arith)), k .loop .inv .0 .here .number)
 
 mul-items : tie.Need-mul-items Inv-loop μ-loop
 mul-items c = search needs
 
 array-write-items : tie.Need-array-write-items Inv-loop μ-loop
-array-write-items c = let k = c .before .before .before .before .before .before in omega (arith, k .loop .inv .0 .long, entry k .pre .1 .0)
+array-write-items c = let k = c .before .before .before in omega (arith, k .loop .inv .0 .long, entry k .pre .1 .0)
+
+add-i : tie.Need-add-i Inv-loop μ-loop
+add-i c = omega arith
 
 loop-less : tie.Need-loop-less Inv-loop μ-loop
 loop-less c = omega arith
 
 loop-again : tie.Need-loop-again Inv-loop μ-loop
 loop-again c =
-    let k = c .before .before .before .before .before .before in
+    let m = c .before in
+    let k = m .before .before in
     let s = entry k in
-    (tops-next (now (s .args .xs)) (now (s .args .ys)) (k .loop .items) (k .loop .top) (c .next-top .result) (k .loop .i) (omega (arith, k .loop .inv .0 .long, s .pre .1 .0)) (k .loop .inv .0) (c .next-top .ensures), omega arith)
+    let N = subst (λ (q : Segment). NewTop (q .a, q .b) (k .loop .top) (c .next-top .result)) (m .segment-at .ensures) (c .next-top .ensures) in
+    (tops-next (now (s .args .xs)) (now (s .args .ys)) (k .loop .items) (k .loop .top) (c .next-top .result) (k .loop .i) (omega (arith, k .loop .inv .0 .long, s .pre .1 .0)) (k .loop .inv .0) N, omega arith)
 
 returns : tie.Need-returns Inv-loop μ-loop
 returns c =
@@ -91,18 +75,11 @@ tops-of-spec =
     some-tops-requires
     loop-holds
     add-loop
-    add-next
-    mul-next-top
-    shared-slice-read-next-top
-    mul-next-top-2
-    shared-slice-read-next-top-2
-    mul-next-top-3
-    shared-slice-read-next-top-3
-    mul-next-top-4
-    shared-slice-read-next-top-4
+    segment-at-requires
     next-top-requires
     mul-items
     array-write-items
+    add-i
     loop-less
     loop-again
     returns)

@@ -5,7 +5,6 @@ use native.Mathlib.Omega.{arith}
 use borrow.Author.Needs.{needs}
 use lib.Ieee.{Float}
 use Rattle.definitions.specs.declared.Knot.{Knot}
-use Rattle.definitions.specs.Explicit.{knot}
 use Rattle.definitions.specs.Track.{Entry, Outputs}
 use Rattle.beside.specs.Turns.{isBeyond, Turn}
 use Rattle.steps.specs.Entries.{entryIs}
@@ -21,17 +20,17 @@ use Rattle.reading.proofs.passing.fill_passed.Statement.{statement}
 use Rattle.reading.proofs.passing.fill_passed.Tie as tie
 
 abbrev Inv-loop : tie.InvT-loop
-Inv-loop cs vs ms floor x0 y0 x1 y1 n k hi room slot outtimes₀ outvalues₀ outmarks₀ line at₀ place₀ held₀ count₀ outtimes outvalues outmarks at place held count =
-    (at ≤ hi) × Passes cs (knot x0 y0, knot x1 y1) place at
-    × Stands (passingAt cs vs ms (knot x0 y0, knot x1 y1) floor) k room slot (outputs outtimes₀ outvalues₀ outmarks₀) (outputs outtimes outvalues outmarks) at (entryIs held) count
+Inv-loop cs vs ms floor s n k hi room slot outtimes₀ outvalues₀ outmarks₀ line at₀ place₀ held₀ count₀ outtimes outvalues outmarks at place held count =
+    (at ≤ hi) × Passes cs (s .a, s .b) place at
+    × Stands (passingAt cs vs ms (s .a, s .b) floor) k room slot (outputs outtimes₀ outvalues₀ outmarks₀) (outputs outtimes outvalues outmarks) at (entryIs held) count
 
 abbrev μ-loop : tie.MeasureT-loop
-μ-loop cs vs ms floor x0 y0 x1 y1 n k hi room slot outtimes₀ outvalues₀ outmarks₀ line at₀ place₀ held₀ count₀ outtimes outvalues outmarks at place held count =
-    left cs (knot x0 y0, knot x1 y1) place
+μ-loop cs vs ms floor s n k hi room slot outtimes₀ outvalues₀ outmarks₀ line at₀ place₀ held₀ count₀ outtimes outvalues outmarks at place held count =
+    left cs (s .a, s .b) place
 
 -- from the function's entry: the segment, what is asked, what is read, the outputs
 abbrev q : tie.Start Inv-loop μ-loop → Knot × Knot
-q a = (knot (a .args .x0) (a .args .y0), knot (a .args .x1) (a .args .y1))
+q a = (a .args .s .a, a .args .s .b)
 
 abbrev w : tie.Start Inv-loop μ-loop → ℕ → Entry
 w a = passingAt (a .args .cs .now) (a .args .vs .now) (a .args .ms .now) (q a) (a .args .floor)

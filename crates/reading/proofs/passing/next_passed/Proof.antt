@@ -3,7 +3,6 @@ use native.Mathlib.Omega.{arith}
 use Prim.Native.Nat.{suc, _-_}
 use mathlib.Core.Path.{_≡_}
 use Rattle.definitions.specs.declared.Knot.{Knot}
-use Rattle.definitions.specs.Explicit.{knot}
 use Rattle.set_laws.specs.Tests.{holds}
 use Rattle.reading.proofs.Passages.{end-up, over-end, span-up, step-up, end-down, under-end, span-down, step-down, end-flat}
 use borrow.Author.Needs.{needs}
@@ -12,7 +11,7 @@ use Rattle.reading.proofs.passing.next_passed.Tie as tie
 
 -- the segment
 abbrev q : tie.Start → Knot × Knot
-q a = (knot (a .args .x0) (a .args .y0), knot (a .args .x1) (a .args .y1))
+q a = (a .args .s .a, a .args .s .b)
 
 mul-if3 : tie.Need-mul-if3
 mul-if3 c = search needs

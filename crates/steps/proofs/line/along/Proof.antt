@@ -1,7 +1,7 @@
 -- `line::along` meets its contract, by the line's form. Assumes nothing.
 use mathlib.Core.Path.{sym, _∙_}
 use borrow.Author.Needs.{needs}
-use Rattle.steps.specs.Lines.{along-plain, along-flat, along-start, along-on}
+use Rattle.steps.specs.Lines.{along-plain, along-flat, along-segment}
 use Rattle.steps.proofs.line.along.Statement.{statement}
 use Rattle.steps.proofs.line.along.Tie as tie
 
@@ -14,26 +14,20 @@ enum-known-line c = search needs
 enum-known-line-2 : tie.Need-enum-known-line-2
 enum-known-line-2 c = search needs
 
-returns : tie.Need-returns
-returns c =
-    let a = c .before .before .before .before .args in
-    let g = c .before .before .line2 .given in
-    sym (along-start (a .line) (a .t) (g .0 .0) (g .0 .1 .0) (g .0 .1 .1 .0) (g .0 .1 .1 .1 .0) (g .1) (c .if1 .taken))
+clip-time-requires : tie.Need-clip-time-requires
+clip-time-requires c κs = search needs
 
-lerp-requires : tie.Need-lerp-requires
-lerp-requires c κs = search needs
+returns : tie.Need-returns
+returns c = let a = c .before .before .args in sym (along-plain (a .line) (a .t) (c .enum-told .given .1))
 
 returns-2 : tie.Need-returns-2
-returns-2 c = let a = c .before .before .args in sym (along-plain (a .line) (a .t) (c .enum-told .given .1))
+returns-2 c = let a = c .before .before .before .args in sym (along-flat (a .line) (a .t) (c .before .line .given .0 .0) (c .before .line .given .1))
 
 returns-3 : tie.Need-returns-3
-returns-3 c = let a = c .before .before .before .args in sym (along-flat (a .line) (a .t) (c .before .line .given .0 .0) (c .before .line .given .1))
-
-returns-4 : tie.Need-returns-4
-returns-4 c =
-    let a = c .before .before .before .before .before .args in
-    let g = c .before .before .before .line2 .given in
-    c .lerp .ensures ∙ sym (along-on (a .line) (a .t) (g .0 .0) (g .0 .1 .0) (g .0 .1 .1 .0) (g .0 .1 .1 .1 .0) (g .1) (c .before .if1 .left))
+returns-3 c =
+    let a = c .before .before .before .before .args in
+    let g = c .before .before .line2 .given in
+    c .clip-time .ensures ∙ sym (along-segment (a .line) (a .t) (g .0 .0) (g .1))
 
 pub along-spec : {M : Type 1} → statement M
-along-spec = tie.close (tie.spec enum-told enum-known-line enum-known-line-2 returns lerp-requires returns-2 returns-3 returns-4)
+along-spec = tie.close (tie.spec enum-told enum-known-line enum-known-line-2 clip-time-requires returns returns-2 returns-3)

@@ -6,7 +6,6 @@ use native.Mathlib.Omega.{arith}
 use lib.ListN.{length}
 use lib.Ieee.{Float}
 use Rattle.definitions.specs.declared.Knot.{Knot}
-use Rattle.definitions.specs.Explicit.{knot}
 use Rattle.steps.specs.Entries.{entryIs}
 use Rattle.reading.specs.Walks.{outputs, Walked}
 use Rattle.reading.specs.Passages.{passingAt, Passing}
@@ -28,7 +27,7 @@ abbrev floor : (c : tie.After-known-told2) → Float
 floor c = c .before .way2 .given .0 .1 .0
 
 abbrev pair : (c : tie.After-known-told2) → Knot × Knot
-pair c = (knot (c .before .way2 .given .0 .1 .1 .0) (c .before .way2 .given .0 .1 .1 .1 .0), knot (c .before .way2 .given .0 .1 .1 .1 .1 .0) (c .before .way2 .given .0 .1 .1 .1 .1 .1 .0))
+pair c = let g = c .before .way2 .given .0 .1 .1 .0 in (g .a, g .b)
 
 run : (c : tie.After-known-told2) → PastRun (entry c .args .times .now) (entry c .args .values .now) (entry c .args .marks .now) (entry c .args .ends .now) (clip c) (pair c) (floor c) (entryIs (entry c .args .s .here)) (entry c .args .k) (entry c .args .s .hi)
 run c =
@@ -143,7 +142,7 @@ returns-2 c =
     let t = e .before .before in
     let a = entry t .args in
     let r = f .fill-passed .result in
-    let o = f .fill-passed .last .1 .1 .1 .1 .1 .1 .1 .1 .1 .1 .1 .1 .1 .1 in
+    let o = f .fill-passed .last .1 .1 .1 .1 .1 .1 .1 .1 .1 .1 .1 in
     let p = outputs (a .outtimes .now) (a .outvalues .now) (a .outmarks .now) in
     let q = outputs (o .0) (o .1 .0) (o .1 .1 .0) in
     subst (λ (d : Way). Walked (saysBy (a .times .now) (a .values .now) (a .marks .now) (a .ends .now) d (entryIs (a .s .here))) (a .k) (a .s .hi) (a .room) (a .n) p q r)

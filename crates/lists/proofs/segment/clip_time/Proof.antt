@@ -1,8 +1,8 @@
--- `lists::on_segment` meets its contract. Assumes nothing.
+-- `lists::segment::clip_time` meets its contract. Assumes nothing.
 use borrow.Author.Needs.{needs}
 use Rattle.definitions.specs.Timing.{onSegment}
-use Rattle.lists.proofs.on_segment.Statement.{statement}
-use Rattle.lists.proofs.on_segment.Tie as tie
+use Rattle.lists.proofs.segment.clip_time.Statement.{statement}
+use Rattle.lists.proofs.segment.clip_time.Tie as tie
 
 returns : tie.Need-returns
 unfolding onSegment
@@ -15,5 +15,5 @@ returns-2 : tie.Need-returns-2
 unfolding onSegment
 returns-2 c = rw (c .before .if1 .left) (c .lerp .ensures)
 
-pub on-segment-spec : {M : Type 1} → statement M
-on-segment-spec = tie.close (tie.spec returns lerp-requires returns-2)
+pub clip-time-spec : {M : Type 1} → statement M
+clip-time-spec = tie.close (tie.spec returns lerp-requires returns-2)

@@ -1,0 +1,25 @@
+-- `lists::segment::segment_at` meets its contract. Assumes nothing.
+use mathlib.Core.Path.{ap₂}
+use borrow.Author.Needs.{needs}
+use Rattle.definitions.specs.declared.Knot.{Knot}
+use Rattle.definitions.specs.declared.Segment.{Segment}
+use Rattle.lists.proofs.segment.segment_at.Statement.{statement}
+use Rattle.lists.proofs.segment.segment_at.Tie as tie
+
+abbrev joined : Knot → Knot → Segment
+joined a b = record { a = a; b = b }
+
+knot-at-requires : tie.Need-knot-at-requires
+knot-at-requires c κs = search needs
+
+add-knot-at : tie.Need-add-knot-at
+add-knot-at c = search needs
+
+knot-at-requires-2 : tie.Need-knot-at-requires-2
+knot-at-requires-2 c κs = search needs
+
+returns : tie.Need-returns
+returns c = ap₂ joined (c .before .knot-at .ensures) (c .knot-at2 .ensures)
+
+pub segment-at-spec : {M : Type 1} → statement M
+segment-at-spec = tie.close (tie.spec knot-at-requires add-knot-at knot-at-requires-2 returns)
