@@ -10,14 +10,17 @@ use native.Mathlib.Omega.{arith}
 use lib.Dec.{T}
 use lib.ListN.{length, getD}
 use lib.Ieee.{Float, nan, isNan, eq, lt, le}
-use Rattle.gf.specs.Key.{key, key→lt, key→le, le→key, key→eq, lt→key, finite-no-nan, le-or-lt}
+use Rattle.gf.specs.Key.{key}
+use Rattle.gf.proofs.KeyLaws.{key→lt, key→le, le→key, key→eq, lt→key, finite-no-nan, le-or-lt}
 use Rattle.definitions.specs.Lists.{any}
 use Rattle.definitions.specs.Doubles.{FiniteDouble}
 use Rattle.definitions.specs.Timing.{lastAtMost}
-use Rattle.set_laws.specs.Tests.{is-true}
-use Rattle.set_laws.specs.Every.{Every, every-at, Chain, chain-far, chain-map}
-use Rattle.set_laws.specs.Places.{Le, Ascending, atMost, beyond, last-is, key-at-most, key-above}
-use Rattle.cell_laws.specs.Every.{every-by, or-l, or-r}
+use Rattle.set_laws.proofs.Tests.{is-true}
+use Rattle.set_laws.specs.Every.{Every, Chain}
+use Rattle.set_laws.proofs.Every.{every-at, chain-far, chain-map}
+use Rattle.set_laws.specs.Places.{Le, Ascending}
+use Rattle.set_laws.proofs.Places.{atMost, beyond, last-is, key-at-most, key-above}
+use Rattle.cell_laws.proofs.Every.{every-by, or-l, or-r}
 use Rattle.cell_laws.specs.Neighbours.{IsUpper}
 
 -- a time at a place is listed

@@ -18,13 +18,16 @@ use Rattle.definitions.specs.ClipSet.{ClipSet, stage}
 use Rattle.definitions.specs.Samples.{Samples, clipBegin, clipEnd}
 use Rattle.definitions.specs.Value.{firstReading, interpolateMissingValue, manifestDefault, _orElse_}
 use Rattle.cell_laws.specs.Unpacked.{Ready, setOf, samplesOf, start, activeOf}
-use Rattle.window.specs.Parts.{partOf, ready-clip, ready-readable}
+use Rattle.window.specs.Parts.{partOf}
+use Rattle.window.proofs.Parts.{ready-clip, ready-readable}
 use Rattle.window.specs.Windows.{minOf, maxOf, ifOwn}
-use Rattle.direct.specs.Reads.{readStart, read-none, start-blocked, start-read, from-on, back-on}
+use Rattle.direct.specs.Reads.{readStart}
+use Rattle.direct.proofs.ReadsLaws.{read-none, start-blocked, start-read, from-on, back-on}
 use Rattle.direct.specs.Sources.{standIn}
 use Rattle.near.specs.declared.Window.{Window}
 use Rattle.near.specs.Windowed.{samplesIn}
-use Rattle.value.specs.Handed.{WindowIs, window-gap}
+use Rattle.value.specs.Handed.{WindowIs}
+use Rattle.value.proofs.Handed.{window-gap}
 
 module _ {starts : List Float} {clips : List ℕ} {xs ys blocks : List Float} {m : Manifest} {times values : List Float} {marks ends : List ℕ} (R : Ready starts clips xs ys blocks m times values marks ends) where
   abbrev set : ClipSet

@@ -7,19 +7,23 @@ use Prim.Native.Nat.{ℕ, _-_, _<_, min}
 use native.Mathlib.Omega.{arith}
 use lib.Dec.{T}
 use lib.Ieee.{Float, isNan}
-use Rattle.gf.specs.Key.{key, ofKey, ofKey-fits, ofKey-no-nan, le→key, le-no-nan}
+use Rattle.gf.specs.Key.{key, ofKey}
+use Rattle.gf.proofs.KeyLaws.{ofKey-fits, ofKey-no-nan, le→key, le-no-nan}
 use Rattle.definitions.specs.ClipSet.{ClipSet, stage}
 use Rattle.definitions.specs.Samples.{Samples, clipTimes}
 use Rattle.definitions.specs.Timing.{lastAtMost}
 use Rattle.set_laws.specs.Every.{Every}
 use Rattle.cell_laws.specs.Places.{Fits}
 use Rattle.cell_laws.specs.Knots as Knots
-use Rattle.cell_laws.specs.Direct.{SoundSet, SoundSamples}
-use Rattle.cell_laws.specs.Stretches.{boundaries, boundaries-fit}
-use Rattle.cell_laws.specs.Cells.{Cell, reading, cellOf, cellPlace}
-use Rattle.cell_laws.specs.Ends.{end-above}
-use Rattle.cell_laws.specs.Neighbours.{upper-found, upper-none}
-use Rattle.cell_laws.specs.Keys.{Keys, NonePassed, cellPlaceAt, lastIn, endAt, end-key, last-keys, end-clear}
+use Rattle.cell_laws.proofs.Direct.{SoundSet, SoundSamples}
+use Rattle.cell_laws.specs.Stretches.{boundaries}
+use Rattle.cell_laws.proofs.Stretches.{boundaries-fit}
+use Rattle.cell_laws.specs.Cells.{Cell, reading, cellOf}
+use Rattle.cell_laws.proofs.Cells.{cellPlace}
+use Rattle.cell_laws.proofs.Ends.{end-above}
+use Rattle.cell_laws.proofs.Neighbours.{upper-found, upper-none}
+use Rattle.cell_laws.specs.Keys.{Keys}
+use Rattle.cell_laws.proofs.Keys.{NonePassed, cellPlaceAt, lastIn, endAt, end-key, last-keys, end-clear}
 use Rattle.window.specs.declared.Bound.{Bound}
 use Rattle.window.specs.declared.Bound.the-variants.{At, Nothing}
 use Rattle.window.specs.Bounds.{UpperIs}

@@ -22,20 +22,25 @@ use Rattle.definitions.specs.Value.{contributes, blockedAt, manifestDefault, ga
 use Rattle.cell_laws.specs.Knots.{lineOf}
 use Rattle.cell_laws.specs.Stretches.{severalStarts, boundaries}
 use Rattle.cell_laws.specs.Cells as Cells
-use Rattle.cell_laws.specs.Neighbours.{IsLower, IsUpper, cell-held, cell-jump, cell-below, cell-last, cell-few}
-use Rattle.cell_laws.specs.Unpacked.{Ready, setOf, samplesOf, knotsOf, start, knot-times}
+use Rattle.cell_laws.proofs.Cells as Cells-laws
+use Rattle.cell_laws.specs.Neighbours.{IsLower, IsUpper}
+use Rattle.cell_laws.proofs.Neighbours.{cell-held, cell-jump, cell-below, cell-last, cell-few}
+use Rattle.cell_laws.specs.Unpacked.{Ready, setOf, samplesOf, knotsOf, start}
+use Rattle.cell_laws.proofs.Unpacked.{knot-times}
 use Rattle.window.specs.declared.Bound.{Bound}
 use Rattle.window.specs.declared.Bounds.{Bounds}
 use Rattle.window.specs.declared.Bound.the-variants.{At, Nothing}
 use Rattle.window.specs.Bounds.{LowerIs, UpperIs, NeighboursAre}
-use Rattle.window.specs.Parts.{partOf, ready-clip}
+use Rattle.window.specs.Parts.{partOf}
+use Rattle.window.proofs.Parts.{ready-clip}
 use Rattle.window.specs.Windows.{ifOwn}
 use Rattle.steps.specs.declared.line.Line.{Line}
 use Rattle.steps.specs.Lines.{lineIs}
 use Rattle.near.specs.declared.Window.{Window}
 use Rattle.near.specs.declared.Near.{Near}
 use Rattle.near.specs.Windowed.{samplesIn, windowTimes, windowSource, boundsOf}
-use Rattle.value.specs.Handed.{WindowIs, window-gathered, window-held}
+use Rattle.value.specs.Handed.{WindowIs}
+use Rattle.value.proofs.Handed.{window-gathered, window-held}
 use Rattle.cell.specs.declared.Cell.{Cell}
 use Rattle.cell.specs.declared.Cell.the-variants.{Constant, Reading}
 use Rattle.cell.specs.Pieces.{heldOf, DirectIs, PieceIs}
@@ -139,14 +144,14 @@ module _ {starts : List Float} {clips : List ℕ} {xs ys blocks : List Float} {m
           go false f = blocked ready lent t p place active (start-at R p (W .place)) (contributing ∙ f)
 
       pub gap-stands : w .gap ≡ (manifestDefault (setOf (length ends) starts clips xs ys blocks m) orElse gapSource (setOf (length ends) starts clips xs ys blocks m) (samplesOf times values marks ends) p)
-      unfolding windowSource Cells.readCell
-      gap-stands = sym (sym read ∙ sym (Cells.direct-reads ready lent t) ∙ W .direct t (sym at) ∙ gap-read)
+      unfolding windowSource Cells-laws.readCell
+      gap-stands = sym (sym read ∙ sym (Cells-laws.direct-reads ready lent t) ∙ W .direct t (sym at) ∙ gap-read)
         where
           gap-read : windowSource xs ys times w t ≡ w .gap
           gap-read = rw (le-ltb (w .begin) (w .end) h)
 
-          read : Cells.readCell lent (Cells.directCell ready lent (stage t)) t ≡ rest
-          read = ap (λ (c : Cells.Cell). Cells.readCell lent c t) gap-cell
+          read : Cells-laws.readCell lent (Cells.directCell ready lent (stage t)) t ≡ rest
+          read = ap (λ (c : Cells.Cell). Cells-laws.readCell lent c t) gap-cell
 
       pub direct-gap : DirectIs (setOf (length ends) starts clips xs ys blocks m) (samplesOf times values marks ends) t (Constant (w .gap))
       direct-gap = record { is = ap Cells.constant gap-stands ∙ sym gap-cell; clip = tt }

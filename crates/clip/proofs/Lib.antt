@@ -5,3 +5,4 @@ pub mod Settled
 pub mod Moved
 pub mod Standing
 pub mod Retimed
+pub mod Laws

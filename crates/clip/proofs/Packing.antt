@@ -5,9 +5,9 @@ use mathlib.Core.List.{List, map}
 use native.Mathlib.Omega.{arith}
 use lib.ListN.{length, getD, take, length-map}
 use lib.Seq.{length-take-le, getD-take}
-use Rattle.lists.specs.Filled.{Filled, fill-end}
+use Rattle.lists.proofs.Filled.{Filled, fill-end}
 use Rattle.clip.specs.Holding.{Holds}
-use Rattle.clip.specs.Laws.{mapped-at}
+use Rattle.clip.proofs.Laws.{mapped-at}
 
 module _ {A : Type 0} (most : ℕ) where
   pub packed : (l items : List A) (n i : ℕ) → Filled l items i → length items ≡ most → length l ≡ n → n ≤ i → Holds most items n l

@@ -9,7 +9,7 @@ use Rattle.definitions.specs.declared.LayerOffset.{LayerOffset}
 use Rattle.definitions.specs.Retime.{isIdentity, moved, sorted, retimeStageTimes, movedNumber}
 use Rattle.set_laws.specs.Places.{Fits}
 use Rattle.set_laws.specs.Sound.{Sound}
-use Rattle.set_laws.specs.SoundRetime.{retime-sound}
+use Rattle.set_laws.proofs.SoundRetime.{retime-sound}
 use Rattle.clip.specs.declared.ClipSet.{ClipSet}
 use Rattle.clip.specs.declared.Parsed.{Parsed}
 use Rattle.clip.specs.Holding.{Held, clipSetOf}

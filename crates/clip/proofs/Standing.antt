@@ -7,18 +7,21 @@ use native.Mathlib.Omega.{arith}
 use lib.Dec.{T}
 use lib.Ieee.{Float, eq}
 use borrow.Author.Tests.{le-ltb}
-use Rattle.gf.specs.Key.{key, lt→key, eq→key}
+use Rattle.gf.specs.Key.{key}
+use Rattle.gf.proofs.KeyLaws.{lt→key, eq→key}
 use Rattle.gf.specs.Doubles.{storable}
 use Rattle.definitions.specs.Lists.{any, pairsFrom}
 use Rattle.definitions.specs.Doubles.{twoEqual}
 use Rattle.definitions.specs.ClipSet as Definitions
 use Rattle.definitions.specs.ClipSet.{markNone, activeTimes, knotTimes, anyUnstorable, beyondLimits, equalStarts, badDefaultMark}
-use Rattle.set_laws.specs.Tests.{is-false}
-use Rattle.set_laws.specs.Every.{Every, Chain, ChainFrom, every-map}
-use Rattle.set_laws.specs.Stored.{Stored, Lt, stored-number}
+use Rattle.set_laws.proofs.Tests.{is-false}
+use Rattle.set_laws.specs.Every.{Every, Chain, ChainFrom}
+use Rattle.set_laws.proofs.Every.{every-map}
+use Rattle.set_laws.specs.Stored.{Stored, Lt}
+use Rattle.set_laws.proofs.Stored.{stored-number}
 use Rattle.set_laws.specs.Sound.{Sound}
 use Rattle.clip.specs.Settling.{settleNumber}
-use Rattle.clip.specs.Laws.{every-storable}
+use Rattle.clip.proofs.Laws.{every-storable}
 
 pub stored-passes : (xs : List Float) → Every Stored xs → anyUnstorable xs ≡ false
 stored-passes xs e = every-storable xs (every-map Stored (λ (x : Float). T (storable x)) (λ x s. s .inside) xs e)

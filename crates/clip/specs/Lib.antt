@@ -2,4 +2,3 @@
 pub mod Holding
 pub mod Settling
 pub mod Retiming
-pub mod Laws

@@ -8,7 +8,8 @@ use lib.Dec.{T, not-T}
 use lib.ListN.{getElem?}
 use lib.Ieee.{Float, round, add, sub, mul, div, neg, lt, le, eq, toBits, ofBits, fits}
 use lib.Ieee.Bits.{is-true, is-false}
-use Rattle.gf.specs.Key.{key, ofKey, lt-not-le, eq→key}
+use Rattle.gf.specs.Key.{key, ofKey}
+use Rattle.gf.proofs.KeyLaws.{lt-not-le, eq→key}
 use Rattle.definitions.specs.declared.Answer.the-variants.{Value}
 use Rattle.definitions.specs.ClipSet.{ClipSet, stage}
 use Rattle.gf.specs.Doubles.{totalKey, truncated}

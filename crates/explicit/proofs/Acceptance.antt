@@ -13,15 +13,17 @@ use Rattle.definitions.specs.Lists.{zipWith}
 use Rattle.definitions.specs.ClipSet.{activeTimes, knotTimes, anyUnstorable, nanDefault, beyondLimits}
 use Rattle.definitions.specs.Explicit.{ExplicitFields, activation, knot, explicitSet, explicit1, explicit2, explicit3, explicitNumber}
 use Rattle.definitions.specs.Retime.{sorted}
-use Rattle.set_laws.specs.Tests.{or-false, passed}
-use Rattle.set_laws.specs.Every.{Every, any-not-every, every-to-map, every-zip-left}
-use Rattle.set_laws.specs.Sound.{Sound, sorted-times, sorted-xs}
-use Rattle.set_laws.specs.SoundExplicit.{ExplicitFits, ExplicitLimits, explicit-limits, explicit-sound}
+use Rattle.set_laws.proofs.Tests.{or-false, passed}
+use Rattle.set_laws.specs.Every.{Every}
+use Rattle.set_laws.proofs.Every.{any-not-every, every-to-map, every-zip-left}
+use Rattle.set_laws.specs.Sound.{Sound}
+use Rattle.set_laws.proofs.Sound.{sorted-times, sorted-xs}
+use Rattle.set_laws.proofs.SoundExplicit.{ExplicitFits, ExplicitLimits, explicit-limits, explicit-sound}
 use Rattle.cell_laws.specs.Unpacked.{start, setOf}
 use Rattle.clip.specs.declared.Parsed.{Parsed}
 use Rattle.clip.specs.Settling.{settleNumber, Refuses, Settles}
 use Rattle.explicit.specs.Parsing.{explicitFields, anyNotClip, fieldsNumber, Parses}
-use Rattle.clip.specs.Laws.{same-number, every-storable}
+use Rattle.clip.proofs.Laws.{same-number, every-storable}
 
 -- ---- fields without 1, 2 and 3
 

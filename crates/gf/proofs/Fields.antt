@@ -16,7 +16,7 @@ use Rattle.gf.specs.declared.class.Class.{Class}
 use Rattle.gf.specs.declared.class.Class.the-variants.{Zero, Fraction, Whole, NotFinite}
 use Rattle.gf.specs.Doubles.{isWhole}
 use Rattle.gf.specs.Classes.{classOf}
-use Rattle.gf.specs.Key.{same-test}
+use Rattle.gf.proofs.KeyLaws.{same-test}
 
 -- ---- equal fractions are whole together
 

@@ -5,3 +5,11 @@ pub mod SignCleared
 pub mod Fields
 pub mod ClassArms
 pub mod ClassFigures
+pub mod Fraction
+pub mod Units
+pub mod Ops
+pub mod Rank
+pub mod KeyLaws
+pub mod Exactly
+pub mod LerpLaws
+pub mod ClipNumbers

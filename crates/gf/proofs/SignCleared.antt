@@ -12,8 +12,8 @@ use lib.Ieee.Fits.{down-pos, eq→eqb}
 use borrow.Author.Tests.{lt-ltb}
 use Rattle.gf.specs.Doubles.{abs}
 use Rattle.gf.specs.Exactly.{power, within}
-use Rattle.gf.specs.Key.{same-test}
-use Rattle.gf.specs.Rank.{rank, sign, toBits-rank, rank-fin, any-sign}
+use Rattle.gf.proofs.KeyLaws.{same-test}
+use Rattle.gf.proofs.Rank.{rank, sign, toBits-rank, rank-fin, any-sign}
 
 -- ---- the bits
 

@@ -3,3 +3,5 @@ pub mod ClipTimes
 pub mod Neighbours
 pub mod ByPlaces
 pub mod Beside
+pub mod Fronts
+pub mod Filled

@@ -13,7 +13,7 @@ use lib.Ieee.Scale.{finite}
 use lib.Ieee.Positive.{num, den, den-pos}
 use lib.Ieee.Nearest.{closest, closest-mono}
 use Rattle.gf.specs.Doubles.{storable, truncated, signBit}
-use Rattle.gf.specs.Exactly.{within-finite}
+use Rattle.gf.proofs.Exactly.{within-finite}
 use Rattle.definitions.specs.declared.ClipTime.{ClipTime}
 use Rattle.definitions.specs.Names.{HashPattern, minus, dot, digits, places, padded, wholeBody, decimals, fractionBody, body, format, name, split, readable}
 use Rattle.names.specs.declared.pattern.Pattern.{Pattern}

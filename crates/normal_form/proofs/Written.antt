@@ -11,15 +11,15 @@ use Rattle.definitions.specs.ClipSet.{maxSamples, anyUnstorable}
 use Rattle.definitions.specs.Samples.{samples2}
 use Rattle.definitions.specs.Normalize.{normalizeNumber}
 use Rattle.definitions.specs.Track.{Outputs, slots}
-use Rattle.set_laws.specs.Tests.{or-false}
+use Rattle.set_laws.proofs.Tests.{or-false}
 use Rattle.set_laws.specs.Every.{Every}
-use Rattle.set_laws.specs.Sorting.{every-sort, length-sort}
+use Rattle.set_laws.proofs.Sorting.{every-sort, length-sort}
 use Rattle.lists.specs.Placed.{Inside}
 use Rattle.normal_form.specs.Placed.{keyAt, inOrder}
 use Rattle.normal_form.specs.Runs.{Run, runs, firsts, lasts, RunsFrom}
 use Rattle.sdf.specs.declared.Counted.{Counted}
 use Rattle.normal_form.specs.Normalizes.{normalForm, outputs, Normalizes, listedNumber, InRuns}
-use Rattle.sdf.specs.Lent.{paired}
+use Rattle.sdf.proofs.Lent.{paired}
 use Rattle.lists.proofs.ByPlaces.{length-below, below-inside}
 use Rattle.normal_form.proofs.Merged.{runs-every, part-rest}
 use Rattle.normal_form.proofs.Normal.{normal-length, normal-times, normal-values, normal-marks, passes, too-short, suffices, all-long}

@@ -8,20 +8,24 @@ use lib.Dec.{T}
 use lib.ListN.{length, getD}
 use lib.Ieee.{Float, nan, isNan, lt}
 use borrow.Author.Tests.{ltb-false}
-use Rattle.gf.specs.Key.{key, lt→key, lt-is, key→lt, le-no-nan, lt→le}
+use Rattle.gf.specs.Key.{key}
+use Rattle.gf.proofs.KeyLaws.{lt→key, lt-is, key→lt, le-no-nan, lt→le}
 use Rattle.definitions.specs.declared.Knot.{Knot}
 use Rattle.definitions.specs.Lists.{gather}
 use Rattle.definitions.specs.Value.{spans, inverse, onPair}
-use Rattle.set_laws.specs.Tests.{is-true, holds}
-use Rattle.set_laws.specs.Every.{Every, every-at}
+use Rattle.set_laws.proofs.Tests.{is-true, holds}
+use Rattle.set_laws.specs.Every.{Every}
+use Rattle.set_laws.proofs.Every.{every-at}
 use Rattle.set_laws.specs.Places.{Fits}
 use Rattle.cell_laws.specs.Ends.{Number}
 use Rattle.window.specs.declared.Bound.{Bound}
 use Rattle.window.specs.declared.Bound.the-variants.{At, Nothing}
-use Rattle.window.specs.Bounds.{In, in-every, every-in}
-use Rattle.window.specs.Inverses.{onSegment, every-each}
+use Rattle.window.specs.Bounds.{In}
+use Rattle.window.proofs.BoundsLaws.{in-every, every-in}
+use Rattle.window.specs.Inverses.{onSegment}
+use Rattle.window.proofs.Inverses.{every-each}
 use Rattle.near.specs.Tops.{segmentOf}
-use Rattle.reading.specs.Passages.{segment-fits}
+use Rattle.reading.proofs.PassagesLaws.{segment-fits}
 use Rattle.onset.specs.Begins.{BeforeIs, LastIs}
 
 pub lesser-number : (a b : Float) → T (not (isNan a)) → T (not (isNan b)) → T (not (isNan (cond (lt a b) a b)))

@@ -8,24 +8,27 @@ use native.Mathlib.Decide.{decLe}
 use lib.Dec.{T}
 use lib.ListN.{length, getD}
 use lib.Ieee.{Float, nan, le, eq}
-use Rattle.gf.specs.Key.{key, ofKey, least, most, key-ofKey, ofKey-fits, ofKey-no-nan, ofKey-mono, le→key, key→le, key→eq, le-trans, le-no-nan}
+use Rattle.gf.specs.Key.{key, ofKey, least, most}
+use Rattle.gf.proofs.KeyLaws.{key-ofKey, ofKey-fits, ofKey-no-nan, ofKey-mono, le→key, key→le, key→eq, le-trans, le-no-nan}
 use Rattle.definitions.specs.declared.Knot.{Knot}
 use Rattle.definitions.specs.Lists.{any, gather}
 use Rattle.definitions.specs.Value.{spans, inverse, onPair, greatest}
 use Rattle.definitions.specs.Track.{Entry}
-use Rattle.set_laws.specs.Tests.{is-true}
-use Rattle.set_laws.specs.Every.{Every, every-map}
+use Rattle.set_laws.proofs.Tests.{is-true}
+use Rattle.set_laws.specs.Every.{Every}
+use Rattle.set_laws.proofs.Every.{every-map}
 use Rattle.set_laws.specs.Places.{Fits}
 use Rattle.track_laws.specs.Steps.{Level}
-use Rattle.cell_laws.specs.Every.{or-l, or-r}
+use Rattle.cell_laws.proofs.Every.{or-l, or-r}
 use Rattle.cell_laws.specs.Ends.{Number}
-use Rattle.cell_laws.specs.Keys.{none-passed}
+use Rattle.cell_laws.proofs.Keys.{none-passed}
 use Rattle.cell_laws.specs.Neighbours.{IsLower}
-use Rattle.cell_laws.specs.Places.{keep-le-same}
+use Rattle.cell_laws.proofs.Places.{keep-le-same}
 use Rattle.window.specs.Inverses.{onSegment}
 use Rattle.steps.specs.Lines.{placeOn}
 use Rattle.reading.specs.Readings.{readingAt}
-use Rattle.reading.specs.Passages.{lineOn, passedBy, passingAt, Passing, spanned, inverseKey, PassedAt, segment-fits, passing-lower}
+use Rattle.reading.specs.Passages.{lineOn, passedBy, passingAt, Passing, spanned, inverseKey, PassedAt}
+use Rattle.reading.proofs.PassagesLaws.{segment-fits, passing-lower}
 use Rattle.reading.proofs.Passages.{span-number}
 use Rattle.reading.proofs.Readings.{entry-alike}
 use Rattle.reading.proofs.Walking.{Reaches}

@@ -9,7 +9,7 @@ use lib.Ieee.{Float}
 use Rattle.gf.specs.Key.{ofKey}
 use Rattle.definitions.specs.Track.{Entry, Change, Outputs}
 use Rattle.track_laws.specs.Track as steps
-use Rattle.track_laws.specs.Laws.{put, length-put, length-part, no-part}
+use Rattle.track_laws.proofs.Laws.{put, length-put, length-part, no-part}
 use Rattle.cell_laws.specs.Tracks.{writtenChange}
 use Rattle.reading.specs.Walks.{outputs, writtenFrom, written, Room}
 

@@ -4,3 +4,5 @@ pub mod Passages
 pub mod Between
 pub mod Filling
 pub mod Walking
+-- A run of samples passed in one segment
+pub mod PassagesLaws

@@ -11,19 +11,22 @@ use borrow.Author.Tests.{ltb-true, ltb-false, lt-ltb, le-ltb, leb-true, leb-fals
 use lib.Dec.{T, ltb, leb}
 use lib.ListN.{length, getD}
 use lib.Ieee.{Float, nan, lt, le}
-use Rattle.gf.specs.Key.{key, ofKey, least, most, key-ofKey, ofKey-fits, ofKey-no-nan, lt-is, le-is, le→key, lt→key, key→le, finite-no-nan}
-use Rattle.gf.specs.Exactly.{within-finite}
+use Rattle.gf.specs.Key.{key, ofKey, least, most}
+use Rattle.gf.proofs.KeyLaws.{key-ofKey, ofKey-fits, ofKey-no-nan, lt-is, le-is, le→key, lt→key, key→le, finite-no-nan}
+use Rattle.gf.proofs.Exactly.{within-finite}
 use Rattle.definitions.specs.declared.Knot.{Knot}
 use Rattle.definitions.specs.Value.{spans, inverse, onPair}
-use Rattle.set_laws.specs.Tests.{is-true}
+use Rattle.set_laws.proofs.Tests.{is-true}
 use Rattle.set_laws.specs.Every.{Every}
 use Rattle.set_laws.specs.Places.{Ascending}
-use Rattle.cell_laws.specs.Every.{every-by, both, both-l, both-r, or-l, or-r, or-split}
+use Rattle.cell_laws.proofs.Every.{every-by, both, both-l, both-r, or-l, or-r, or-split}
 use Rattle.cell_laws.specs.Ends.{Number}
-use Rattle.cell_laws.specs.Inverse.{inverse-fin-up, inverse-fin-down, inverse-up, inverse-down}
-use Rattle.window.specs.Inverses.{onSegment, every-of}
-use Rattle.window.specs.Near.{SoundSegment, inverse-fits}
-use Rattle.beside.specs.Beside.{number-at, climb}
+use Rattle.cell_laws.proofs.Inverse.{inverse-fin-up, inverse-fin-down, inverse-up, inverse-down}
+use Rattle.window.specs.Inverses.{onSegment}
+use Rattle.window.proofs.Inverses.{every-of}
+use Rattle.window.specs.Near.{SoundSegment}
+use Rattle.window.proofs.Near.{inverse-fits}
+use Rattle.beside.proofs.Beside.{number-at, climb}
 use Rattle.beside.specs.Turns.{isBeyond, Turn}
 use Rattle.reading.specs.declared.passing.Ahead.{Ahead}
 use Rattle.reading.specs.declared.passing.Ahead.the-variants.{At, Nothing}

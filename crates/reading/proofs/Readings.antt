@@ -13,10 +13,11 @@ use Rattle.gf.specs.Doubles.{0·0}
 use Rattle.definitions.specs.declared.Answer.the-variants.{Value, Blocked}
 use Rattle.definitions.specs.Value.{marked}
 use Rattle.definitions.specs.Track.{Entry, alike}
-use Rattle.track_laws.specs.Steps.{Once, Level, Through, StepAt, grows-once, falls-once, level-through}
+use Rattle.track_laws.specs.Steps.{Once, Level, StepAt}
+use Rattle.track_laws.proofs.Steps.{Through, grows-once, falls-once, level-through}
 use Rattle.cell_laws.specs.Knots as Knots
-use Rattle.cell_laws.specs.Tracks.{marked-fits, alike-same}
-use Rattle.window.specs.Parts.{last-short}
+use Rattle.cell_laws.proofs.Tracks.{marked-fits, alike-same}
+use Rattle.window.proofs.Parts.{last-short}
 use Rattle.steps.specs.declared.line.Line.{Line}
 use Rattle.steps.specs.Lines.{lineIs, placeOn}
 use Rattle.reading.specs.Readings.{Reads, Turns, entryAt, readingAt}

@@ -19,18 +19,22 @@ use Rattle.definitions.specs.Lists.{_if_else_, _then_}
 use Rattle.definitions.specs.StageSamples.{StageSample}
 use Rattle.sdf.specs.declared.Counted.{Counted}
 use Rattle.definitions.specs.Samples.{Samples, samplesNumber}
-use Rattle.sdf.specs.Judged.{Judged, judged-accepted}
+use Rattle.sdf.specs.Judged.{Judged}
+use Rattle.sdf.proofs.Judged.{judged-accepted}
 use Rattle.definitions.specs.declared.StageTime.{StageTime}
 use Rattle.definitions.specs.Questions.{Reply, refused, replied, reply, ofSet, stageTimeNumber, roomNumber, askStageSampleTimes, askStageSamples}
 use Rattle.gf.specs.Doubles.{0·0}
 use Rattle.definitions.specs.Track.{Track, Outputs, slots, bakeNumber}
-use Rattle.cell_laws.specs.Unpacked.{setOf, samplesOf, active-times, knot-times, sound-set, sound-samples}
+use Rattle.cell_laws.specs.Unpacked.{setOf, samplesOf}
+use Rattle.cell_laws.proofs.Unpacked.{active-times, knot-times, sound-set, sound-samples}
 use Rattle.track.specs.declared.bake.Baked.{Baked}
-use Rattle.track.specs.Bakes.{BakeIs, bakedIs, bakedReply, bakes}
+use Rattle.track.specs.Bakes.{BakeIs, bakedIs, bakedReply}
+use Rattle.track.proofs.Bakes.{bakes}
 use Rattle.definitions.specs.Calls as calls
 use Rattle.definitions.specs.Calls.{step, accepted, retimed, bakedOf, outputsAfter, Bakes}
 use Rattle.set_laws.specs.Places.{Ascending}
-use Rattle.set_laws.specs.Sound.{Sound, SoundModel, sound-active, sound-knots}
+use Rattle.set_laws.specs.Sound.{Sound, SoundModel}
+use Rattle.set_laws.proofs.Sound.{sound-active, sound-knots}
 use Rattle.set_laws.specs.Accepted.{Accepted as AcceptedSamples}
 use Rattle.standing.specs.declared.questions.ActiveClip.the-variants.{Clip, NoClip}
 use Rattle.clip.specs.declared.ClipSet as clip

@@ -17,9 +17,9 @@ use Rattle.definitions.specs.ClipSet.{markValue, markBlock}
 use Rattle.definitions.specs.Samples.{nanValue, closes, clipBegin, clipEnd}
 use lib.Ieee.Fits.{and-l, and-r}
 use lib.Ieee.Compare.{differs-from-itself}
-use Rattle.set_laws.specs.Tests.{is-false}
+use Rattle.set_laws.proofs.Tests.{is-false}
 use Rattle.sdf.specs.Parts.{part}
-use Rattle.lists.specs.Fronts.{front, no-front}
+use Rattle.lists.proofs.Fronts.{front, no-front}
 
 -- a NaN differs from itself, and nothing else does
 pub differs : (x : Float) → ne x x ≡ isNan x

@@ -1,12 +1,11 @@
 -- What the check of lent samples promises, and what its 0 gives. Assumes nothing.
-use mathlib.Core.Path.{_≡_, sym, _∙_}
+use mathlib.Core.Path.{_≡_}
 use mathlib.Core.List.{List}
 use Prim.Native.Nat.{ℕ}
 use lib.Ieee.{Float}
 use Rattle.definitions.specs.ClipSet.{ClipSet}
 use Rattle.definitions.specs.Samples.{samplesNumber}
 use Rattle.set_laws.specs.Every.{Every}
-use Rattle.set_laws.specs.Accepted.{Accepted, accepted}
 use Rattle.cell_laws.specs.Places.{Fits}
 use Rattle.cell_laws.specs.Unpacked.{samplesOf}
 
@@ -15,7 +14,3 @@ pub record Judged (clips : ℕ) (times values : List Float) (marks ends : List �
   pub number : (set : ClipSet) → set .clips ≡ clips → r ≡ samplesNumber set (samplesOf times values marks ends)
   pub times-fit : Every Fits times
   pub values-fit : Every Fits values
-
-pub judged-accepted : {clips : ℕ} {times values : List Float} {marks ends : List ℕ} {r : ℕ} → Judged clips times values marks ends r → r ≡ 0
-    → (set : ClipSet) → set .clips ≡ clips → Accepted set (samplesOf times values marks ends)
-judged-accepted {times = times} {values = values} {marks = marks} {ends = ends} j z set e = accepted set (samplesOf times values marks ends) (j .times-fit) (sym (j .number set e) ∙ z)

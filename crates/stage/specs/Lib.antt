@@ -11,13 +11,7 @@ pub mod MinusZero
 pub mod First
 -- Whether -0.0 is among the gathered times
 pub mod Zeros
--- The next stage sample time by the active window and what is behind it
-pub mod Around
--- Entries written to the front of a lent list one after the other
-pub mod Writing
 -- What is promised of lent output lists
 pub mod Promises
 -- The mark of a stage sample
 pub mod Marks
--- The stage samples written out
-pub mod Samples

@@ -2,3 +2,5 @@
 pub mod Gallops
 pub mod Segments
 pub mod Likeness
+-- A line as the program holds it
+pub mod Lines

@@ -5,9 +5,9 @@ use lib.Dec.{T, eqb}
 use lib.Ieee.{Float, nan, inf, fin, binary64, fits, isNan, ne, toBits}
 use lib.Ieee.Compare.{differs-from-itself}
 use borrow.Author.Tests.{eq-eqb, ne-eqb}
-use Rattle.gf.specs.Units.{same-bits}
+use Rattle.gf.proofs.Units.{same-bits}
 use Rattle.definitions.specs.Track.{Entry, alike}
-use Rattle.set_laws.specs.Tests.{holds}
+use Rattle.set_laws.proofs.Tests.{holds}
 use Rattle.set_laws.specs.Places.{Fits}
 
 -- ---- a NaN differs from itself, and nothing else does

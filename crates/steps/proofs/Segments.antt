@@ -9,17 +9,19 @@ use native.Mathlib.Numerals.{add-one}
 use lib.Dec.{T}
 use lib.ListN.{length, getD}
 use lib.Ieee.{Float, nan, isNan, lt, le}
-use Rattle.gf.specs.Key.{le-or-lt, finite-no-nan}
+use Rattle.gf.proofs.KeyLaws.{le-or-lt, finite-no-nan}
 use Rattle.definitions.specs.declared.Knot.{Knot}
 use Rattle.definitions.specs.Doubles.{FiniteDouble}
 use Rattle.definitions.specs.Explicit.{knot}
 use Rattle.definitions.specs.ClipSet.{knotTimes}
 use Rattle.definitions.specs.Timing.{lastAtMost, lastKnot}
-use Rattle.set_laws.specs.Tests.{is-true}
-use Rattle.set_laws.specs.Every.{every-at}
-use Rattle.set_laws.specs.Places.{Fits, Ascending, up-to, last-is, fitting}
+use Rattle.set_laws.proofs.Tests.{is-true}
+use Rattle.set_laws.proofs.Every.{every-at}
+use Rattle.set_laws.specs.Places.{Fits, Ascending}
+use Rattle.set_laws.proofs.Places.{up-to, last-is, fitting}
 use Rattle.cell_laws.specs.Knots.{plain, flat, segment, lineOf}
-use Rattle.cell_laws.specs.Unpacked.{knotsOf, knot-times}
+use Rattle.cell_laws.specs.Unpacked.{knotsOf}
+use Rattle.cell_laws.proofs.Unpacked.{knot-times}
 
 -- ---- the knot at a place
 

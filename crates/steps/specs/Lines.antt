@@ -1,11 +1,9 @@
 -- A line as the program holds it, and the place that is read along it. Assumes nothing.
-use mathlib.Core.Path.{_≡_, ap}
 use mathlib.Core.List.{List}
 use Prim.Native.Nat.{ℕ}
 use lib.Ieee.{Float}
 use Rattle.gf.specs.Key.{ofKey}
-use Rattle.definitions.specs.declared.Segment as definitions
-use Rattle.definitions.specs.Timing.{lastAtMost, onSegment}
+use Rattle.definitions.specs.Timing.{lastAtMost}
 use Rattle.cell_laws.specs.Knots as Knots
 use Rattle.steps.specs.declared.line.Line.{Line}
 use Rattle.steps.specs.declared.line.Line.the-variants.{Plain, Flat, Segment}
@@ -18,17 +16,3 @@ lineIs (Segment s) = Knots.segment (s .a) (s .b)
 -- the place of the time that is read at the key k
 unfoldable pub placeOn : List Float → Line → ℕ → ℕ
 placeOn times line k = lastAtMost times (Knots.along (lineIs line) (ofKey k))
-
--- ---- the clip time by the line's form
-
-pub along-plain : (line : Line) (t : Float) → line ≡ Plain → Knots.along (lineIs line) t ≡ t
-unfolding Knots.along
-along-plain line t e = ap (λ (l : Line). Knots.along (lineIs l) t) e
-
-pub along-flat : (line : Line) (t y : Float) → line ≡ Flat y → Knots.along (lineIs line) t ≡ y
-unfolding Knots.along
-along-flat line t y e = ap (λ (l : Line). Knots.along (lineIs l) t) e
-
-pub along-segment : (line : Line) (t : Float) (s : definitions.Segment) → line ≡ Segment s → Knots.along (lineIs line) t ≡ onSegment (s .a) (s .b) t
-unfolding Knots.along
-along-segment line t s e = ap (λ (l : Line). Knots.along (lineIs l) t) e

@@ -12,7 +12,8 @@ use lib.Seq.{length-take-le}
 use lib.Ieee.{Float, nan, inf, fits, eq, lt, le}
 use borrow.Author.Tests.{ltb-true, ltb-false, lt-ltb}
 use Rattle.gf.specs.Doubles.{0·0}
-use Rattle.gf.specs.Key.{key, ofKey, least, most, ofKey-fits, ofKey-no-nan, ofKey-finite, key-ofKey, le→key, lt→key, key→le, key→lt, finite→key, key→finite, finite-no-nan, le-no-nan, lt→le, lt-not-le}
+use Rattle.gf.specs.Key.{key, ofKey, least, most}
+use Rattle.gf.proofs.KeyLaws.{ofKey-fits, ofKey-no-nan, ofKey-finite, key-ofKey, le→key, lt→key, key→le, key→lt, finite→key, key→finite, finite-no-nan, le-no-nan, lt→le, lt-not-le}
 use Rattle.definitions.specs.declared.Manifest.{Manifest}
 use Rattle.definitions.specs.declared.Source.{Source}
 use Rattle.definitions.specs.declared.Source.the-variants.{Sample as sample}
@@ -23,31 +24,40 @@ use Rattle.definitions.specs.Timing.{lastAtMost}
 use Rattle.definitions.specs.Samples.{Samples, clipBegin, clipEnd}
 use Rattle.definitions.specs.Value.{marked, says, valueInSet, directSource, gathered}
 use Rattle.definitions.specs.Track.{Entry, entryOf}
-use Rattle.set_laws.specs.Tests.{is-true, is-false, holds}
-use Rattle.set_laws.specs.Every.{Every, every-at, every-take, every-drop}
-use Rattle.set_laws.specs.Places.{Fits, atMost, at-most-length, beyond, up-to, last-is}
+use Rattle.set_laws.proofs.Tests.{is-true, is-false, holds}
+use Rattle.set_laws.specs.Every.{Every}
+use Rattle.set_laws.proofs.Every.{every-at, every-take, every-drop}
+use Rattle.set_laws.specs.Places.{Fits}
+use Rattle.set_laws.proofs.Places.{atMost, at-most-length, beyond, up-to, last-is}
 use Rattle.cell_laws.specs.Ends.{Number}
-use Rattle.cell_laws.specs.Keys.{Keys, sourceAtKey, entryAtKey}
+use Rattle.cell_laws.specs.Keys.{Keys, entryAtKey}
+use Rattle.cell_laws.proofs.Keys.{sourceAtKey}
 use Rattle.cell_laws.specs.Knots as Knots
-use Rattle.cell_laws.specs.Window.{gathered-fit}
-use Rattle.cell_laws.specs.Zeros.{zero-direct}
+use Rattle.cell_laws.proofs.Window.{gathered-fit}
+use Rattle.cell_laws.proofs.Zeros.{zero-direct}
 use Rattle.cell_laws.specs.Unpacked.{Ready, setOf, samplesOf, knotsOf}
 use Rattle.window.specs.declared.Bound.the-variants.{At, Nothing}
 use Rattle.window.specs.Bounds.{NeighboursAre}
 use Rattle.window.specs.Near.{SoundSegment}
-use Rattle.window.specs.Parts.{partOf, last-short, ready-clip, ready-readable, ready-starts}
+use Rattle.window.specs.Parts.{partOf}
+use Rattle.window.proofs.Parts.{last-short, ready-clip, ready-readable, ready-starts}
 use Rattle.window.specs.Windows.{ifOwn}
-use Rattle.beside.specs.Beside.{finite-number}
+use Rattle.beside.proofs.Beside.{finite-number}
 use Rattle.steps.specs.declared.line.Line.{Line}
 use Rattle.steps.specs.Lines.{lineIs, placeOn}
 use Rattle.near.specs.declared.Window.{Window}
-use Rattle.near.specs.Tops.{segmentOf, segment-here}
+use Rattle.near.specs.Tops.{segmentOf}
+use Rattle.near.proofs.TopsLaws.{segment-here}
 use Rattle.near.specs.Windowed.{samplesIn, windowTimes, windowSource}
 use Rattle.reading.specs.Readings.{Reads, readingAt}
-use Rattle.reading.specs.Passages.{lineOn, passedBy, passingAt, Passing, passing-lower}
-use Rattle.value.specs.ClipTimes.{OnSegment, on-segment}
-use Rattle.value.specs.Handed.{WindowIs, window-gathered}
-use Rattle.value.specs.Passes.{Onset, HeldAt, nh, knot-low, run-held, run-first}
+use Rattle.reading.specs.Passages.{lineOn, passedBy, passingAt, Passing}
+use Rattle.reading.proofs.PassagesLaws.{passing-lower}
+use Rattle.value.specs.ClipTimes.{OnSegment}
+use Rattle.value.proofs.ClipTimes.{on-segment}
+use Rattle.value.specs.Handed.{WindowIs}
+use Rattle.value.proofs.Handed.{window-gathered}
+use Rattle.value.specs.Passes.{Onset}
+use Rattle.value.proofs.Passes.{HeldAt, nh, knot-low, run-held, run-first}
 use Rattle.cell.specs.declared.Cell.the-variants.{Constant}
 use Rattle.cell.specs.Pieces.{heldOf, PieceIs}
 use Rattle.cell.proofs.Lent.{sound, samples}

@@ -12,7 +12,8 @@ use lib.ListN.{length, getD, drop, length-drop}
 use lib.Seq.{length-take-le}
 use lib.Ieee.{Float, nan, inf, eq, lt, le, isNan, fits}
 use borrow.Author.Tests.{ltb-true, lt-ltb}
-use Rattle.gf.specs.Key.{key, ofKey, key-ofKey, ofKey-fits, ofKey-finite, ofKey-mono, le-trans, le-lt-trans, lt→le, le-no-nan, finite-no-nan}
+use Rattle.gf.specs.Key.{key, ofKey}
+use Rattle.gf.proofs.KeyLaws.{key-ofKey, ofKey-fits, ofKey-finite, ofKey-mono, le-trans, le-lt-trans, lt→le, le-no-nan, finite-no-nan}
 use Rattle.definitions.specs.declared.Manifest.{Manifest}
 use Rattle.definitions.specs.declared.Source.the-variants.{Sample as sample}
 use Rattle.definitions.specs.Lists.{any, keep}
@@ -21,12 +22,15 @@ use Rattle.definitions.specs.ClipSet.{ClipSet, stage}
 use Rattle.definitions.specs.Timing.{lastAtMost, mapTime}
 use Rattle.definitions.specs.Samples.{Samples, clipTimes}
 use Rattle.definitions.specs.Value.{jump, valueSource}
-use Rattle.set_laws.specs.Tests.{holds}
-use Rattle.set_laws.specs.Every.{Every, every-at}
-use Rattle.set_laws.specs.Places.{Ascending, fitting, last-inside}
-use Rattle.cell_laws.specs.Every.{both, every-kept, every-left, every-zip}
-use Rattle.cell_laws.specs.Places.{Fits, Clear, not-le-lt, place-mono, place-same}
-use Rattle.cell_laws.specs.Window.{inf-below}
+use Rattle.set_laws.proofs.Tests.{holds}
+use Rattle.set_laws.specs.Every.{Every}
+use Rattle.set_laws.proofs.Every.{every-at}
+use Rattle.set_laws.specs.Places.{Ascending}
+use Rattle.set_laws.proofs.Places.{fitting, last-inside}
+use Rattle.cell_laws.proofs.Every.{both, every-kept, every-left, every-zip}
+use Rattle.cell_laws.specs.Places.{Fits}
+use Rattle.cell_laws.proofs.Places.{Clear, not-le-lt, place-mono, place-same}
+use Rattle.cell_laws.proofs.Window.{inf-below}
 use Rattle.cell_laws.specs.Knots as Knots
 use Rattle.cell_laws.specs.Neighbours.{IsLower}
 use Rattle.cell_laws.specs.Keys.{Keys}
@@ -35,18 +39,25 @@ use Rattle.window.specs.declared.Bound.{Bound}
 use Rattle.window.specs.declared.Bound.the-variants.{At, Nothing}
 use Rattle.window.specs.declared.Bounds.{Bounds}
 use Rattle.window.specs.Bounds.{inside, nothing, LowerIs, NeighboursAre}
-use Rattle.window.specs.Inverses.{inversesOf, inverses-none}
-use Rattle.window.specs.Parts.{partOf, ready-starts, ready-clip, ready-readable}
+use Rattle.window.specs.Inverses.{inversesOf}
+use Rattle.window.proofs.Inverses.{inverses-none}
+use Rattle.window.specs.Parts.{partOf}
+use Rattle.window.proofs.Parts.{ready-starts, ready-clip, ready-readable}
 use Rattle.window.specs.Windows.{ifOwn}
-use Rattle.beside.specs.Nearest.{withNear, Searched, searched-none, searched-one, searched-then}
-use Rattle.beside.specs.Beside.{Facing, climb, last-reached}
+use Rattle.beside.specs.Nearest.{withNear, Searched}
+use Rattle.beside.proofs.Nearest.{searched-none, searched-one, searched-then}
+use Rattle.beside.specs.Beside.{Facing}
+use Rattle.beside.proofs.Beside.{climb, last-reached}
 use Rattle.steps.specs.declared.line.Line.the-variants.{Plain}
 use Rattle.steps.specs.Lines.{placeOn}
 use Rattle.near.specs.declared.Window.{Window}
-use Rattle.near.specs.Tops.{no-tops}
-use Rattle.near.specs.Windowed.{intervalOf, samplesIn, nextOf, startsOf, windowTimes, windowSource, Nearing, near-faces, near-plain}
-use Rattle.value.specs.Handed.{WindowIs, window-lent, window-nears}
-use Rattle.value.specs.Values.{heldAt, value-in}
+use Rattle.near.proofs.TopsLaws.{no-tops}
+use Rattle.near.specs.Windowed.{intervalOf, samplesIn, nextOf, startsOf, windowTimes, windowSource, Nearing}
+use Rattle.near.proofs.Windowed.{near-faces, near-plain}
+use Rattle.value.specs.Handed.{WindowIs}
+use Rattle.value.proofs.Handed.{window-lent, window-nears}
+use Rattle.value.specs.Values.{heldAt}
+use Rattle.value.proofs.Values.{value-in}
 use Rattle.cell.specs.declared.Cell.the-variants.{Constant, Reading}
 use Rattle.cell.specs.Pieces.{Sampled}
 use Rattle.stretch.specs.Runs.{part, readOn}

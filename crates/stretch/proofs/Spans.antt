@@ -10,29 +10,34 @@ use lib.ListN.{length, getD, drop, length-drop}
 use lib.Seq.{getD-take, getD-drop, length-take-le}
 use lib.Ieee.{Float, le}
 use Rattle.gf.specs.Doubles.{0·0}
-use Rattle.gf.specs.Key.{ofKey, ofKey-fits, ofKey-mono}
-use Rattle.gf.specs.Lerp.{Inside}
+use Rattle.gf.specs.Key.{ofKey}
+use Rattle.gf.proofs.KeyLaws.{ofKey-fits, ofKey-mono}
+use Rattle.gf.proofs.LerpLaws.{Inside}
 use Rattle.definitions.specs.declared.Manifest.{Manifest}
 use Rattle.definitions.specs.declared.Source.{Source}
 use Rattle.definitions.specs.ClipSet.{ClipSet, stage}
 use Rattle.definitions.specs.Samples.{Samples, clipBegin, clipEnd, clipTimes}
 use Rattle.definitions.specs.Value.{marked, says, valueInSet}
 use Rattle.definitions.specs.Track.{Entry, entryOf}
-use Rattle.set_laws.specs.Every.{every-take, every-drop}
+use Rattle.set_laws.proofs.Every.{every-take, every-drop}
 use Rattle.set_laws.specs.Places.{Fits}
 use Rattle.track_laws.specs.Laws.{Agree}
-use Rattle.cell_laws.specs.Direct.{SoundSet, SoundSamples}
-use Rattle.cell_laws.specs.Stretches.{Stretch, boundaries}
+use Rattle.cell_laws.proofs.Direct.{SoundSet, SoundSamples}
+use Rattle.cell_laws.proofs.Stretches.{Stretch}
+use Rattle.cell_laws.specs.Stretches.{boundaries}
 use Rattle.cell_laws.specs.Knots as Knots
 use Rattle.cell_laws.specs.Cells as Cells
-use Rattle.cell_laws.specs.Keys.{Keys, NonePassed, cellPlaceAt, sourceAtKey, entryAtKey, cell-source}
+use Rattle.cell_laws.proofs.Cells as Cells-laws
+use Rattle.cell_laws.specs.Keys.{Keys, entryAtKey}
+use Rattle.cell_laws.proofs.Keys.{NonePassed, cellPlaceAt, sourceAtKey, cell-source}
 use Rattle.cell_laws.specs.Unpacked.{Ready, setOf, samplesOf}
-use Rattle.window.specs.Parts.{ready-readable, last-short}
+use Rattle.window.proofs.Parts.{ready-readable, last-short}
 use Rattle.window.specs.declared.Bound.{Bound}
 use Rattle.steps.specs.declared.line.Line.{Line}
 use Rattle.steps.specs.Lines.{lineIs, placeOn}
 use Rattle.reading.specs.Readings.{Turns, readingAt}
-use Rattle.value.specs.Says.{saysIn, Sayable, says-ready, value-in}
+use Rattle.value.specs.Says.{saysIn, Sayable}
+use Rattle.value.proofs.Says.{says-ready, value-in}
 use Rattle.cell.specs.declared.Cell.{Cell}
 use Rattle.cell.specs.declared.Cell.the-variants.{Constant, Reading}
 use Rattle.cell.specs.Pieces.{cellIs, Sampled, PieceIs}
@@ -54,7 +59,7 @@ module _ (set : ClipSet) (s : Samples) (S : SoundSet set) (A : SoundSamples s) (
   stretch = record { ft = ofKey-fits lo; fu = ofKey-fits hi; order = ordered lo hi (le-of-eq refl) (K .order) (le-of-eq refl); clear = clear }
 
   cell-turning : Turns (cellPlaceAt set s lo) lo hi
-  cell-turning = elim (Cells.cell-turns set s S A (ofKey lo) (ofKey hi) stretch) [
+  cell-turning = elim (Cells-laws.cell-turns set s S A (ofKey lo) (ofKey hi) stretch) [
     | inl r ↦ inl (λ j k a b d. r (ofKey j) (ofKey k) (inside j a (omega arith)) (inside k (omega arith) d) (ordered j k a b d))
     | inr r ↦ inr (λ j k a b d. r (ofKey j) (ofKey k) (inside j a (omega arith)) (inside k (omega arith) d) (ordered j k a b d))
   ]
@@ -199,15 +204,15 @@ module _ {starts : List Float} {clips : List ℕ} {xs ys blocks : List Float} {m
     clear = hi-clear set s (sound R) (samples R) k top K e (P .ends)
 
     -- what is read
-    reads-on : (c : Cell) (j : ℕ) → Cells.readCell s (cellIs c) (ofKey j) ≡ readOn times ends c j
-    unfolding Cells.readCell placeOn clipTimes
+    reads-on : (c : Cell) (j : ℕ) → Cells-laws.readCell s (cellIs c) (ofKey j) ≡ readOn times ends c j
+    unfolding Cells-laws.readCell placeOn clipTimes
     reads-on (Constant r) j = refl
     reads-on (Reading c line) j = refl
 
     pub source-on : (j : ℕ) → k ≤ j → j ≤ hi → sourceAtKey set s j ≡ readOn times ends cell j
     source-on j a b =
         cell-source set s (sound R) (samples R) k hi span-keys clear j a b
-        ∙ ap (λ (c : Cells.Cell). Cells.readCell s c (ofKey j)) (sym (P .is))
+        ∙ ap (λ (c : Cells.Cell). Cells-laws.readCell s c (ofKey j)) (sym (P .is))
         ∙ reads-on cell j
 
     turns-on : TurnsOn times ends cell k hi

@@ -8,14 +8,14 @@ use lib.ListN.{length}
 use borrow.Author.Tests.{lt-ltb, le-ltb, ltb-false}
 use Rattle.definitions.specs.ClipSet.{maxClips, maxBlocks, maxTemplate}
 use Rattle.definitions.specs.Template.{TemplateFields, activeOffset, promoted, templateSet, template1, template2, template7, template6, template8, templateNumber}
-use Rattle.set_laws.specs.Tests.{or-false, passed}
+use Rattle.set_laws.proofs.Tests.{or-false, passed}
 use Rattle.set_laws.specs.Sound.{Sound}
-use Rattle.set_laws.specs.SoundTemplate.{TemplateFits, template-sound}
+use Rattle.set_laws.proofs.SoundTemplate.{TemplateFits, template-sound}
 use Rattle.clip.specs.declared.Parsed.{Parsed}
 use Rattle.clip.specs.Settling.{settleNumber, Refuses, Settles}
 use Rattle.clip.specs.Holding.{manifest}
 use Rattle.template.specs.Expanding.{templateFieldsNumber, expandedSet, Expands}
-use Rattle.clip.specs.Laws.{same-number}
+use Rattle.clip.proofs.Laws.{same-number}
 
 -- ---- fields without 1, 2, 7 and 6
 

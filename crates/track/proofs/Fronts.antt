@@ -8,8 +8,8 @@ use lib.ListN.{length, getD, drop}
 use lib.Ieee.{Float, nan, le}
 use Rattle.definitions.specs.Lists.{zipWith}
 use Rattle.definitions.specs.Track.{Entry, Change, readFrom}
-use Rattle.set_laws.specs.Every.{zip-at}
-use Rattle.lists.specs.Fronts.{front, no-front}
+use Rattle.set_laws.proofs.Every.{zip-at}
+use Rattle.lists.proofs.Fronts.{front, no-front}
 use Rattle.track.specs.Held.{entry, change, changesOfLists}
 
 module _ {A B C : Type 0} (f : A → B → C) where

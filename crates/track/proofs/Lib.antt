@@ -2,3 +2,7 @@
 pub mod Fronts
 pub mod Baking
 pub mod Walks
+-- The changes, and the promise of a bake
+pub mod Bakes
+-- The walk over the changes
+pub mod Fills

@@ -12,10 +12,11 @@ use Rattle.definitions.specs.declared.Manifest.{Manifest}
 use Rattle.definitions.specs.ClipSet.{ClipSet, stage}
 use Rattle.definitions.specs.Samples.{Samples}
 use Rattle.definitions.specs.Track.{Outputs, slots}
-use Rattle.track_laws.specs.Laws.{changes-none, changes-split}
-use Rattle.cell_laws.specs.Direct.{SoundSet, SoundSamples}
+use Rattle.track_laws.proofs.Laws.{changes-none, changes-split}
+use Rattle.cell_laws.proofs.Direct.{SoundSet, SoundSamples}
 use Rattle.cell_laws.specs.Keys.{Keys, entryAtKey}
-use Rattle.cell_laws.specs.Tracks.{SoundValues, entry-same, entries-alike}
+use Rattle.cell_laws.proofs.Tracks.{SoundValues, entries-alike}
+use Rattle.cell_laws.specs.Tracks.{entry-same}
 use Rattle.cell_laws.specs.Unpacked.{setOf, samplesOf}
 use Rattle.reading.specs.declared.walk.Went.{Went}
 use Rattle.reading.specs.Walks.{outputs, written, Room, Walked}
@@ -25,7 +26,8 @@ use Rattle.cell.specs.declared.spot.Spot.{Spot}
 use Rattle.cell.specs.Spots.{SpotIs}
 use Rattle.stretch.specs.Changes.{changesOf}
 use Rattle.track.specs.declared.fill.Filled.{Filled}
-use Rattle.track.specs.Fills.{PageIs, FillIs, passed-length}
+use Rattle.track.specs.Fills.{PageIs, FillIs}
+use Rattle.track.proofs.Fills.{passed-length}
 
 -- the key after: there the value is like the one before, or it changes
 module _ (set : ClipSet) (s : Samples) (S : SoundSet set) (A : SoundSamples s) (F : SoundValues set s) where

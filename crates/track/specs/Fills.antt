@@ -1,15 +1,13 @@
 -- The walk over the changes of the value that stops when its outputs are full: where it stands, and what it promises. Assumes nothing.
-use mathlib.Core.Path.{_≡_, sym, ap, _∙_}
+use mathlib.Core.Path.{_≡_}
 use mathlib.Core.Bool.{true, false}
 use mathlib.Core.List.{List, _++_}
 use Prim.Native.Nat.{ℕ, _+_, _≤_, _<_}
-use lib.ListN.{length, take, drop, length-append}
+use lib.ListN.{length, take, drop}
 use lib.Ieee.{Float}
 use Rattle.definitions.specs.declared.Manifest.{Manifest}
 use Rattle.definitions.specs.Track.{Outputs, slots}
-use Rattle.track_laws.specs.Laws.{changes-split}
 use Rattle.cell_laws.specs.Keys.{Keys, entryAtKey}
-use Rattle.cell_laws.specs.Tracks.{entry-same}
 use Rattle.cell_laws.specs.Unpacked.{setOf, samplesOf}
 use Rattle.steps.specs.Entries.{entryIs}
 use Rattle.reading.specs.Walks.{written}
@@ -51,13 +49,3 @@ copied n page o = record {
   values = take n (page .values) ++ drop n (o .values);
   marks = take n (page .marks) ++ drop n (o .marks);
 }
-
--- ---- in other words
-
-module _ {starts : List Float} {clips : List ℕ} {xs ys blocks : List Float} {m : Manifest} {times values : List Float} {marks ends : List ℕ} {from top : ℕ} {r : Filled} (P : PassedTo starts clips xs ys blocks m times values marks ends from top r) where
-  -- the changes from the key on are those that are passed, and those above the cursor
-  pub passed-first : changesOf (setOf (length ends) starts clips xs ys blocks m) (samplesOf times values marks ends) from top ≡ changesOf (setOf (length ends) starts clips xs ys blocks m) (samplesOf times values marks ends) from (r .cursor .key) ++ changesOf (setOf (length ends) starts clips xs ys blocks m) (samplesOf times values marks ends) (r .cursor .key) top
-  passed-first = changes-split entry-same (entryAtKey (setOf (length ends) starts clips xs ys blocks m) (samplesOf times values marks ends)) from (r .cursor .key) top (P .order) (P .cursor .keys .order)
-
-  pub passed-length : length (changesOf (setOf (length ends) starts clips xs ys blocks m) (samplesOf times values marks ends) from top) ≡ r .count + length (changesOf (setOf (length ends) starts clips xs ys blocks m) (samplesOf times values marks ends) (r .cursor .key) top)
-  passed-length = ap length passed-first ∙ length-append (changesOf (setOf (length ends) starts clips xs ys blocks m) (samplesOf times values marks ends) from (r .cursor .key)) (changesOf (setOf (length ends) starts clips xs ys blocks m) (samplesOf times values marks ends) (r .cursor .key) top) ∙ ap (λ (n : ℕ). n + length (changesOf (setOf (length ends) starts clips xs ys blocks m) (samplesOf times values marks ends) (r .cursor .key) top)) (sym (P .count))

@@ -5,8 +5,6 @@ pub mod Values
 pub mod Says
 -- The answer without a time
 pub mod Untimed
--- The jump test from a place down
-pub mod Jumps
 -- The clip time on a segment that holds the time
 pub mod ClipTimes
 -- What is handed on of a window

@@ -1,8 +1,6 @@
 -- What the contracts of this crate cite, and the laws that its proofs share.
 -- The neighbours of a time among times in any order
 pub mod Bounds
--- The jump test by the x of the knots alone
-pub mod Pairs
 -- The inverse times of a clip's samples, segment by segment
 pub mod Inverses
 -- Where the inverse times between two knots lie

@@ -1,23 +1,15 @@
 -- A clip's part of the lent times, what a reading asks of the lent lists, and what lists that are ready tell. Assumes nothing.
-use mathlib.Core.Path.{_≡_, sym, ap, _∙_, subst}
-use mathlib.Core.Bool.{Bool, true, false, cond}
-use mathlib.Core.List.{List, [], _∷_}
-use Prim.Native.Nat.{ℕ, suc, _-_, _≤_, _<_}
-use native.Mathlib.Omega.{arith}
-use lib.ListN.{length, getD, take, drop}
-use lib.Ieee.{Float, nan, le}
-use Rattle.definitions.specs.declared.Manifest.{Manifest}
-use Rattle.definitions.specs.declared.Start.{Start}
-use Rattle.definitions.specs.Lists.{any, pairs}
-use Rattle.definitions.specs.ClipSet.{ClipSet, stage, clip}
-use Rattle.definitions.specs.Timing.{lastAtMost, activePosition}
-use Rattle.definitions.specs.Samples.{Samples, clipBegin, clipEnd, clipTimes}
-use Rattle.set_laws.specs.Every.{Every, every-at, zip-at}
+use mathlib.Core.Path.{_≡_}
+use mathlib.Core.List.{List}
+use Prim.Native.Nat.{ℕ, _-_, _≤_, _<_}
+use lib.ListN.{length, take, drop}
+use lib.Ieee.{Float}
+use Rattle.definitions.specs.Lists.{pairs}
+use Rattle.definitions.specs.Samples.{clipBegin, clipEnd}
+use Rattle.set_laws.specs.Every.{Every}
 use Rattle.set_laws.specs.Places.{Ascending}
-use Rattle.set_laws.specs.Sound.{sound-active, sound-knots}
-use Rattle.set_laws.specs.Accepted.{clip-ascending}
-use Rattle.cell_laws.specs.Unpacked.{start, activeOf, knotsOf, setOf, samplesOf, zip-length, active-times, knot-times, sound-set, Ready}
-use Rattle.window.specs.Near.{SoundSegment, segments}
+use Rattle.cell_laws.specs.Unpacked.{knotsOf}
+use Rattle.window.specs.Near.{SoundSegment}
 
 -- ---- a clip's part of the lent times
 
@@ -32,58 +24,3 @@ pub record Readable (xs ys times : List Float) (ends : List ℕ) : Type 0 where
   pub from : (c : ℕ) → c < length ends → clipBegin ends c ≤ clipEnd ends c
   pub inside : (c : ℕ) → c < length ends → clipEnd ends c ≤ length times
   pub rising : (c : ℕ) → c < length ends → Ascending (partOf times ends c)
-
--- the place of the last time at most t is a place, if there are any
-pub last-short : (l : List Float) (t : Float) → 0 < length l → lastAtMost l t < length l
-unfolding lastAtMost
-last-short [] t h = absurd (omega arith)
-last-short (x ∷ []) t h = omega arith
-last-short (x ∷ y ∷ l) t h = go (any (λ (z : Float). le z t) (y ∷ l)) (last-short (y ∷ l) t (omega arith))
-  where
-    go : (b : Bool) → lastAtMost (y ∷ l) t < length (y ∷ l) → cond b (suc (lastAtMost (y ∷ l) t)) 0 < suc (length (y ∷ l))
-    go true k = omega arith
-    go false k = omega arith
-
--- ---- of lists that are ready
-
-module _ {starts : List Float} {clips : List ℕ} {xs ys blocks : List Float} {m : Manifest} {times values : List Float} {marks ends : List ℕ} (R : Ready starts clips xs ys blocks m times values marks ends) where
-  abbrev set : ClipSet
-  set = setOf (length ends) starts clips xs ys blocks m
-
-  abbrev s : Samples
-  s = samplesOf times values marks ends
-
-  -- the start at the place i
-  abbrev at : ℕ → Start
-  at i = start (getD starts i nan) (getD clips i 0)
-
-  pub ready-starts : Ascending starts
-  unfolding setOf
-  ready-starts = subst Ascending (active-times starts clips (R .starts-paired)) (sound-active set (R .sound))
-
-  pub ready-position : (t : Float) (p : ℕ) → p ≡ lastAtMost starts t → activePosition (activeOf starts clips) (stage t) ≡ p
-  unfolding activePosition
-  ready-position t p e = ap (λ (l : List Float). lastAtMost l t) (active-times starts clips (R .starts-paired)) ∙ sym e
-
-  pub ready-active : length (activeOf starts clips) ≡ length starts
-  ready-active = zip-length start starts clips (R .starts-paired)
-
-  pub ready-start : (i : ℕ) (d : Start) → i < length starts → getD (activeOf starts clips) i d ≡ at i
-  ready-start i d h = zip-at start starts clips i nan 0 d h (omega (arith, R .starts-paired))
-
-  pub ready-clip : (i : ℕ) → i < length starts → getD clips i 0 < length ends
-  unfolding setOf
-  ready-clip i h =
-      subst (λ (a : Start). a .clip < length ends) (ready-start i (at i) h)
-      (every-at (λ (a : Start). a .clip < length ends) (activeOf starts clips) i (at i) (R .sound .named) (omega (arith, ready-active)))
-
-  pub ready-readable : Readable xs ys times ends
-  unfolding setOf clipTimes
-  ready-readable = record {
-    knots = subst Ascending (knot-times xs ys (R .knots-paired)) (sound-knots set (R .sound));
-    paired = R .knots-paired;
-    segments = segments (knotsOf xs ys) (sound-set set (R .sound) .knots) (R .sound .weakly);
-    from = R .accepted .from;
-    inside = R .accepted .inside;
-    rising = clip-ascending set s (R .accepted);
-  }

@@ -6,7 +6,7 @@ use Rattle.definitions.specs.Value.{onPair}
 use Rattle.window.specs.declared.Bounds.{Bounds}
 use Rattle.window.specs.Bounds.{inside}
 use Rattle.beside.specs.Nearest.{Searched, withInside}
-use Rattle.beside.specs.Turns.{pair-inside, pair-outside}
+use Rattle.beside.proofs.Turns.{pair-inside, pair-outside}
 use borrow.Author.Needs.{needs}
 use Rattle.beside.proofs.near_inverse.Statement.{statement}
 use Rattle.beside.proofs.near_inverse.Tie as tie

@@ -1,6 +1,6 @@
 -- `beside::near_sample` meets its contract. Assumes nothing.
 use denote.Ref.{now}
-use Rattle.beside.specs.Turns.{sample-here, sample-none}
+use Rattle.beside.proofs.Turns.{sample-here, sample-none}
 use borrow.Author.Needs.{needs}
 use Rattle.beside.proofs.near_sample.Statement.{statement}
 use Rattle.beside.proofs.near_sample.Tie as tie

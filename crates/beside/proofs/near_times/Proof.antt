@@ -7,7 +7,8 @@ use Rattle.definitions.specs.Lists.{keep}
 use Rattle.window.specs.declared.Bounds.{Bounds}
 use Rattle.window.specs.Bounds.{inside}
 use Rattle.beside.specs.Nearest.{Searched}
-use Rattle.beside.specs.Beside.{withPlace, beside-searched, last-small}
+use Rattle.beside.specs.Beside.{withPlace}
+use Rattle.beside.proofs.Beside.{beside-searched, last-small}
 use borrow.Author.Needs.{needs}
 use Rattle.beside.proofs.near_times.Statement.{statement}
 use Rattle.beside.proofs.near_times.Tie as tie

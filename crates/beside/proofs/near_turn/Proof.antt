@@ -1,7 +1,7 @@
 -- `beside::near_turn` meets its contract. Assumes nothing.
 use native.Mathlib.Omega.{arith}
 use denote.Ref.{now}
-use Rattle.beside.specs.Turns.{before-here, before-none, turn-searched}
+use Rattle.beside.proofs.Turns.{before-here, before-none, turn-searched}
 use borrow.Author.Needs.{needs}
 use Rattle.beside.proofs.near_turn.Statement.{statement}
 use Rattle.beside.proofs.near_turn.Tie as tie

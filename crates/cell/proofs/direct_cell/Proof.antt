@@ -2,8 +2,8 @@
 use Prim.Native.Nat.{_<_}
 use native.Mathlib.Omega.{arith}
 use lib.ListN.{length}
-use Rattle.gf.specs.Key.{finite-no-nan}
-use Rattle.window.specs.Parts.{ready-readable}
+use Rattle.gf.proofs.KeyLaws.{finite-no-nan}
+use Rattle.window.proofs.Parts.{ready-readable}
 use Rattle.value.specs.Handed.{WindowIs}
 use Rattle.cell.proofs.Lent.{spot-window}
 use Rattle.cell.proofs.Ways.{direct-absent, direct-reads, direct-gap}

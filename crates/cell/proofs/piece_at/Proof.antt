@@ -3,8 +3,9 @@ use mathlib.Core.Path.{sym, _∙_}
 use Prim.Native.Nat.{_<_}
 use native.Mathlib.Omega.{arith}
 use lib.ListN.{length}
-use Rattle.window.specs.Parts.{ready-readable}
-use Rattle.value.specs.Handed.{WindowIs, window-lent, window-nears}
+use Rattle.window.proofs.Parts.{ready-readable}
+use Rattle.value.specs.Handed.{WindowIs}
+use Rattle.value.proofs.Handed.{window-lent, window-nears}
 use Rattle.cell.proofs.Lent.{spot-window}
 use Rattle.cell.proofs.Ways.{piece-few, near-direct, near-held}
 use borrow.Author.Needs.{needs}

@@ -8,7 +8,7 @@ use lib.Dec.{ltb}
 use lib.ListN.{length, getD, drop}
 use lib.Ieee.{Float, nan, eq}
 use Rattle.definitions.specs.Lists.{any}
-use Rattle.lists.specs.Fronts.{any-found, at-most-one, counted-all}
+use Rattle.lists.proofs.Fronts.{any-found, at-most-one, counted-all}
 use Rattle.direct.proofs.blocked_at.Statement.{statement}
 use Rattle.direct.proofs.blocked_at.Tie as tie
 

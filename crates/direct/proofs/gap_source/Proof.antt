@@ -4,7 +4,7 @@ use mathlib.Core.Path.{sym, ap, _∙_}
 use borrow.Author.Tests.{not-true, not-false}
 use Rattle.definitions.specs.declared.Source.the-variants.{Sample as sample}
 use Rattle.direct.specs.Reads.{readingIs}
-use Rattle.direct.specs.Sources.{stands-default, stands-off, stands-before, stands-after, stands-none}
+use Rattle.direct.proofs.Sources.{stands-default, stands-off, stands-before, stands-after, stands-none}
 use borrow.Author.Needs.{needs}
 use Rattle.direct.proofs.gap_source.Statement.{statement}
 use Rattle.direct.proofs.gap_source.Tie as tie

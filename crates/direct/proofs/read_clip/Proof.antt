@@ -4,8 +4,9 @@ use Prim.Native.Nat.{ℕ}
 use denote.Ref.{now}
 use Rattle.definitions.specs.Timing.{mapStageToClip}
 use Rattle.cell_laws.specs.Unpacked.{knotsOf}
-use Rattle.look.specs.Reads.{heldReading, held-none}
-use Rattle.direct.specs.Reads.{part-looked}
+use Rattle.look.specs.Reads.{heldReading}
+use Rattle.look.proofs.ReadsLaws.{held-none}
+use Rattle.direct.proofs.ReadsLaws.{part-looked}
 use borrow.Author.Needs.{needs}
 use Rattle.direct.proofs.read_clip.Statement.{statement}
 use Rattle.direct.proofs.read_clip.Tie as tie

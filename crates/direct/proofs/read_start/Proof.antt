@@ -1,9 +1,9 @@
 -- `direct::read_start` meets its contract. Assumes nothing.
 use mathlib.Core.Path.{sym, ap, _∙_}
 use denote.Ref.{now}
-use Rattle.window.specs.Parts.{ready-clip, ready-readable}
+use Rattle.window.proofs.Parts.{ready-clip, ready-readable}
 use Rattle.look.specs.Reads.{heldIs}
-use Rattle.direct.specs.Reads.{start-blocked, start-read, part-read, part-none}
+use Rattle.direct.proofs.ReadsLaws.{start-blocked, start-read, part-read, part-none}
 use borrow.Author.Needs.{needs}
 use Rattle.direct.proofs.read_start.Statement.{statement}
 use Rattle.direct.proofs.read_start.Tie as tie

@@ -5,10 +5,10 @@ use borrow.Author.Needs.{needs}
 use lib.Dec.{T}
 use denote.Ref.{now}
 use Rattle.definitions.specs.Explicit.{ExplicitFields}
-use Rattle.set_laws.specs.SoundExplicit.{ExplicitLimits, ExplicitFits}
+use Rattle.set_laws.proofs.SoundExplicit.{ExplicitLimits, ExplicitFits}
 use Rattle.clip.specs.Holding.{manifest}
 use Rattle.explicit.specs.Parsing.{explicitFields, fieldsNumber}
-use Rattle.clip.specs.Laws.{all-fit, lent}
+use Rattle.clip.proofs.Laws.{all-fit, lent}
 use Rattle.explicit.proofs.Acceptance.{fields-fit, parse-refuses, parse-settles}
 use Rattle.explicit.proofs.parse_set.Statement.{statement}
 use Rattle.explicit.proofs.parse_set.Tie as tie

@@ -4,7 +4,7 @@ use native.Mathlib.Omega.{arith}
 use mathlib.Core.Path.{sym, subst}
 use lib.Dec.{T}
 use lib.Ieee.{binary64, fits}
-use Rattle.gf.specs.Key.{bits-lt, key-clear, key-set}
+use Rattle.gf.proofs.KeyLaws.{bits-lt, key-clear, key-set}
 use Rattle.gf.proofs.key.Statement.{statement}
 use Rattle.gf.proofs.key.Tie as tie
 

@@ -5,7 +5,7 @@ use Prim.Native.Nat.{ℕ}
 use mathlib.Core.Bool.{not}
 use lib.Dec.{T}
 use lib.Ieee.{binary64, nanBits, ofBits}
-use Rattle.gf.specs.Key.{bits-key-below, bits-key-above, bits-key-no-nan, ofKey-is}
+use Rattle.gf.proofs.KeyLaws.{bits-key-below, bits-key-above, bits-key-no-nan, ofKey-is}
 use Rattle.gf.proofs.of_key.Statement.{statement}
 use Rattle.gf.proofs.of_key.Tie as tie
 

@@ -10,7 +10,7 @@ use lib.Ieee.{Float, nan}
 use denote.Ref.{now}
 use Rattle.gf.specs.Doubles.{storable}
 use Rattle.definitions.specs.Lists.{any}
-use Rattle.lists.specs.Fronts.{any-found, at-most-one, counted-all}
+use Rattle.lists.proofs.Fronts.{any-found, at-most-one, counted-all}
 use Rattle.lists.proofs.any_unstorable.Statement.{statement}
 use Rattle.lists.proofs.any_unstorable.Tie as tie
 

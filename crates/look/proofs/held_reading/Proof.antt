@@ -6,7 +6,7 @@ use lib.Ieee.{binary64, fits}
 use denote.Ref.{now}
 use borrow.Author.Needs.{needs}
 use Rattle.definitions.specs.declared.Answer.{Answer}
-use Rattle.look.specs.Reads.{held-none, held-some, held-inside}
+use Rattle.look.proofs.ReadsLaws.{held-none, held-some, held-inside}
 use Rattle.look.proofs.held_reading.Statement.{statement}
 use Rattle.look.proofs.held_reading.Tie as tie
 

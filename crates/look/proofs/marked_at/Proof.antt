@@ -2,7 +2,7 @@
 use Prim.Native.Nat.{_+_}
 use denote.Ref.{now}
 use borrow.Author.Needs.{needs}
-use Rattle.look.specs.Reads.{marked-value, marked-block}
+use Rattle.look.proofs.ReadsLaws.{marked-value, marked-block}
 use Rattle.look.proofs.marked_at.Statement.{statement}
 use Rattle.look.proofs.marked_at.Tie as tie
 

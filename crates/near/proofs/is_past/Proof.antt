@@ -1,6 +1,6 @@
 -- `near::is_past` meets its contract. Assumes nothing.
 use mathlib.Core.Bool.{false≢true}
-use Rattle.near.specs.Reaches.{past-all}
+use Rattle.near.proofs.Reaches.{past-all}
 use borrow.Author.Needs.{needs}
 use Rattle.near.proofs.is_past.Statement.{statement}
 use Rattle.near.proofs.is_past.Tie as tie

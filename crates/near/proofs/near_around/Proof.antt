@@ -1,6 +1,6 @@
 -- `near::near_around` meets its contract. Assumes nothing.
 use denote.Ref.{now}
-use Rattle.near.specs.Reaches.{around-own, around-last}
+use Rattle.near.proofs.Reaches.{around-own, around-last}
 use borrow.Author.Needs.{needs}
 use Rattle.near.proofs.near_around.Statement.{statement}
 use Rattle.near.proofs.near_around.Tie as tie

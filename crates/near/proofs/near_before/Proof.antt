@@ -4,7 +4,8 @@ use mathlib.Core.Path.{_≡_, subst}
 use native.Mathlib.Omega.{arith}
 use denote.Ref.{now}
 use borrow.Author.Needs.{needs}
-use Rattle.near.specs.Reaches.{Reached, reached-none, reached-one, reached-past}
+use Rattle.near.specs.Reaches.{Reached}
+use Rattle.near.proofs.Reaches.{reached-none, reached-one, reached-past}
 use Rattle.near.proofs.near_before.Statement.{statement}
 use Rattle.near.proofs.near_before.Tie as tie
 

@@ -7,7 +7,7 @@ use Rattle.window.specs.Bounds.{inside}
 use Rattle.window.specs.Inverses.{onSegment}
 use Rattle.window.specs.Near.{SoundSegment}
 use Rattle.beside.specs.Nearest.{Searched}
-use Rattle.near.specs.Tops.{segment-here}
+use Rattle.near.proofs.TopsLaws.{segment-here}
 use borrow.Author.Needs.{needs}
 use Rattle.near.proofs.near_segment.Statement.{statement}
 use Rattle.near.proofs.near_segment.Tie as tie

@@ -1,6 +1,6 @@
 -- `near::near_starts` meets its contract. Assumes nothing.
 use lib.Ieee.{ofBits, div}
-use Rattle.near.specs.Windowed.{starts-two, starts-one}
+use Rattle.near.proofs.Windowed.{starts-two, starts-one}
 use borrow.Author.Needs.{needs}
 use Rattle.near.proofs.near_starts.Statement.{statement}
 use Rattle.near.proofs.near_starts.Tie as tie

@@ -2,7 +2,7 @@
 use mathlib.Core.Path.{sym, _∙_}
 use Rattle.definitions.specs.Samples.{samples2}
 use Rattle.normal_form.specs.Normalizes.{listedNumber}
-use Rattle.sdf.specs.Lent.{paired}
+use Rattle.sdf.proofs.Lent.{paired}
 use borrow.Author.Needs.{needs}
 use Rattle.normal_form.proofs.listed_number.Statement.{statement}
 use Rattle.normal_form.proofs.listed_number.Tie as tie

@@ -5,7 +5,7 @@ use native.Mathlib.Omega.{arith}
 use lib.Dec.{T}
 use lib.Ieee.{binary64, fits}
 use denote.Ref.{now}
-use Rattle.gf.specs.Key.{le-no-nan, lt→le}
+use Rattle.gf.proofs.KeyLaws.{le-no-nan, lt→le}
 use Rattle.window.specs.Bounds.{LowerIs}
 use Rattle.near.specs.Windowed.{samplesIn, windowTimes}
 use Rattle.value.specs.ClipTimes.{OnSegment}

@@ -9,7 +9,7 @@ use Rattle.definitions.specs.Lists.{any, zipWith}
 use Rattle.definitions.specs.ClipSet.{ClipSet, anyUnstorable}
 use Rattle.definitions.specs.Samples.{unlikeLengths, nanValue, badMarks, closes, samplesNumber}
 use Rattle.cell_laws.specs.Unpacked.{samplesOf}
-use Rattle.sdf.specs.Lent.{every-fits, paired}
+use Rattle.sdf.proofs.Lent.{every-fits, paired}
 use Rattle.sdf.specs.Judged.{Judged}
 use Rattle.sdf.proofs.Numbers.{unlike, other-clips, unstorable, a-nan, a-mark, open-ends, falling, none-applies}
 use borrow.Author.Needs.{needs}

@@ -9,8 +9,8 @@ use borrow.Author.Tests.{leb-true, leb-false}
 use borrow.Author.Needs.{needs}
 use Rattle.definitions.specs.StageSamples.{stageSampleTimes}
 use Rattle.cell_laws.specs.Unpacked.{setOf, samplesOf}
-use Rattle.window.specs.Parts.{ready-readable}
-use Rattle.stage.specs.Around.{ready-few}
+use Rattle.window.proofs.Parts.{ready-readable}
+use Rattle.stage.proofs.Around.{ready-few}
 use Rattle.stage.proofs.stage_sample_times.Statement.{statement}
 use Rattle.stage.proofs.stage_sample_times.Tie as tie
 

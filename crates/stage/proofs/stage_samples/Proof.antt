@@ -14,10 +14,10 @@ use Rattle.definitions.specs.ClipSet.{ClipSet}
 use Rattle.definitions.specs.Samples.{Samples}
 use Rattle.definitions.specs.StageSamples.{stageSampleTimes}
 use Rattle.cell_laws.specs.Unpacked.{setOf, samplesOf}
-use Rattle.window.specs.Parts.{ready-readable}
-use Rattle.stage.specs.Around.{ready-few}
-use Rattle.stage.specs.Writing.{length-written}
-use Rattle.stage.specs.Samples.{samples-written, samples-none}
+use Rattle.window.proofs.Parts.{ready-readable}
+use Rattle.stage.proofs.Around.{ready-few}
+use Rattle.stage.proofs.Writing.{length-written}
+use Rattle.stage.proofs.Samples.{samples-written, samples-none}
 use borrow.Author.Needs.{needs}
 use Rattle.stage.proofs.stage_samples.Statement.{statement}
 use Rattle.stage.proofs.stage_samples.Tie as tie

@@ -1,7 +1,7 @@
 -- `standing::installed` meets its contract: each list is written over the front of an array. Assumes nothing.
 use mathlib.Core.Path.{sym}
 use borrow.Author.Needs.{needs}
-use Rattle.clip.specs.Laws.{lent}
+use Rattle.clip.proofs.Laws.{lent}
 use Rattle.standing.proofs.Arrays.{arrays-installed}
 use Rattle.standing.proofs.installed.Statement.{statement}
 use Rattle.standing.proofs.installed.Tie as tie

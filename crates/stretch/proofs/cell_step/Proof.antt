@@ -4,7 +4,8 @@ use Prim.Native.Nat.{ℕ, _-_, min}
 use native.Mathlib.Omega.{arith}
 use lib.ListN.{length}
 use lib.Ieee.{Float}
-use Rattle.gf.specs.Key.{ofKey, ofKey-fits, ofKey-finite}
+use Rattle.gf.specs.Key.{ofKey}
+use Rattle.gf.proofs.KeyLaws.{ofKey-fits, ofKey-finite}
 use Rattle.definitions.specs.Doubles.{FiniteDouble}
 use Rattle.definitions.specs.ClipSet.{ClipSet}
 use Rattle.definitions.specs.Samples.{Samples}
@@ -13,7 +14,8 @@ use Rattle.track_laws.specs.Laws.{Agree}
 use Rattle.cell_laws.specs.Keys.{Keys, entryAtKey}
 use Rattle.cell_laws.specs.Unpacked.{setOf, samplesOf}
 use Rattle.steps.specs.Entries.{entryIs}
-use Rattle.value.specs.Says.{saysIn, Sayable, ready-marks}
+use Rattle.value.specs.Says.{saysIn, Sayable}
+use Rattle.value.proofs.Says.{ready-marks}
 use Rattle.cell.specs.Pieces.{PieceIs}
 use Rattle.cell.specs.EndKeys.{endKey}
 use Rattle.cell.specs.Spots.{SpotAt}

@@ -3,7 +3,8 @@ use mathlib.Core.Path.{_≡_, sym, ap, _∙_, subst}
 use Prim.Native.Nat.{ℕ, _-_, _<_, min}
 use native.Mathlib.Omega.{arith}
 use lib.ListN.{length}
-use Rattle.gf.specs.Key.{key, ofKey, ofKey-fits, ofKey-finite}
+use Rattle.gf.specs.Key.{key, ofKey}
+use Rattle.gf.proofs.KeyLaws.{ofKey-fits, ofKey-finite}
 use Rattle.definitions.specs.ClipSet.{ClipSet}
 use Rattle.definitions.specs.Samples.{Samples}
 use Rattle.definitions.specs.Timing.{lastAtMost}
@@ -11,7 +12,8 @@ use Rattle.definitions.specs.Track.{entryOf}
 use Rattle.cell_laws.specs.Keys.{entryAtKey}
 use Rattle.cell_laws.specs.Unpacked.{setOf, samplesOf}
 use Rattle.steps.specs.Entries.{entryIs}
-use Rattle.value.specs.Says.{saysIn, Sayable, ready-marks}
+use Rattle.value.specs.Says.{saysIn, Sayable}
+use Rattle.value.proofs.Says.{ready-marks}
 use Rattle.value.specs.Handed.{WindowIs}
 use Rattle.cell.specs.declared.Cell.{Cell}
 use Rattle.cell.proofs.Lent.{spot-window}

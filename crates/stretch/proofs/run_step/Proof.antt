@@ -6,13 +6,14 @@ use native.Mathlib.Nat.{le-of-eq}
 use native.Mathlib.Omega.{arith}
 use lib.ListN.{length}
 use lib.Ieee.{Float}
-use Rattle.gf.specs.Key.{key, ofKey, ofKey-fits, ofKey-finite, finite→key, finite-no-nan}
+use Rattle.gf.specs.Key.{key, ofKey}
+use Rattle.gf.proofs.KeyLaws.{ofKey-fits, ofKey-finite, finite→key, finite-no-nan}
 use Rattle.definitions.specs.declared.Segment.{Segment}
 use Rattle.definitions.specs.Doubles.{FiniteDouble}
 use Rattle.cell_laws.specs.Keys.{Keys}
 use Rattle.cell_laws.specs.Unpacked.{setOf, samplesOf}
 use Rattle.lists.specs.Segments.{segmentAt}
-use Rattle.window.specs.Parts.{ready-readable}
+use Rattle.window.proofs.Parts.{ready-readable}
 use Rattle.steps.specs.declared.line.Line.the-variants as Line
 use Rattle.steps.specs.Entries.{entryIs}
 use Rattle.steps.specs.Lines.{placeOn}
@@ -21,7 +22,8 @@ use Rattle.near.specs.Windowed.{samplesIn}
 use Rattle.reading.specs.Passages.{lineOn}
 use Rattle.reading.specs.Readings.{Reads, entryAt, readingAt}
 use Rattle.value.specs.Handed.{WindowIs}
-use Rattle.value.specs.Passes.{Onset, nh}
+use Rattle.value.specs.Passes.{Onset}
+use Rattle.value.proofs.Passes.{nh}
 use Rattle.stretch.specs.declared.Way.the-variants.{Past}
 use Rattle.stretch.specs.Runs.{part, StretchIs}
 use Rattle.stretch.proofs.Cuts.{cut, uncut, recut}

@@ -6,11 +6,12 @@ use lib.Dec.{eqb, ltb}
 use lib.ListN.{length}
 use lib.Ieee.{Float}
 use borrow.Author.Tests.{eqb-true, ltb-true}
-use Rattle.gf.specs.Key.{ofKey, ofKey-fits, ofKey-finite}
+use Rattle.gf.specs.Key.{ofKey}
+use Rattle.gf.proofs.KeyLaws.{ofKey-fits, ofKey-finite}
 use Rattle.definitions.specs.Doubles.{FiniteDouble}
-use Rattle.set_laws.specs.Tests.{holds, is-true}
-use Rattle.cell_laws.specs.Every.{both-l, both-r}
-use Rattle.value.specs.Handed.{window-lent, window-nears}
+use Rattle.set_laws.proofs.Tests.{holds, is-true}
+use Rattle.cell_laws.proofs.Every.{both-l, both-r}
+use Rattle.value.proofs.Handed.{window-lent, window-nears}
 use Rattle.cell.specs.Spots.{SpotAt}
 use Rattle.cell.proofs.Lent.{spot-window}
 use Rattle.onset.specs.Begins.{OnsetIs}

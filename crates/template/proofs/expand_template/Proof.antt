@@ -9,11 +9,11 @@ use lib.ListN.{length, take}
 use lib.Ieee.{Float}
 use denote.Ref.{now}
 use Rattle.definitions.specs.Template.{TemplateFields, activeOffset}
-use Rattle.set_laws.specs.SoundTemplate.{TemplateFits}
+use Rattle.set_laws.proofs.SoundTemplate.{TemplateFits}
 use Rattle.clip.specs.Settling.{Settles}
 use Rattle.clip.specs.Holding.{manifest}
 use Rattle.template.specs.Expanding.{templateFields, templateFieldsNumber, knotCount, expandedSet}
-use Rattle.clip.specs.Laws.{all-fit, lent}
+use Rattle.clip.proofs.Laws.{all-fit, lent}
 use Rattle.template.proofs.Expansion.{few-knots}
 use Rattle.template.proofs.Templates.{few-blocks, template-refuses, template-beyond, template-settles}
 use Rattle.template.proofs.expand_template.Statement.{statement}

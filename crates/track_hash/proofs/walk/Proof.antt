@@ -4,7 +4,7 @@ use native.Mathlib.Omega.{arith}
 use borrow.Author.Needs.{needs}
 use lib.Dec.{lit≤}
 use Rattle.gf.specs.Key as Key
-use Rattle.window.specs.Parts.{ready-readable}
+use Rattle.window.proofs.Parts.{ready-readable}
 use Rattle.cell.proofs.Lent.{no-spot-is, few-knots}
 use Rattle.track.specs.Fills.{CursorIs}
 use Rattle.track_hash.proofs.walk.Statement.{statement}

@@ -1,5 +1,5 @@
 -- `beside::candidate::greater` meets its contract. Assumes nothing.
-use Rattle.beside.specs.Nearest.{greater-keeps, greater-takes, greater-first}
+use Rattle.beside.proofs.Nearest.{greater-keeps, greater-takes, greater-first}
 use borrow.Author.Needs.{needs}
 use Rattle.beside.proofs.candidate.greater.Statement.{statement}
 use Rattle.beside.proofs.candidate.greater.Tie as tie

@@ -1,5 +1,5 @@
 -- `beside::candidate::lesser` meets its contract. Assumes nothing.
-use Rattle.beside.specs.Nearest.{lesser-keeps, lesser-takes, lesser-first}
+use Rattle.beside.proofs.Nearest.{lesser-keeps, lesser-takes, lesser-first}
 use borrow.Author.Needs.{needs}
 use Rattle.beside.proofs.candidate.lesser.Statement.{statement}
 use Rattle.beside.proofs.candidate.lesser.Tie as tie

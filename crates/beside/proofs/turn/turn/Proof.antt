@@ -2,7 +2,8 @@
 use native.Mathlib.Omega.{arith}
 use denote.Ref.{now}
 use borrow.Author.Tests.{not-true, not-false}
-use Rattle.beside.specs.Turns.{isBeyond, turn-next}
+use Rattle.beside.specs.Turns.{isBeyond}
+use Rattle.beside.proofs.Turns.{turn-next}
 use borrow.Author.Needs.{needs}
 use Rattle.beside.proofs.turn.turn.Statement.{statement}
 use Rattle.beside.proofs.turn.turn.Tie as tie

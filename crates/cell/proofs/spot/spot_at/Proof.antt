@@ -1,7 +1,7 @@
 -- `spot::spot_at` meets its contract. Assumes nothing.
 use native.Mathlib.Omega.{arith}
-use Rattle.set_laws.specs.Places.{last-inside}
-use Rattle.window.specs.Parts.{ready-starts}
+use Rattle.set_laws.proofs.Places.{last-inside}
+use Rattle.window.proofs.Parts.{ready-starts}
 use Rattle.cell.proofs.Ways.{gap-stands}
 use borrow.Author.Needs.{needs}
 use Rattle.cell.proofs.spot.spot_at.Statement.{statement}

@@ -1,7 +1,7 @@
 -- `spot::window_after` meets its contract: what stands in for two windows without samples is the same. Assumes nothing.
 use mathlib.Core.Path.{refl}
 use native.Mathlib.Omega.{arith}
-use Rattle.window.specs.Parts.{ready-clip}
+use Rattle.window.proofs.Parts.{ready-clip}
 use Rattle.cell.proofs.Gaps.{window-on}
 use borrow.Author.Needs.{needs}
 use Rattle.cell.proofs.spot.window_after.Statement.{statement}

@@ -7,7 +7,7 @@ use lib.ListN.{length, length-set}
 use lib.Ieee.{nan}
 use denote.Ref.{now}
 use Rattle.definitions.specs.ClipSet.{maxBlocks}
-use Rattle.lists.specs.Filled.{Filled, fill-start, fill-next}
+use Rattle.lists.proofs.Filled.{Filled, fill-start, fill-next}
 use Rattle.clip.proofs.Packing.{packed}
 use Rattle.clip.proofs.storage.pack_blocks.Statement.{statement}
 use Rattle.clip.proofs.storage.pack_blocks.Tie as tie

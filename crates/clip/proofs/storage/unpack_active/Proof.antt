@@ -10,7 +10,7 @@ use Rattle.definitions.specs.declared.Start.{Start}
 use Rattle.definitions.specs.ClipSet.{activeTimes}
 use Rattle.cell_laws.specs.Unpacked.{start}
 use Rattle.clip.specs.Holding.{activeIn, activeClips}
-use Rattle.lists.specs.Filled.{Filled, fill-start, fill-next, fill-whole}
+use Rattle.lists.proofs.Filled.{Filled, fill-start, fill-next, fill-whole}
 use Rattle.clip.proofs.Packing.{unpacked-length, unpacked-at}
 use Rattle.clip.proofs.storage.unpack_active.Statement.{statement}
 use Rattle.clip.proofs.storage.unpack_active.Tie as tie

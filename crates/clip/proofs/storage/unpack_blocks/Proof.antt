@@ -7,7 +7,7 @@ use lib.ListN.{length, length-set}
 use lib.Ieee.{nan}
 use denote.Ref.{now}
 use lib.Seq.{length-take-le, getD-take}
-use Rattle.lists.specs.Filled.{Filled, fill-start, fill-next, fill-whole}
+use Rattle.lists.proofs.Filled.{Filled, fill-start, fill-next, fill-whole}
 use Rattle.clip.specs.Holding.{blocksIn}
 use Rattle.clip.proofs.storage.unpack_blocks.Statement.{statement}
 use Rattle.clip.proofs.storage.unpack_blocks.Tie as tie

@@ -11,7 +11,7 @@ use Rattle.definitions.specs.ClipSet.{knotTimes}
 use Rattle.definitions.specs.Explicit.{knot}
 use Rattle.set_laws.specs.Sound.{knotValues}
 use Rattle.clip.specs.Holding.{knotsIn}
-use Rattle.lists.specs.Filled.{Filled, fill-start, fill-next, fill-whole}
+use Rattle.lists.proofs.Filled.{Filled, fill-start, fill-next, fill-whole}
 use Rattle.clip.proofs.Packing.{unpacked-length, unpacked-at}
 use Rattle.clip.proofs.storage.unpack_knots.Statement.{statement}
 use Rattle.clip.proofs.storage.unpack_knots.Tie as tie

@@ -9,7 +9,7 @@ use lib.Ieee.{Float, nan}
 use denote.Ref.{now}
 use Rattle.gf.specs.Doubles.{isClipNumber}
 use Rattle.definitions.specs.Lists.{any}
-use Rattle.lists.specs.Fronts.{any-here, any-later, any-end}
+use Rattle.lists.proofs.Fronts.{any-here, any-later, any-end}
 use Rattle.explicit.specs.Parsing.{anyNotClip}
 use Rattle.explicit.proofs.fields.any_not_clip.Statement.{statement}
 use Rattle.explicit.proofs.fields.any_not_clip.Tie as tie

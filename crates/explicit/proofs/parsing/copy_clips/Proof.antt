@@ -9,10 +9,10 @@ use lib.Ieee.{Float, nan}
 use denote.Ref.{now}
 use lib.Dec.{T}
 use Rattle.gf.specs.Doubles.{truncated, isClipNumber}
-use Rattle.set_laws.specs.Every.{every-at, any-not-every}
-use Rattle.lists.specs.Filled.{Filled, fill-start, fill-next, fill-whole}
+use Rattle.set_laws.proofs.Every.{every-at, any-not-every}
+use Rattle.lists.proofs.Filled.{Filled, fill-start, fill-next, fill-whole}
 use Rattle.explicit.proofs.Indices.{index-ready}
-use Rattle.clip.specs.Laws.{mapped-at}
+use Rattle.clip.proofs.Laws.{mapped-at}
 use Rattle.explicit.proofs.parsing.copy_clips.Statement.{statement}
 use Rattle.explicit.proofs.parsing.copy_clips.Tie as tie
 

@@ -11,7 +11,7 @@ use lib.Ieee.{Float, fin, ofBits, lt, le}
 use lib.Ieee.Bits.{is-true}
 use borrow.Author.Tests.{ltb-true}
 use Rattle.gf.specs.Doubles.{0·0, isWhole, truncated, isClipNumber}
-use Rattle.gf.specs.ClipNumbers.{below-power, power-below}
+use Rattle.gf.proofs.ClipNumbers.{below-power, power-below}
 use Rattle.gf.proofs.clip_number.is_clip_number.Statement.{statement}
 use Rattle.gf.proofs.clip_number.is_clip_number.Tie as tie
 

@@ -1,6 +1,6 @@
 -- `gf::clip_number::to_index` meets its contract: within 64 bits the cast loses nothing. Assumes nothing.
 use mathlib.Core.Path.{_∙_}
-use Rattle.gf.specs.ClipNumbers.{above-minus-one, below-power, cast-cuts}
+use Rattle.gf.proofs.ClipNumbers.{above-minus-one, below-power, cast-cuts}
 use Rattle.gf.proofs.clip_number.to_index.Statement.{statement}
 use Rattle.gf.proofs.clip_number.to_index.Tie as tie
 

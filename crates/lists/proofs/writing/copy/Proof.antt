@@ -6,7 +6,7 @@ use borrow.Author.Needs.{needs}
 use lib.ListN.{length, length-set}
 use lib.Ieee.{nan}
 use denote.Ref.{now}
-use Rattle.lists.specs.Filled.{Filled, fill-start, fill-next, fill-whole}
+use Rattle.lists.proofs.Filled.{Filled, fill-start, fill-next, fill-whole}
 use Rattle.lists.proofs.writing.copy.Statement.{statement}
 use Rattle.lists.proofs.writing.copy.Tie as tie
 

@@ -6,7 +6,7 @@ use lib.ListN.{length}
 use lib.Ieee.{nan}
 use denote.Ref.{now}
 use Rattle.definitions.specs.Retime.{apply}
-use Rattle.lists.specs.Filled.{Changed, change-start, change-next, change-end}
+use Rattle.lists.proofs.Filled.{Changed, change-start, change-next, change-end}
 use Rattle.lists.proofs.writing.move_times.Statement.{statement}
 use Rattle.lists.proofs.writing.move_times.Tie as tie
 

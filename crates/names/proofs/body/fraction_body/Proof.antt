@@ -4,7 +4,7 @@ use native.Mathlib.Omega.{arith}
 use mathlib.Core.Path.{_≡_, ap, _∙_}
 use Prim.Native.Nat.{max}
 use native.Mathlib.Nat.{one-le-pow}
-use Rattle.gf.specs.Exactly.{within-finite}
+use Rattle.gf.proofs.Exactly.{within-finite}
 use Rattle.definitions.specs.Names.{decimals}
 use Rattle.names.proofs.BodyLaws.{decimals-is, with-fraction}
 use Rattle.names.proofs.body.fraction_body.Statement.{statement}

@@ -2,7 +2,7 @@
 use borrow.Author.Needs.{needs}
 use mathlib.Core.Path.{_≡_, sym, ap, _∙_}
 use Prim.Native.Nat.{_-_, max}
-use Rattle.gf.specs.Exactly.{within-finite}
+use Rattle.gf.proofs.Exactly.{within-finite}
 use Rattle.gf.specs.Doubles.{truncated}
 use Rattle.names.proofs.BodyLaws.{truncated-is, with-minus, without-minus}
 use Rattle.names.proofs.body.whole_body.Statement.{statement}

@@ -4,8 +4,8 @@ use native.Mathlib.Omega.{arith}
 use mathlib.Core.Path.{sym, subst}
 use lib.Dec.{T}
 use lib.Ieee.{binary64, fits}
-use Rattle.gf.specs.Key.{finite-no-nan}
-use Rattle.gf.specs.Exactly.{within-finite}
+use Rattle.gf.proofs.KeyLaws.{finite-no-nan}
+use Rattle.gf.proofs.Exactly.{within-finite}
 use Rattle.names.proofs.MagnitudeLaws.{measured-tiny, measured}
 use Rattle.names.proofs.magnitude.measure.Statement.{statement}
 use Rattle.names.proofs.magnitude.measure.Tie as tie

@@ -1,7 +1,8 @@
 -- `near::tops::next_top` meets its contract. Assumes nothing.
 use mathlib.Core.Path.{sym, ap, _∙_, subst}
 use lib.Ieee.{Float, lt}
-use Rattle.near.specs.Tops.{NewTop, top-flat, top-higher, top-lower}
+use Rattle.near.specs.Tops.{NewTop}
+use Rattle.near.proofs.TopsLaws.{top-flat, top-higher, top-lower}
 use borrow.Author.Needs.{needs}
 use Rattle.near.proofs.tops.next_top.Statement.{statement}
 use Rattle.near.proofs.tops.next_top.Tie as tie

@@ -6,7 +6,8 @@ use lib.Ieee.{ofBits, neg, div, fits, isNan}
 use denote.Ref.{now}
 use Rattle.definitions.specs.declared.Segment.{Segment}
 use Rattle.window.specs.Near.{SoundSegment}
-use Rattle.near.specs.Tops.{NewTop, ReachOf, reach-none, reach-next, segment-here}
+use Rattle.near.specs.Tops.{NewTop, ReachOf}
+use Rattle.near.proofs.TopsLaws.{reach-none, reach-next, segment-here}
 use Rattle.near.proofs.tops.reach_before.Statement.{statement}
 use Rattle.near.proofs.tops.reach_before.Tie as tie
 

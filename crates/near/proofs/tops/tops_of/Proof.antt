@@ -7,7 +7,8 @@ use lib.Ieee.{ofBits, neg, div, fits, isNan}
 use denote.Ref.{now}
 use Rattle.definitions.specs.declared.Segment.{Segment}
 use Rattle.window.specs.Near.{SoundSegment}
-use Rattle.near.specs.Tops.{NewTop, TopsTo, tops-none, tops-next, tops-all, segment-here}
+use Rattle.near.specs.Tops.{NewTop}
+use Rattle.near.proofs.TopsLaws.{TopsTo, tops-none, tops-next, tops-all, segment-here}
 use borrow.Author.Needs.{needs}
 use Rattle.near.proofs.tops.tops_of.Statement.{statement}
 use Rattle.near.proofs.tops.tops_of.Tie as tie

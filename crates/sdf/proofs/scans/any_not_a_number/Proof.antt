@@ -8,7 +8,7 @@ use lib.Dec.{ltb}
 use lib.ListN.{length, getD, drop}
 use lib.Ieee.{nan, isNan}
 use Rattle.definitions.specs.Lists.{any}
-use Rattle.lists.specs.Fronts.{any-found, at-most-one, counted-all}
+use Rattle.lists.proofs.Fronts.{any-found, at-most-one, counted-all}
 use Rattle.sdf.proofs.scans.any_not_a_number.Statement.{statement}
 use Rattle.sdf.proofs.scans.any_not_a_number.Tie as tie
 

@@ -8,7 +8,7 @@ use lib.Dec.{ltb}
 use lib.ListN.{length, drop}
 use Rattle.definitions.specs.Lists.{any}
 use Rattle.definitions.specs.Samples.{badMarks}
-use Rattle.lists.specs.Fronts.{any-end}
+use Rattle.lists.proofs.Fronts.{any-end}
 use Rattle.sdf.proofs.Scanned.{badMark, mark-on, or-nothing}
 use Rattle.sdf.proofs.scans.bad_marks.Statement.{statement}
 use Rattle.sdf.proofs.scans.bad_marks.Tie as tie

@@ -4,9 +4,9 @@ use Prim.Native.Nat.{_<_}
 use native.Mathlib.Omega.{arith}
 use lib.ListN.{length}
 use denote.Ref.{now}
-use Rattle.window.specs.Parts.{last-short, ready-starts, ready-clip, ready-readable}
+use Rattle.window.proofs.Parts.{last-short, ready-starts, ready-clip, ready-readable}
 use Rattle.look.specs.Reads.{heldIs}
-use Rattle.stage.specs.Marks.{mark-none, mark-read, mark-gap}
+use Rattle.stage.proofs.Marks.{mark-none, mark-read, mark-gap}
 use borrow.Author.Needs.{needs}
 use Rattle.stage.proofs.mark.supplied_at.Statement.{statement}
 use Rattle.stage.proofs.mark.supplied_at.Tie as tie

@@ -9,8 +9,9 @@ use denote.Ref.{now}
 use Rattle.definitions.specs.ClipSet.{ClipSet}
 use Rattle.definitions.specs.Samples.{Samples}
 use Rattle.cell_laws.specs.Unpacked.{setOf, samplesOf}
-use Rattle.stage.specs.Marks.{marksAt, marks-front, marks-end}
-use Rattle.stage.specs.Writing.{Wrote, wrote-start, wrote-on, wrote-end, wrote-rest}
+use Rattle.stage.specs.Marks.{marksAt}
+use Rattle.stage.proofs.Marks.{marks-front, marks-end}
+use Rattle.stage.proofs.Writing.{Wrote, wrote-start, wrote-on, wrote-end, wrote-rest}
 use Rattle.stage.proofs.mark.write_marks.Statement.{statement}
 use Rattle.stage.proofs.mark.write_marks.Tie as tie
 

@@ -6,11 +6,11 @@ use lib.Dec.{T}
 use lib.ListN.{length}
 use lib.Ieee.{binary64, fits}
 use denote.Ref.{now}
-use Rattle.window.specs.Parts.{last-short, ready-starts}
-use Rattle.stage.specs.Whole.{ready-windows}
-use Rattle.stage.specs.Times.{next-none}
-use Rattle.stage.specs.Zeros.{windows-sampled}
-use Rattle.stage.specs.Around.{next-searched}
+use Rattle.window.proofs.Parts.{last-short, ready-starts}
+use Rattle.stage.proofs.Whole.{ready-windows}
+use Rattle.stage.proofs.Times.{next-none}
+use Rattle.stage.proofs.Zeros.{windows-sampled}
+use Rattle.stage.proofs.Around.{next-searched}
 use Rattle.stage.proofs.next.next_time.Statement.{statement}
 use Rattle.stage.proofs.next.next_time.Tie as tie
 

@@ -6,7 +6,7 @@ use lib.ListN.{length}
 use denote.Ref.{now}
 use Rattle.definitions.specs.Doubles.{FiniteDouble}
 use Rattle.near.specs.Windowed.{boundsOf}
-use Rattle.stage.specs.Whole.{whole-order, whole-upto, whole-nears, whole-found}
+use Rattle.stage.proofs.Whole.{whole-order, whole-upto, whole-nears, whole-found}
 use borrow.Author.Needs.{needs}
 use Rattle.stage.proofs.next.search_window.Statement.{statement}
 use Rattle.stage.proofs.next.search_window.Tie as tie

@@ -10,8 +10,9 @@ use Rattle.definitions.specs.Doubles.{FiniteDouble}
 use Rattle.definitions.specs.StageSamples.{stageSampleTimes}
 use Rattle.cell_laws.specs.Unpacked.{setOf, samplesOf}
 use Rattle.window.specs.declared.Bound.{Bound}
-use Rattle.stage.specs.Times.{stageAfter, NextTime, before-finite, times-all}
-use Rattle.stage.specs.Writing.{count-done, count-over, count-on}
+use Rattle.stage.specs.Times.{stageAfter, NextTime}
+use Rattle.stage.proofs.Times.{before-finite, times-all}
+use Rattle.stage.proofs.Writing.{count-done, count-over, count-on}
 use borrow.Author.Needs.{needs}
 use Rattle.stage.proofs.walk.fits.Statement.{statement}
 use Rattle.stage.proofs.walk.fits.Tie as tie

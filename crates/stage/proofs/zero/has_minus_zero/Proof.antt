@@ -6,7 +6,7 @@ use lib.ListN.{length, drop}
 use lib.Ieee.{nan}
 use denote.Ref.{now}
 use borrow.Author.Tests.{eq-eqb, ne-eqb}
-use Rattle.lists.specs.Fronts.{any-here, any-later, any-end}
+use Rattle.lists.proofs.Fronts.{any-here, any-later, any-end}
 use Rattle.stage.specs.Zeros.{isMinusZero, anyMinusZero}
 use borrow.Author.Needs.{needs}
 use Rattle.stage.proofs.zero.has_minus_zero.Statement.{statement}

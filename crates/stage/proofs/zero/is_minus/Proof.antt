@@ -2,7 +2,8 @@
 use mathlib.Core.Path.{_≡_, sym, _∙_}
 use mathlib.Core.Bool.{false}
 use denote.Ref.{now}
-use Rattle.stage.specs.Zeros.{anyMinusZero, minus-sampled, minus-nowhere}
+use Rattle.stage.specs.Zeros.{anyMinusZero}
+use Rattle.stage.proofs.Zeros.{minus-sampled, minus-nowhere}
 use borrow.Author.Needs.{needs}
 use Rattle.stage.proofs.zero.is_minus.Statement.{statement}
 use Rattle.stage.proofs.zero.is_minus.Tie as tie

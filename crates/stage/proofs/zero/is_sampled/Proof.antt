@@ -4,8 +4,9 @@ use native.Mathlib.Omega.{arith}
 use lib.ListN.{length, getD}
 use lib.Ieee.{ofBits, neg}
 use denote.Ref.{now}
-use Rattle.set_laws.specs.Places.{last-inside}
-use Rattle.stage.specs.MinusZero.{minusZero, minus-finite}
+use Rattle.set_laws.proofs.Places.{last-inside}
+use Rattle.stage.specs.MinusZero.{minusZero}
+use Rattle.stage.proofs.MinusZero.{minus-finite}
 use borrow.Author.Needs.{needs}
 use Rattle.stage.proofs.zero.is_sampled.Statement.{statement}
 use Rattle.stage.proofs.zero.is_sampled.Tie as tie

@@ -1,7 +1,7 @@
 -- `stage::zero::with_zero` meets its contract. Assumes nothing.
 use mathlib.Core.Path.{sym, _∙_}
 use lib.Ieee.{ofBits, neg}
-use Rattle.stage.specs.First.{zero-taken, other-kept}
+use Rattle.stage.proofs.First.{zero-taken, other-kept}
 use borrow.Author.Needs.{needs}
 use Rattle.stage.proofs.zero.with_zero.Statement.{statement}
 use Rattle.stage.proofs.zero.with_zero.Tie as tie

@@ -1,7 +1,7 @@
 -- `line::along` meets its contract, by the line's form. Assumes nothing.
 use mathlib.Core.Path.{sym, _∙_}
 use borrow.Author.Needs.{needs}
-use Rattle.steps.specs.Lines.{along-plain, along-flat, along-segment}
+use Rattle.steps.proofs.Lines.{along-plain, along-flat, along-segment}
 use Rattle.steps.proofs.line.along.Statement.{statement}
 use Rattle.steps.proofs.line.along.Tie as tie
 

@@ -8,8 +8,8 @@ use lib.ListN.{length, length-set, length-map}
 use lib.Ieee.{Float, nan, ofBits}
 use denote.Ref.{now}
 use Rattle.gf.specs.Doubles.{_⊘_, 10000·0}
-use Rattle.lists.specs.Filled.{Filled, fill-start, fill-next, fill-whole}
-use Rattle.clip.specs.Laws.{mapped-at}
+use Rattle.lists.proofs.Filled.{Filled, fill-start, fill-next, fill-whole}
+use Rattle.clip.proofs.Laws.{mapped-at}
 use Rattle.template.proofs.expanding.write_clip_times.Statement.{statement}
 use Rattle.template.proofs.expanding.write_clip_times.Tie as tie
 

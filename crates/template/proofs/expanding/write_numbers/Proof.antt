@@ -6,7 +6,7 @@ use borrow.Author.Needs.{needs}
 use lib.ListN.{length, length-set}
 use denote.Ref.{now}
 use Rattle.template.specs.Expanding.{numbered}
-use Rattle.lists.specs.Filled.{Filled, fill-start, fill-next, fill-whole}
+use Rattle.lists.proofs.Filled.{Filled, fill-start, fill-next, fill-whole}
 use Rattle.template.proofs.Expansion.{numbered-length, numbered-at}
 use Rattle.template.proofs.expanding.write_numbers.Statement.{statement}
 use Rattle.template.proofs.expanding.write_numbers.Tie as tie

@@ -9,8 +9,8 @@ use lib.Ieee.{nan, ofBits}
 use denote.Ref.{now}
 use Rattle.definitions.specs.Template.{stageTime}
 use Rattle.template.specs.Expanding.{offsetOf}
-use Rattle.lists.specs.Filled.{Filled, fill-start, fill-next, fill-whole}
-use Rattle.clip.specs.Laws.{mapped-at}
+use Rattle.lists.proofs.Filled.{Filled, fill-start, fill-next, fill-whole}
+use Rattle.clip.proofs.Laws.{mapped-at}
 use Rattle.template.proofs.expanding.write_starts.Statement.{statement}
 use Rattle.template.proofs.expanding.write_starts.Tie as tie
 

@@ -7,7 +7,7 @@ use denote.Ref.{now}
 use Rattle.definitions.specs.ClipSet.{anyUnstorable}
 use Rattle.definitions.specs.Template.{TemplateFields, template1, template2, template7, template6}
 use Rattle.template.specs.Expanding.{templateFields, offsetOf, timesUnstorable, timesDisordered, templateFieldsNumber}
-use Rattle.clip.specs.Laws.{untrue, holding}
+use Rattle.clip.proofs.Laws.{untrue, holding}
 use Rattle.template.proofs.fields.fields_number.Statement.{statement}
 use Rattle.template.proofs.fields.fields_number.Tie as tie
 

@@ -1,7 +1,7 @@
 -- `bake::bake` meets its contract: the walk begins at the lowest key, with a page of its own. Assumes nothing.
 use mathlib.Core.Path.{refl}
 use lib.Dec.{lit≤}
-use Rattle.window.specs.Parts.{ready-readable}
+use Rattle.window.proofs.Parts.{ready-readable}
 use Rattle.cell.proofs.Lent.{no-spot-is, few-knots}
 use Rattle.track.proofs.Walks.{slots-some}
 use borrow.Author.Needs.{needs}

@@ -5,7 +5,7 @@ use native.Mathlib.Omega.{arith}
 use borrow.Author.Needs.{needs}
 use lib.ListN.{length, length-set}
 use denote.Ref.{now}
-use Rattle.lists.specs.Filled.{Filled, fill-start, fill-next, fill-whole}
+use Rattle.lists.proofs.Filled.{Filled, fill-start, fill-next, fill-whole}
 use Rattle.track.proofs.copying.copy_marks.Statement.{statement}
 use Rattle.track.proofs.copying.copy_marks.Tie as tie
 

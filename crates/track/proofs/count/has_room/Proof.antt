@@ -7,7 +7,7 @@ use lib.ListN.{length}
 use borrow.Author.Tests.{le-leb, lt-leb}
 use Rattle.definitions.specs.ClipSet.{ClipSet}
 use Rattle.definitions.specs.Samples.{Samples}
-use Rattle.track_laws.specs.Laws.{changes-none}
+use Rattle.track_laws.proofs.Laws.{changes-none}
 use Rattle.cell_laws.specs.Keys.{entryAtKey}
 use Rattle.cell_laws.specs.Tracks.{entry-same}
 use Rattle.cell_laws.specs.Unpacked.{setOf, samplesOf}

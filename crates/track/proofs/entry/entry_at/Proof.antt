@@ -4,7 +4,7 @@ use lib.ListN.{length}
 use lib.Ieee.{Float}
 use lib.Ieee.Scale.{finite}
 use lib.Dec.{T}
-use Rattle.gf.specs.Key.{ofKey-finite}
+use Rattle.gf.proofs.KeyLaws.{ofKey-finite}
 use Rattle.definitions.specs.ClipSet.{stage}
 use Rattle.definitions.specs.Track.{entryOf}
 use Rattle.definitions.specs.Value.{valueInSet}

@@ -8,8 +8,8 @@ use lib.ListN.{length, getD}
 use lib.Ieee.{nan, binary64, fits}
 use denote.Ref.{now}
 use Rattle.definitions.specs.Timing.{lastAtMost}
-use Rattle.window.specs.Pairs.{jumpsAt, jump-by-x}
-use Rattle.value.specs.Jumps.{any-none, none-above, none-step, none-all, one-here, last-place}
+use Rattle.window.proofs.Pairs.{jumpsAt, jump-by-x}
+use Rattle.value.proofs.Jumps.{any-none, none-above, none-step, none-all, one-here, last-place}
 use borrow.Author.Needs.{needs}
 use Rattle.value.proofs.jump.is_jump.Statement.{statement}
 use Rattle.value.proofs.jump.is_jump.Tie as tie

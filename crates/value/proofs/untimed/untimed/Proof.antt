@@ -1,6 +1,6 @@
 -- `value::untimed::untimed` meets its contract. Assumes nothing.
 use mathlib.Core.Path.{sym, _∙_}
-use Rattle.value.specs.Untimed.{clips-named, untimed-absent, untimed-default, untimed-samples, untimed-blocked}
+use Rattle.value.proofs.UntimedLaws.{clips-named, untimed-absent, untimed-default, untimed-samples, untimed-blocked}
 use Rattle.value.proofs.untimed.untimed.Statement.{statement}
 use Rattle.value.proofs.untimed.untimed.Tie as tie
 

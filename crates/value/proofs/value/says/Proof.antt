@@ -5,7 +5,8 @@ use native.Mathlib.Omega.{arith}
 use lib.ListN.{length}
 use denote.Ref.{now}
 use Rattle.definitions.specs.Samples.{clipBegin}
-use Rattle.value.specs.Says.{Sayable, says-sample, says-default, says-blocked, says-absent}
+use Rattle.value.specs.Says.{Sayable}
+use Rattle.value.proofs.Says.{says-sample, says-default, says-blocked, says-absent}
 use borrow.Author.Needs.{needs}
 use Rattle.value.proofs.value.says.Statement.{statement}
 use Rattle.value.proofs.value.says.Tie as tie

@@ -4,7 +4,8 @@ use lib.ListN.{length}
 use denote.Ref.{now}
 use Rattle.definitions.specs.Value.{says, valueInSet}
 use Rattle.cell_laws.specs.Unpacked.{setOf, samplesOf}
-use Rattle.value.specs.Says.{Sayable, says-ready, ready-marks, value-in}
+use Rattle.value.specs.Says.{Sayable}
+use Rattle.value.proofs.Says.{says-ready, ready-marks, value-in}
 use borrow.Author.Needs.{needs}
 use Rattle.value.proofs.value.value.Statement.{statement}
 use Rattle.value.proofs.value.value.Tie as tie

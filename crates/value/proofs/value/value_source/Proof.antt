@@ -7,10 +7,10 @@ use lib.ListN.{length}
 use lib.Ieee.{binary64, fits}
 use denote.Ref.{now}
 use borrow.Author.Needs.{needs}
-use Rattle.window.specs.Parts.{last-short, ready-starts, ready-readable}
-use Rattle.direct.specs.Sources.{reads-absent}
-use Rattle.value.specs.Handed.{window-lent}
-use Rattle.value.specs.Values.{value-few, value-asks, value-in}
+use Rattle.window.proofs.Parts.{last-short, ready-starts, ready-readable}
+use Rattle.direct.proofs.Sources.{reads-absent}
+use Rattle.value.proofs.Handed.{window-lent}
+use Rattle.value.proofs.Values.{value-few, value-asks, value-in}
 use Rattle.value.proofs.value.value_source.Statement.{statement}
 use Rattle.value.proofs.value.value_source.Tie as tie
 

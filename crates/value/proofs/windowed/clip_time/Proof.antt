@@ -6,7 +6,8 @@ use denote.Ref.{now}
 use Rattle.definitions.specs.declared.Segment.{Segment}
 use Rattle.definitions.specs.ClipSet.{clip}
 use Rattle.definitions.specs.Timing.{onSegment, mapStageToClip}
-use Rattle.value.specs.ClipTimes.{OnSegment, on-segment}
+use Rattle.value.specs.ClipTimes.{OnSegment}
+use Rattle.value.proofs.ClipTimes.{on-segment}
 use borrow.Author.Needs.{needs}
 use Rattle.value.proofs.windowed.clip_time.Statement.{statement}
 use Rattle.value.proofs.windowed.clip_time.Tie as tie

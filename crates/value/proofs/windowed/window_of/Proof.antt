@@ -7,10 +7,10 @@ use lib.ListN.{getD}
 use lib.Ieee.{Float, nan, eq}
 use denote.Ref.{now}
 use Rattle.definitions.specs.Lists.{any}
-use Rattle.set_laws.specs.Tests.{holds, is-true}
-use Rattle.cell_laws.specs.Every.{both-l, both-r}
-use Rattle.window.specs.Parts.{ready-clip}
-use Rattle.value.specs.Handed.{window-samples, window-gap}
+use Rattle.set_laws.proofs.Tests.{holds, is-true}
+use Rattle.cell_laws.proofs.Every.{both-l, both-r}
+use Rattle.window.proofs.Parts.{ready-clip}
+use Rattle.value.proofs.Handed.{window-samples, window-gap}
 use borrow.Author.Needs.{needs}
 use Rattle.value.proofs.windowed.window_of.Statement.{statement}
 use Rattle.value.proofs.windowed.window_of.Tie as tie

@@ -1,0 +1,31 @@
+-- What is shown of the definitions of `cell_laws`.
+-- What holds of every entry of a list
+pub mod Every
+-- The place of the last time ≤ t: it is monotone, and stays while no time is passed
+pub mod Places
+-- The clip time: on a stretch that passes no knot it goes by one line, and rises or falls
+pub mod Knots
+-- The direct reading: it goes by the active start and the place of the sample, which rises or falls
+pub mod Direct
+-- A window's gathered times: while none is passed, the start, the knots and the neighbours stay
+pub mod Window
+-- The value on a stretch that passes no boundary: held from the lower neighbour, or direct
+pub mod Stretches
+-- The cell that says the value on such a stretch
+pub mod Cells
+-- The end of a stretch: the least boundary above t
+pub mod Ends
+-- Both zeros are one time for every question
+pub mod Zeros
+-- The value as a function of the key, and the end of a cell
+pub mod Keys
+-- The track over keys, written out, is document 01's, and the only one
+pub mod Tracks
+-- The neighbours as extremes, in any order, and the cell by them
+pub mod Neighbours
+-- The inverse time in a segment is finite and monotone in the sample
+pub mod Inverse
+-- Cells that are computed
+pub mod Figures
+-- A set and samples as plain lists
+pub mod Unpacked

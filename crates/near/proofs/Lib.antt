@@ -1,0 +1,7 @@
+-- What is shown of the definitions of `near`.
+-- How far the inverse times of the segments reach
+pub mod TopsLaws
+-- The inverse times of all segments by those near a time
+pub mod Reaches
+-- A window as it is handed on
+pub mod Windowed

@@ -1,0 +1,13 @@
+-- What is shown of the definitions of `set_laws`.
+pub mod Tests
+pub mod Every
+pub mod Places
+pub mod Sorting
+pub mod Gap
+pub mod Stored
+pub mod Sound
+pub mod SoundExplicit
+pub mod SoundTemplate
+pub mod SoundRetime
+pub mod LastKnot
+pub mod Accepted

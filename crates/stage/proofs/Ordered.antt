@@ -1,0 +1,262 @@
+-- Times in the order of `total_cmp` with equals dropped, one after the other: behind a time stand those above it, and the first of them is the least.
+-- Assumes nothing.
+use mathlib.Core.Path.{_≡_, refl, sym, ap, ap₂, _∙_, subst}
+use mathlib.Core.Logic.{inl, inr}
+use mathlib.Core.Bool.{Bool, true, false, cond}
+use mathlib.Core.List.{List, [], _∷_}
+use Prim.Native.Nat.{ℕ, _+_, _-_, _≤_, _<_}
+use native.Mathlib.Omega.{arith}
+use lib.Dec.{T, ltb}
+use lib.Ieee.{Float, binary64, toBits, eq, lt, le}
+use borrow.Author.Tests.{ltb-true, ltb-false}
+use Rattle.gf.specs.Key.{key}
+use Rattle.gf.proofs.KeyLaws.{key→le, key→eq, key→lt, lt→key, eq→key, lt→le, le→key, lt-le-trans, finite-no-nan, bits-lt}
+use Rattle.gf.proofs.Units.{same-bits}
+use Rattle.gf.specs.Doubles.{totalKey}
+use Rattle.definitions.specs.Lists.{keep, sortBy}
+use Rattle.definitions.specs.Doubles.{FiniteDouble}
+use Rattle.definitions.specs.StageSamples.{dropEqual, dedup}
+use Rattle.set_laws.specs.Every.{Every, Chain, ChainFrom}
+use Rattle.set_laws.proofs.Stored.{total→key}
+use Rattle.set_laws.proofs.Sorting.{every-sort, sort-every, sort-sorted}
+use Rattle.cell_laws.proofs.Every.{every-map, every-zip, every-keep}
+use Rattle.cell_laws.specs.Places.{Fits}
+use Rattle.window.specs.declared.Bound.{Bound}
+use Rattle.window.specs.declared.Bound.the-variants.{At, Nothing}
+use Rattle.window.specs.Bounds.{In}
+use Rattle.window.proofs.BoundsLaws.{every-in, in-every}
+use Rattle.stage.specs.Ordered.{after}
+
+-- ---- lists
+
+kept-pass : (p : Float → Bool) (l : List Float) → Every (λ (x : Float). T (p x)) (keep p l)
+kept-pass p [] = tt
+kept-pass p (x ∷ l) = go (p x) (λ h. h) (kept-pass p l)
+  where
+    go : (b : Bool) → (T b → T (p x)) → Every (λ (y : Float). T (p y)) (keep p l) → Every (λ (y : Float). T (p y)) (cond b (x ∷ keep p l) (keep p l))
+    go true h r = (h tt, r)
+    go false h r = r
+
+keep-all : (p : Float → Bool) (l : List Float) → Every (λ (x : Float). T (p x)) l → keep p l ≡ l
+keep-all p [] h = refl
+keep-all p (x ∷ l) h = go (p x) (h .0) (keep-all p l (h .1))
+  where
+    go : (b : Bool) → T b → keep p l ≡ l → cond b (x ∷ keep p l) (keep p l) ≡ x ∷ l
+    go true t e = ap (λ (k : List Float). x ∷ k) e
+    go false t e = absurd t
+
+keep-none : (p : Float → Bool) (l : List Float) → Every (λ (x : Float). T (p x) → ⊥) l → keep p l ≡ []
+keep-none p [] h = refl
+keep-none p (x ∷ l) h = go (p x) (h .0) (keep-none p l (h .1))
+  where
+    go : (b : Bool) → (T b → ⊥) → keep p l ≡ [] → cond b (x ∷ keep p l) (keep p l) ≡ []
+    go true f e = absurd (f tt)
+    go false f e = e
+
+-- a test that only times pass that pass an earlier one
+keep-keep : (p q : Float → Bool) (l : List Float) → Every (λ (x : Float). T (q x) → T (p x)) l → keep q (keep p l) ≡ keep q l
+keep-keep p q [] h = refl
+keep-keep p q (x ∷ l) h = go (p x) (q x) refl (h .0) (keep-keep p q l (h .1))
+  where
+    go : (a b : Bool) → q x ≡ b → (T b → T a) → keep q (keep p l) ≡ keep q l → keep q (cond a (x ∷ keep p l) (keep p l)) ≡ cond b (x ∷ keep q l) (keep q l)
+    go true b e f r = ap (λ (c : Bool). cond c (x ∷ keep q (keep p l)) (keep q (keep p l))) e ∙ ap (λ (k : List Float). cond b (x ∷ k) k) r
+    go false true e f r = absurd (f tt)
+    go false false e f r = r
+
+pub in-keep : (p : Float → Bool) (x : Float) (l : List Float) → In x l → T (p x) → In x (keep p l)
+in-keep p x [] i h = absurd i
+in-keep p x (y ∷ l) (inl e) h = go (p y) (subst (λ (z : Float). T (p z)) e h)
+  where
+    go : (b : Bool) → T b → In x (cond b (y ∷ keep p l) (keep p l))
+    go true t = inl e
+    go false t = absurd t
+in-keep p x (y ∷ l) (inr i) h = go (p y) (in-keep p x l i h)
+  where
+    go : (b : Bool) → In x (keep p l) → In x (cond b (y ∷ keep p l) (keep p l))
+    go true r = inr r
+    go false r = r
+
+-- ---- comparisons of finite doubles
+
+module _ (x y : Float) (f : FiniteDouble x) (g : FiniteDouble y) where
+  total-le : totalKey x ≤ totalKey y → T (le x y)
+  total-le h = key→le x y (f .fitting) (g .fitting) (finite-no-nan x (f .finitely)) (finite-no-nan y (g .finitely)) (total→key x y (f .fitting) (g .fitting) h)
+
+  key-lt : T (lt x y) → key x < key y
+  key-lt h = lt→key x y (f .fitting) (g .fitting) (finite-no-nan x (f .finitely)) (finite-no-nan y (g .finitely)) h
+
+  lt-key : key x < key y → T (lt x y)
+  lt-key h = key→lt x y (f .fitting) (g .fitting) (finite-no-nan x (f .finitely)) (finite-no-nan y (g .finitely)) h
+
+  key-le : T (le x y) → key x ≤ key y
+  key-le h = le→key x y (f .fitting) (g .fitting) (finite-no-nan x (f .finitely)) (finite-no-nan y (g .finitely)) h
+
+  key-eq : T (eq x y) → key x ≡ key y
+  key-eq h = eq→key x y (f .fitting) (g .fitting) (finite-no-nan x (f .finitely)) (finite-no-nan y (g .finitely)) h
+
+  eq-key : key x ≡ key y → T (eq x y)
+  eq-key h = key→eq x y (f .fitting) (g .fitting) (finite-no-nan x (f .finitely)) (finite-no-nan y (g .finitely)) h
+
+same-bool : (a b : Bool) → (T a → T b) → (T b → T a) → a ≡ b
+same-bool true true f g = refl
+same-bool true false f g = absurd (f tt)
+same-bool false true f g = absurd (g tt)
+same-bool false false f g = refl
+
+is-false : (b : Bool) → (T b → ⊥) → b ≡ false
+is-false true f = absurd (f tt)
+is-false false f = refl
+
+is-true : (b : Bool) → T b → b ≡ true
+is-true true f = refl
+is-true false f = absurd f
+
+-- one number in the order of `total_cmp` is one double
+same-key : (a b : ℕ) → a < 0x1_0000_0000_0000_0000 → b < 0x1_0000_0000_0000_0000 → (p q : Bool) → ltb a 0x8000_0000_0000_0000 ≡ p → ltb b 0x8000_0000_0000_0000 ≡ q
+    → cond p (0x8000_0000_0000_0000 + a) (0xffff_ffff_ffff_ffff - a) ≡ cond q (0x8000_0000_0000_0000 + b) (0xffff_ffff_ffff_ffff - b) → a ≡ b
+same-key a b la lb true true p q h = omega arith
+same-key a b la lb true false p q h = let i = ltb-true a 0x8000_0000_0000_0000 p in let j = ltb-false b 0x8000_0000_0000_0000 q in absurd (omega arith)
+same-key a b la lb false true p q h = let i = ltb-false a 0x8000_0000_0000_0000 p in let j = ltb-true b 0x8000_0000_0000_0000 q in absurd (omega arith)
+same-key a b la lb false false p q h = omega arith
+
+pub total-same : (x y : Float) → Fits x → Fits y → totalKey x ≡ totalKey y → x ≡ y
+unfolding totalKey
+total-same x y p q h =
+    same-bits binary64 x y p q
+    (same-key (toBits binary64 x) (toBits binary64 y) (bits-lt x p) (bits-lt y q) (ltb (toBits binary64 x) 0x8000_0000_0000_0000) (ltb (toBits binary64 y) 0x8000_0000_0000_0000) refl refl h)
+
+-- ---- a sorted list
+
+-- each entry is not above any behind it
+abbrev Rising : List Float → Type 0
+Rising [] = Unit {0}
+Rising (x ∷ l) = Every (λ (y : Float). totalKey x ≤ totalKey y) l × Rising l
+
+rising-from : (x : Float) (l : List Float) → ChainFrom (λ (a b : Float). totalKey a ≤ totalKey b) x l → Rising (x ∷ l)
+rising-from x [] c = (tt, tt)
+rising-from x (y ∷ l) c =
+    let r = rising-from y l (c .1) in
+    ((c .0, every-map (λ (z : Float). totalKey y ≤ totalKey z) (λ (z : Float). totalKey x ≤ totalKey z) (λ z h. omega (arith, c .0)) l (r .0)), r)
+
+rising-chain : (l : List Float) → Chain (λ (a b : Float). totalKey a ≤ totalKey b) l → Rising l
+rising-chain [] c = tt
+rising-chain (x ∷ l) c = rising-from x l c
+
+rising-keep : (p : Float → Bool) (l : List Float) → Rising l → Rising (keep p l)
+rising-keep p [] r = tt
+rising-keep p (x ∷ l) r = go (p x) (rising-keep p l (r .1))
+  where
+    go : (b : Bool) → Rising (keep p l) → Rising (cond b (x ∷ keep p l) (keep p l))
+    go true k = (every-keep (λ (y : Float). totalKey x ≤ totalKey y) p l (r .0), k)
+    go false k = k
+
+-- ---- equals dropped
+
+every-drop-equal : (P : Float → Type 0) (x : Float) (l : List Float) → Every P l → Every P (dropEqual x l)
+unfolding dropEqual
+every-drop-equal P x [] h = tt
+every-drop-equal P x (y ∷ l) h = go (eq x y)
+  where
+    go : (b : Bool) → Every P (cond b l (y ∷ l))
+    go true = h .1
+    go false = h
+
+every-dedup : (P : Float → Type 0) (l : List Float) → Every P l → Every P (dedup l)
+unfolding dedup
+every-dedup P [] h = tt
+every-dedup P (x ∷ l) h = (h .0, every-drop-equal P x (dedup l) (every-dedup P l (h .1)))
+
+module _ (h : Float) (fh : FiniteDouble h) where
+  -- of one number the same equals are dropped
+  drop-same : (y : Float) → FiniteDouble y → T (eq h y) → (l : List Float) → Every FiniteDouble l → dropEqual y l ≡ dropEqual h l
+  unfolding dropEqual
+  drop-same y fy e [] f = refl
+  drop-same y fy e (z ∷ l) f =
+      let k = key-eq h y fh fy e in
+      ap (λ (b : Bool). cond b l (z ∷ l))
+      (same-bool (eq y z) (eq h z) (λ u. eq-key h z fh (f .0) (k ∙ key-eq y z fy (f .0) u)) (λ u. eq-key y z fy (f .0) (sym k ∙ key-eq h z fh (f .0) u)))
+
+  -- behind h stand the times above it
+  behind : (l : List Float) → Every FiniteDouble l → Every (λ (y : Float). T (le h y)) l → Rising l → dropEqual h (dedup l) ≡ dedup (keep (λ (x : Float). lt h x) l)
+  unfolding dropEqual dedup
+  behind [] f m r = refl
+  behind (y ∷ l) f m r = go (eq h y) refl (behind l (f .1) (m .1) (r .1))
+    where
+      go : (b : Bool) → eq h y ≡ b → dropEqual h (dedup l) ≡ dedup (keep (λ (x : Float). lt h x) l) → cond (eq h y) (dropEqual y (dedup l)) (y ∷ dropEqual y (dedup l)) ≡ dedup (cond (lt h y) (y ∷ keep (λ (x : Float). lt h x) l) (keep (λ (x : Float). lt h x) l))
+      go true e rest =
+          let k = key-eq h y fh (f .0) (subst T (sym e) tt) in
+          let n : lt h y ≡ false = is-false (lt h y) (λ u. let q = key-lt h y fh (f .0) u in omega arith) in
+          ap (λ (b : Bool). cond b (dropEqual y (dedup l)) (y ∷ dropEqual y (dedup l))) e
+          ∙ drop-same y (f .0) (subst T (sym e) tt) (dedup l) (every-dedup FiniteDouble l (f .1))
+          ∙ rest
+          ∙ ap (λ (b : Bool). dedup (cond b (y ∷ keep (λ (x : Float). lt h x) l) (keep (λ (x : Float). lt h x) l))) (sym n)
+      go false e rest =
+          let u : T (lt h y) = lt-key h y fh (f .0) (apart (key h) (key y) (key-le h y fh (f .0) (m .0)) (λ q. subst T e (eq-key h y fh (f .0) q))) in
+          let a : keep (λ (x : Float). lt h x) l ≡ l =
+          keep-all (λ (x : Float). lt h x) l
+          (every-zip FiniteDouble (λ (z : Float). totalKey y ≤ totalKey z) (λ (z : Float). T (lt h z))
+          (λ z fz q. lt-le-trans h y z (fh .fitting) (f .0 .fitting) (fz .fitting) u (total-le y z (f .0) fz q)) l (f .1) (r .0)) in
+          ap (λ (b : Bool). cond b (dropEqual y (dedup l)) (y ∷ dropEqual y (dedup l))) e
+          ∙ ap₂ (λ (b : Bool) (k : List Float). dedup (cond b (y ∷ k) k)) (sym (is-true (lt h y) u)) (sym a)
+        where
+          apart : (a b : ℕ) → a ≤ b → (a ≡ b → ⊥) → a < b
+          apart a b p q = omega arith
+
+  -- the least of a sorted list is its first
+  first-least : (l : List Float) → Every FiniteDouble l → Rising l → Every (λ (y : Float). totalKey h ≤ totalKey y) l → In h l → dedup l ≡ h ∷ dedup (keep (λ (x : Float). lt h x) l)
+  unfolding dedup
+  first-least [] f r m i = absurd i
+  first-least (y ∷ l) f r m i =
+      let e : y ≡ h = total-same y h (f .0 .fitting) (fh .fitting) (same (totalKey y) (totalKey h) (least i) (m .0)) in
+      ap (λ (z : Float). z ∷ dropEqual z (dedup l)) e
+      ∙ ap (λ (k : List Float). h ∷ k) (behind l (f .1) (every-zip FiniteDouble (λ (z : Float). totalKey h ≤ totalKey z) (λ (z : Float). T (le h z)) (λ z fz q. total-le h z fh fz q) l (f .1) (m .1)) (r .1) ∙ ap dedup (sym (skipped e)))
+    where
+      least : In h (y ∷ l) → totalKey y ≤ totalKey h
+      least (inl e) = subst (λ (z : Float). totalKey z ≤ totalKey h) e (omega arith)
+      least (inr j) = in-every (λ (z : Float). totalKey y ≤ totalKey z) h l (r .0) j
+
+      same : (a b : ℕ) → a ≤ b → b ≤ a → a ≡ b
+      same a b p q = omega arith
+
+      skipped : y ≡ h → cond (lt h y) (y ∷ keep (λ (x : Float). lt h x) l) (keep (λ (x : Float). lt h x) l) ≡ keep (λ (x : Float). lt h x) l
+      skipped e =
+          let n : lt h y ≡ false = is-false (lt h y) (λ u. let q = key-lt h y fh (f .0) u in let k = ap key e in omega arith) in
+          ap (λ (b : Bool). cond b (y ∷ keep (λ (x : Float). lt h x) l) (keep (λ (x : Float). lt h x) l)) n
+
+-- ---- the times behind t
+
+-- the first of the times above t in the order of `total_cmp`, or none is above it
+abbrev pub NextIs : List Float → Float → Bound → Type 0
+NextIs l t (At h) = In h l × T (lt t h) × Every (λ (x : Float). T (lt t x) → totalKey h ≤ totalKey x) l
+NextIs l t Nothing = Every (λ (x : Float). T (lt t x) → ⊥) l
+
+module _ (l : List Float) (f : Every FiniteDouble l) where
+  sorted-rising : Rising (sortBy totalKey l)
+  sorted-rising = rising-chain (sortBy totalKey l) (sort-sorted totalKey l)
+
+  sorted-finite : Every FiniteDouble (sortBy totalKey l)
+  sorted-finite = every-sort totalKey FiniteDouble l f
+
+  -- from before all of them on
+  pub after-all : (t : Float) → Every (λ (x : Float). T (lt t x)) l → after l t ≡ dedup (sortBy totalKey l)
+  unfolding after
+  after-all t h = ap dedup (keep-all (λ (x : Float). lt t x) (sortBy totalKey l) (every-sort totalKey (λ (x : Float). T (lt t x)) l h))
+
+  module _ (t : Float) (ft : Fits t) where
+    pub after-none : NextIs l t Nothing → after l t ≡ []
+    unfolding after dedup
+    after-none h = ap dedup (keep-none (λ (x : Float). lt t x) (sortBy totalKey l) (every-sort totalKey (λ (x : Float). T (lt t x) → ⊥) l h))
+
+    pub after-next : (h : Float) → NextIs l t (At h) → after l t ≡ h ∷ after l h
+    unfolding after
+    after-next h n =
+        let fh = in-every FiniteDouble h l f (n .0) in
+        let s = sortBy totalKey l in
+        let k = keep (λ (x : Float). lt t x) s in
+        first-least h fh k (every-keep FiniteDouble (λ (x : Float). lt t x) s sorted-finite) (rising-keep (λ (x : Float). lt t x) s sorted-rising)
+        (every-zip (λ (x : Float). T (lt t x)) (λ (x : Float). T (lt t x) → totalKey h ≤ totalKey x) (λ (x : Float). totalKey h ≤ totalKey x) (λ x p q. q p) k (kept-pass (λ (x : Float). lt t x) s)
+        (every-keep (λ (x : Float). T (lt t x) → totalKey h ≤ totalKey x) (λ (x : Float). lt t x) s (every-sort totalKey (λ (x : Float). T (lt t x) → totalKey h ≤ totalKey x) l (n .2))))
+        (in-keep (λ (x : Float). lt t x) h s (in-every (λ (x : Float). In x s) h l (sort-every totalKey (λ (x : Float). In x s) l (every-in s)) (n .0)) (n .1))
+        ∙ ap (λ (z : List Float). h ∷ dedup z)
+        (keep-keep (λ (x : Float). lt t x) (λ (x : Float). lt h x) s
+        (every-map FiniteDouble (λ (x : Float). T (lt h x) → T (lt t x)) (λ x q u. lt-le-trans t h x ft (fh .fitting) (q .fitting) (n .1) (lt→le h x u)) s sorted-finite))

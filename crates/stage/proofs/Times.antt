@@ -1,0 +1,229 @@
+-- The stage sample times over the lent lists: they are finite, and the next one is the next of the times of all windows. Assumes nothing.
+use mathlib.Core.Path.{_≡_, refl, sym, ap, ap₂, _∙_, subst}
+use mathlib.Core.Logic.{inl, inr}
+use mathlib.Core.Bool.{Bool, true, false, _&&_, cond}
+use mathlib.Core.List.{List, [], _∷_, _++_, append-assoc}
+use mathlib.Core.Option.{Option}
+use Prim.Native.Nat.{ℕ, zero, suc, _-_, _<_}
+use native.Mathlib.Omega.{arith}
+use native.Mathlib.Decide.{decLe}
+use lib.Dec.{T}
+use lib.ListN.{length, getD, getElem?, drop}
+use lib.Ieee.{Float, nan, fits, lt, le}
+use lib.Ieee.Scale.{finite}
+use Rattle.gf.proofs.KeyLaws.{le-trans, lt-le-trans}
+use Rattle.gf.specs.Exactly.{power}
+use Rattle.gf.proofs.Exactly.{within-lo}
+use Rattle.definitions.specs.declared.Manifest.{Manifest}
+use Rattle.definitions.specs.declared.Knot.{Knot}
+use Rattle.definitions.specs.declared.Start.{Start}
+use Rattle.definitions.specs.Lists.{keep, pairs, gather, below}
+use Rattle.definitions.specs.Doubles.{FiniteDouble}
+use Rattle.definitions.specs.ClipSet.{ClipSet, clip}
+use Rattle.definitions.specs.Samples.{Samples, clipBegin, clipEnd, clipTimes}
+use Rattle.definitions.specs.Value.{spans, inverse, onPair, stageTimesForClipTime, windowSampleTimes}
+use Rattle.definitions.specs.StageSamples.{timesOfClip, stageSampleTimes}
+use Rattle.set_laws.specs.Every.{Every}
+use Rattle.set_laws.proofs.Every.{every-at}
+use Rattle.set_laws.specs.Stored.{Stored}
+use Rattle.set_laws.proofs.Stored.{stored-finite}
+use Rattle.cell_laws.proofs.Every.{every-map, every-append, every-left, every-right, every-gather, every-take, every-drop, both-l, both-r, or-split}
+use Rattle.cell_laws.specs.Places.{Fits}
+use Rattle.cell_laws.proofs.Inverse.{inverse-fin-up, inverse-fin-down}
+use Rattle.cell_laws.specs.Unpacked.{start, activeOf, knotsOf, setOf, samplesOf, Ready}
+use Rattle.cell_laws.proofs.Unpacked.{zip-here, zip-length, active-times, knot-times}
+use Rattle.window.specs.declared.Bound.{Bound}
+use Rattle.window.specs.declared.Bound.the-variants.{At, Nothing}
+use Rattle.window.specs.Parts.{partOf}
+use Rattle.window.proofs.Parts.{ready-readable}
+use Rattle.window.specs.Near.{SoundSegment}
+use Rattle.window.proofs.Near.{inverse-fits}
+use Rattle.window.specs.Bounds.{inside, In}
+use Rattle.window.proofs.BoundsLaws.{every-in, in-every}
+use Rattle.window.specs.Inverses.{inversesOf}
+use Rattle.window.proofs.Inverses.{every-if}
+use Rattle.window.specs.Windows.{windowOf, windowPart}
+use Rattle.window.proofs.Windows.{window-times}
+use Rattle.stage.specs.Whole.{wholeTimes}
+use Rattle.stage.proofs.Ordered.{NextIs, after-all, after-none, after-next}
+use Rattle.stage.specs.Times.{allTimes, stageAfter, NextTime}
+
+-- ---- lists by places
+
+gather-append : {A : Type 0} (f : A → List Float) (a b : List A) → gather f (a ++ b) ≡ gather f a ++ gather f b
+gather-append f [] b = refl
+gather-append f (x ∷ a) b = ap (λ (l : List Float). f x ++ l) (gather-append f a b) ∙ sym (append-assoc (f x) (gather f a) (gather f b))
+
+gather-same : (f g : ℕ → List Float) (n : ℕ) → ((p : ℕ) → p < n → f p ≡ g p) → gather f (below n) ≡ gather g (below n)
+gather-same f g zero h = refl
+gather-same f g (suc n) h =
+    gather-append f (below n) (n ∷ [])
+    ∙ ap₂ (λ (u v : List Float). u ++ v) (gather-same f g n (λ p l. h p (omega arith))) (ap (λ (l : List Float). l ++ []) (h n (omega arith)))
+    ∙ sym (gather-append g (below n) (n ∷ []))
+
+pub every-below : (n : ℕ) → Every (λ (p : ℕ). p < n) (below n)
+every-below zero = tt
+every-below (suc n) = every-append (λ (p : ℕ). p < suc n) (below n) (n ∷ []) (every-map (λ (p : ℕ). p < n) (λ (p : ℕ). p < suc n) (λ p h. omega arith) (below n) (every-below n)) (omega arith, tt)
+
+-- what holds of all times holds of one window's
+every-part : (P : Float → Type 0) (f : ℕ → List Float) (n q : ℕ) → q < n → Every P (gather f (below n)) → Every P (f q)
+every-part P f zero q l h = absurd (omega arith)
+every-part P f (suc n) q l h =
+    let k = subst (Every P) (gather-append f (below n) (n ∷ [])) h in
+    elim (decLe n q) [
+      | yes e ↦ let z : n ≡ q = omega arith in subst (λ (i : ℕ). Every P (f i)) z (every-left P (f n) [] (every-right P (gather f (below n)) (f n ++ []) k))
+      | no e ↦ every-part P f n q (omega arith) (every-left P (gather f (below n)) (f n ++ []) k)
+    ]
+
+-- ---- the times are finite, and none is before -2^40
+
+abbrev pub Timely : Float → Type 0
+Timely x = FiniteDouble x × T (le (power true 40) x)
+
+stored-timely : (x : Float) → Stored x → Timely x
+stored-timely x s = (stored-finite x s, within-lo 40 x (s .inside))
+
+power-fits : Fits (power true 40)
+unfolding fits
+power-fits = tt
+
+-- an inverse time is not before the knot that it is measured from
+inverse-from : (q : Knot × Knot) (c : Float) → SoundSegment q → T (spans (q .0 .y) (q .1 .y) c) → T (finite (inverse (q .0) (q .1) c)) × T (le (q .0 .x) (inverse (q .0) (q .1) c))
+inverse-from q c s h = elim (or-split (up && from && to) (down && under && over) h) [
+  | inl u ↦ inverse-fin-up (q .0) (q .1) (s .first) (s .second) (s .wide) (both-l up from (both-l (up && from) to u)) c (both-r up from (both-l (up && from) to u)) (both-r (up && from) to u)
+  | inr u ↦ inverse-fin-down (q .0) (q .1) (s .first) (s .second) (s .wide) (both-l down under (both-l (down && under) over u)) c (both-r down under (both-l (down && under) over u)) (both-r (down && under) over u)
+]
+  where
+    up : Bool
+    up = lt (q .0 .y) (q .1 .y)
+
+    from : Bool
+    from = le (q .0 .y) c
+
+    to : Bool
+    to = le c (q .1 .y)
+
+    down : Bool
+    down = lt (q .1 .y) (q .0 .y)
+
+    under : Bool
+    under = le (q .1 .y) c
+
+    over : Bool
+    over = le c (q .0 .y)
+
+inverse-timely : (q : Knot × Knot) (c : Float) → SoundSegment q → T (spans (q .0 .y) (q .1 .y) c) → Timely (inverse (q .0) (q .1) c)
+inverse-timely q c s h =
+    let f = inverse-from q c s h in (
+      record { fitting = inverse-fits q c; finitely = f .0 },
+      le-trans (power true 40) (q .0 .x) (inverse (q .0) (q .1) c) power-fits (s .first .fx) (inverse-fits q c) (within-lo 40 (q .0 .x) (s .first .bx)) (f .1),
+    )
+
+pair-timely : (c : Float) (q : Knot × Knot) → SoundSegment q → Every Timely (onPair c q)
+pair-timely c q s = go (spans (q .0 .y) (q .1 .y) c) (λ h. h)
+  where
+    go : (b : Bool) → (T b → T (spans (q .0 .y) (q .1 .y) c)) → Every Timely (cond b (inverse (q .0) (q .1) c ∷ []) [])
+    go true h = (inverse-timely q c s (h tt), tt)
+    go false h = tt
+
+stage-timely : (knots : List Knot) → Every SoundSegment (pairs knots) → (c : Float) → Stored c → Every Timely (stageTimesForClipTime knots (clip c))
+unfolding stageTimesForClipTime
+stage-timely [] s c f = (stored-timely c f, tt)
+stage-timely (k ∷ l) s c f = every-gather SoundSegment Timely (onPair c) (λ q h. pair-timely c q h) (pairs (k ∷ l)) s
+
+-- before all of them
+abbrev pub beforeAll : Float
+beforeAll = power true 41
+
+pub before-finite : FiniteDouble beforeAll
+unfolding fits
+before-finite = record { fitting = tt; finitely = tt }
+
+timely-behind : (x : Float) → Timely x → T (lt beforeAll x)
+unfolding lt
+timely-behind x f = lt-le-trans beforeAll (power true 40) x (before-finite .fitting) power-fits (f .0 .fitting) tt (f .1)
+
+-- ---- of lists that are ready
+
+module _ {starts : List Float} {clips : List ℕ} {xs ys blocks : List Float} {m : Manifest} {times values : List Float} {marks ends : List ℕ} (R : Ready starts clips xs ys blocks m times values marks ends) where
+  abbrev set : ClipSet
+  set = setOf (length ends) starts clips xs ys blocks m
+
+  abbrev s : Samples
+  s = samplesOf times values marks ends
+
+  -- the times of one window
+  abbrev part : ℕ → List Float
+  part p = wholeTimes starts clips xs ys times ends p
+
+  part-is : (p : ℕ) → p < length starts → windowSampleTimes set p (timesOfClip s (getElem? (activeOf starts clips) p)) ≡ part p
+  unfolding clipTimes
+  part-is p h =
+      window-times R p h (timesOfClip s (getElem? (activeOf starts clips) p))
+      ∙ ap (λ (o : Option Start). windowPart starts xs ys p (timesOfClip s o)) (zip-here start starts clips p nan 0 (R .starts-paired) h)
+
+  parts-are : allTimes set s ≡ gather part (below (length starts))
+  unfolding setOf
+  parts-are =
+      ap (λ (n : ℕ). gather (λ (p : ℕ). windowSampleTimes set p (timesOfClip s (getElem? (activeOf starts clips) p))) (below n)) (zip-length start starts clips (R .starts-paired))
+      ∙ gather-same (λ (p : ℕ). windowSampleTimes set p (timesOfClip s (getElem? (activeOf starts clips) p))) part (length starts) part-is
+
+  -- what holds of the start and of times inside the window holds of its times
+  pub part-each : (P : Float → Type 0) (p : ℕ) → p < length starts → P (getD starts p nan) → ((x : Float) → Timely x → T (inside (windowOf starts p) x) → P x) → Every P (part p)
+  unfolding windowPart setOf
+  part-each P p h first within =
+      let w = inside (windowOf starts p) in
+      let cs = partOf times ends (getD clips p 0) in
+      let n = clipEnd ends (getD clips p 0) - clipBegin ends (getD clips p 0) in (
+        first,
+        every-append P (keep w xs) (keep w (inversesOf (knotsOf xs ys) cs))
+            (every-if P w xs (every-map Stored (λ (x : Float). T (w x) → P x) (λ x f. within x (stored-timely x f)) xs (subst (Every Stored) (knot-times xs ys (R .knots-paired)) (R .sound .xs))))
+            (every-if P w (inversesOf (knotsOf xs ys) cs)
+            (every-map Timely (λ (x : Float). T (w x) → P x) within (inversesOf (knotsOf xs ys) cs)
+            (every-gather Stored Timely (λ (c : Float). stageTimesForClipTime (knotsOf xs ys) (clip c)) (stage-timely (knotsOf xs ys) (ready-readable R .segments)) cs
+            (every-take Stored n (drop (clipBegin ends (getD clips p 0)) times) (every-drop Stored (clipBegin ends (getD clips p 0)) times (R .accepted .stored)))))),
+      )
+
+  pub part-first : (P : Float → Type 0) (p : ℕ) → Every P (part p) → P (getD starts p nan)
+  unfolding windowPart
+  part-first P p h = h .0
+
+  start-stored : (p : ℕ) → p < length starts → Stored (getD starts p nan)
+  unfolding setOf
+  start-stored p h = every-at Stored starts p nan (subst (Every Stored) (active-times starts clips (R .starts-paired)) (R .sound .times)) h
+
+  part-timely : (p : ℕ) → p < length starts → Every Timely (part p)
+  part-timely p h = part-each Timely p h (stored-timely (getD starts p nan) (start-stored p h)) (λ x f i. f)
+
+  parts-timely : Every Timely (gather part (below (length starts)))
+  parts-timely = every-gather (λ (p : ℕ). p < length starts) Timely part part-timely (below (length starts)) (every-below (length starts))
+
+  pub part-finite : (p : ℕ) → p < length starts → Every FiniteDouble (part p)
+  part-finite p h = every-map Timely FiniteDouble (λ x f. f .0) (part p) (part-timely p h)
+
+  pub parts-finite : Every FiniteDouble (gather part (below (length starts)))
+  parts-finite = every-map Timely FiniteDouble (λ x f. f .0) (gather part (below (length starts))) parts-timely
+
+  times-finite : Every FiniteDouble (allTimes set s)
+  times-finite = rw parts-are parts-finite
+
+  -- they are among all
+  pub part-in : (q : ℕ) → q < length starts → Every (λ (x : Float). In x (gather part (below (length starts)))) (part q)
+  part-in q l = every-part (λ (x : Float). In x (gather part (below (length starts)))) part (length starts) q l (every-in (gather part (below (length starts))))
+
+  -- from before all of them on
+  pub times-all : stageAfter set s beforeAll ≡ stageSampleTimes set s
+  unfolding stageSampleTimes
+  times-all = after-all (allTimes set s) times-finite beforeAll (rw parts-are (every-map Timely (λ (x : Float). T (lt beforeAll x)) timely-behind (gather part (below (length starts))) parts-timely))
+
+  -- by the next of the times of all windows
+  pub next-time : (t : Float) → Fits t → (b : Bound) → NextIs (gather part (below (length starts))) t b → NextTime set s t b
+  next-time t ft b n = go b (subst (λ (l : List Float). NextIs l t b) (sym parts-are) n)
+    where
+      go : (b : Bound) → NextIs (allTimes set s) t b → NextTime set s t b
+      go Nothing n = after-none (allTimes set s) times-finite t ft n
+      go (At h) n = (in-every FiniteDouble h (allTimes set s) times-finite (n .0), after-next (allTimes set s) times-finite t ft h n)
+
+  -- without starts there is none
+  pub next-none : (t : Float) → Fits t → length starts ≡ 0 → NextTime set s t Nothing
+  next-none t ft e = next-time t ft Nothing (subst (λ (n : ℕ). NextIs (gather part (below n)) t Nothing) (sym e) tt)

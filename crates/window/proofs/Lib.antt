@@ -1,0 +1,13 @@
+-- What is shown of the definitions of `window`.
+-- The neighbours of a time among times in any order
+pub mod BoundsLaws
+-- The jump test by the x of the knots alone
+pub mod Pairs
+-- The inverse times of a clip's samples, segment by segment
+pub mod Inverses
+-- Where the inverse times between two knots lie
+pub mod Near
+-- A window's gathered times over the lent lists
+pub mod Windows
+-- A clip's part of the lent times, and what lists that are ready tell
+pub mod Parts
