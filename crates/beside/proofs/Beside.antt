@@ -15,14 +15,14 @@ use Rattle.gf.specs.declared.interval.Interval.{Interval}
 use Rattle.definitions.specs.Lists.{keep}
 use Rattle.definitions.specs.Doubles.{FiniteDouble}
 use Rattle.definitions.specs.Timing.{lastAtMost}
-use Rattle.set_laws.proofs.Tests.{is-true}
-use Rattle.set_laws.specs.Every.{Every}
-use Rattle.set_laws.proofs.Every.{every-at}
-use Rattle.set_laws.specs.Places.{Ascending}
-use Rattle.set_laws.proofs.Places.{atMost, at-most-length, beyond, last-is, key-at-most, key-above}
-use Rattle.cell_laws.proofs.Every.{every-by, every-kept, both, both-l, both-r}
-use Rattle.cell_laws.specs.Ends.{Number}
-use Rattle.cell_laws.specs.Places.{Fits}
+use Rattle.laws.proofs.list.Tests.{is-true}
+use Rattle.laws.specs.list.Every.{Every}
+use Rattle.laws.proofs.list.Every.{every-at}
+use Rattle.laws.specs.list.Places.{Ascending}
+use Rattle.laws.proofs.list.Places.{atMost, at-most-length, beyond, last-is, key-at-most, key-above}
+use Rattle.laws.proofs.cell.Every.{every-by, every-kept, both, both-l, both-r}
+use Rattle.laws.specs.cell.Ends.{Number}
+use Rattle.laws.specs.cell.Places.{Fits}
 use Rattle.window.specs.declared.Bound.{Bound}
 use Rattle.window.specs.declared.Bound.the-variants.{At, Nothing}
 use Rattle.window.specs.declared.Bounds.{Bounds}

@@ -12,9 +12,9 @@ use Rattle.gf.specs.Key.{key}
 use Rattle.gf.proofs.KeyLaws.{le-is, le→key, lt→key, key→le, key→lt, le-refl, le-both}
 use Rattle.gf.specs.declared.interval.Interval.{Interval}
 use Rattle.definitions.specs.Lists.{keep}
-use Rattle.set_laws.specs.Every.{Every}
-use Rattle.cell_laws.proofs.Every.{every-map, every-zip, every-append, every-left, every-right}
-use Rattle.cell_laws.specs.Ends.{Number}
+use Rattle.laws.specs.list.Every.{Every}
+use Rattle.laws.proofs.cell.Every.{every-map, every-zip, every-append, every-left, every-right}
+use Rattle.laws.specs.cell.Ends.{Number}
 use Rattle.window.specs.declared.Bound.{Bound}
 use Rattle.window.specs.declared.Bound.the-variants.{At, Nothing}
 use Rattle.window.specs.declared.Bounds.{Bounds}

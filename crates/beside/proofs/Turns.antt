@@ -17,13 +17,13 @@ use Rattle.gf.specs.declared.interval.Interval.{Interval}
 use Rattle.definitions.specs.declared.Knot.{Knot}
 use Rattle.definitions.specs.Lists.{keep, gather}
 use Rattle.definitions.specs.Value.{spans, inverse, onPair}
-use Rattle.set_laws.proofs.Tests.{is-true}
-use Rattle.set_laws.specs.Every.{Every}
-use Rattle.set_laws.proofs.Every.{every-at}
-use Rattle.set_laws.specs.Places.{Ascending}
-use Rattle.cell_laws.proofs.Every.{every-by, every-kept, both, both-l, both-r, or-l, or-r, or-split}
-use Rattle.cell_laws.specs.Ends.{Number}
-use Rattle.cell_laws.proofs.Inverse.{inverse-fin-up, inverse-fin-down, inverse-up, inverse-down}
+use Rattle.laws.proofs.list.Tests.{is-true}
+use Rattle.laws.specs.list.Every.{Every}
+use Rattle.laws.proofs.list.Every.{every-at}
+use Rattle.laws.specs.list.Places.{Ascending}
+use Rattle.laws.proofs.cell.Every.{every-by, every-kept, both, both-l, both-r, or-l, or-r, or-split}
+use Rattle.laws.specs.cell.Ends.{Number}
+use Rattle.laws.proofs.cell.Inverse.{inverse-fin-up, inverse-fin-down, inverse-up, inverse-down}
 use Rattle.window.specs.declared.Bounds.{Bounds}
 use Rattle.window.specs.Bounds.{In, inside}
 use Rattle.window.specs.Inverses.{onSegment}

@@ -7,7 +7,7 @@ use lib.ListN.{length, getD}
 use lib.Ieee.{Float, nan}
 use Rattle.gf.specs.Key.{key}
 use Rattle.gf.specs.declared.interval.Interval.{Interval}
-use Rattle.cell_laws.specs.Ends.{Number}
+use Rattle.laws.specs.cell.Ends.{Number}
 use Rattle.window.specs.declared.Bounds.{Bounds}
 use Rattle.window.specs.Bounds.{inside}
 use Rattle.beside.specs.Nearest.{withInside}

@@ -6,8 +6,8 @@ use Prim.Native.Nat.{_≤_, _<_}
 use lib.Ieee.{Float, le}
 use Rattle.gf.specs.Key.{key}
 use Rattle.gf.specs.declared.interval.Interval.{Interval}
-use Rattle.set_laws.specs.Every.{Every}
-use Rattle.cell_laws.specs.Ends.{Number}
+use Rattle.laws.specs.list.Every.{Every}
+use Rattle.laws.specs.cell.Ends.{Number}
 use Rattle.window.specs.declared.Bound.{Bound}
 use Rattle.window.specs.declared.Bound.the-variants.{At, Nothing}
 use Rattle.window.specs.declared.Bounds.{Bounds}

@@ -14,7 +14,7 @@ ghost use Rattle.definitions.specs.Lists.{keep};
 ghost use Rattle.definitions.specs.Doubles.{FiniteDouble};
 ghost use Rattle.definitions.specs.Timing.{lastAtMost};
 ghost use Rattle.definitions.specs.Value.{onPair};
-ghost use Rattle.set_laws.specs.Places.{Ascending};
+ghost use Rattle.laws.specs.list.Places.{Ascending};
 ghost use Rattle.window.specs.Bounds.{inside};
 ghost use Rattle.window.specs.Inverses.{onSegment};
 ghost use Rattle.window.specs.Near.{SoundSegment};

@@ -15,13 +15,13 @@ use Rattle.gf.proofs.KeyLaws.{key→lt, key→le, le→key, key→eq, lt→key,
 use Rattle.definitions.specs.Lists.{any}
 use Rattle.definitions.specs.Doubles.{FiniteDouble}
 use Rattle.definitions.specs.Timing.{lastAtMost}
-use Rattle.set_laws.proofs.Tests.{is-true}
-use Rattle.set_laws.specs.Every.{Every, Chain}
-use Rattle.set_laws.proofs.Every.{every-at, chain-far, chain-map}
-use Rattle.set_laws.specs.Places.{Le, Ascending}
-use Rattle.set_laws.proofs.Places.{atMost, beyond, last-is, key-at-most, key-above}
-use Rattle.cell_laws.proofs.Every.{every-by, or-l, or-r}
-use Rattle.cell_laws.specs.Neighbours.{IsUpper}
+use Rattle.laws.proofs.list.Tests.{is-true}
+use Rattle.laws.specs.list.Every.{Every, Chain}
+use Rattle.laws.proofs.list.Every.{every-at, chain-far, chain-map}
+use Rattle.laws.specs.list.Places.{Le, Ascending}
+use Rattle.laws.proofs.list.Places.{atMost, beyond, last-is, key-at-most, key-above}
+use Rattle.laws.proofs.cell.Every.{every-by, or-l, or-r}
+use Rattle.laws.specs.cell.Neighbours.{IsUpper}
 
 -- a time at a place is listed
 listed-at : (xs : List Float) (i : ℕ) → i < length xs → T (eq (getD xs i nan) (getD xs i nan)) → T (any (λ (x : Float). eq x (getD xs i nan)) xs)

@@ -17,7 +17,7 @@ use Rattle.definitions.specs.Lists.{any}
 use Rattle.definitions.specs.ClipSet.{ClipSet, stage}
 use Rattle.definitions.specs.Samples.{Samples, clipBegin, clipEnd}
 use Rattle.definitions.specs.Value.{firstReading, interpolateMissingValue, manifestDefault, _orElse_}
-use Rattle.cell_laws.specs.Unpacked.{Ready, setOf, samplesOf, start, activeOf}
+use Rattle.laws.specs.cell.Unpacked.{Ready, setOf, samplesOf, start, activeOf}
 use Rattle.window.specs.Parts.{partOf}
 use Rattle.window.proofs.Parts.{ready-clip, ready-readable}
 use Rattle.window.specs.Windows.{minOf, maxOf, ifOwn}

@@ -12,18 +12,18 @@ use Rattle.gf.proofs.KeyLaws.{ofKey-fits, ofKey-no-nan, le→key, le-no-nan}
 use Rattle.definitions.specs.ClipSet.{ClipSet, stage}
 use Rattle.definitions.specs.Samples.{Samples, clipTimes}
 use Rattle.definitions.specs.Timing.{lastAtMost}
-use Rattle.set_laws.specs.Every.{Every}
-use Rattle.cell_laws.specs.Places.{Fits}
-use Rattle.cell_laws.specs.Knots as Knots
-use Rattle.cell_laws.proofs.Direct.{SoundSet, SoundSamples}
-use Rattle.cell_laws.specs.Stretches.{boundaries}
-use Rattle.cell_laws.proofs.Stretches.{boundaries-fit}
-use Rattle.cell_laws.specs.Cells.{Cell, reading, cellOf}
-use Rattle.cell_laws.proofs.Cells.{cellPlace}
-use Rattle.cell_laws.proofs.Ends.{end-above}
-use Rattle.cell_laws.proofs.Neighbours.{upper-found, upper-none}
-use Rattle.cell_laws.specs.Keys.{Keys}
-use Rattle.cell_laws.proofs.Keys.{NonePassed, cellPlaceAt, lastIn, endAt, end-key, last-keys, end-clear}
+use Rattle.laws.specs.list.Every.{Every}
+use Rattle.laws.specs.cell.Places.{Fits}
+use Rattle.laws.specs.cell.Knots as Knots
+use Rattle.laws.proofs.cell.Direct.{SoundSet, SoundSamples}
+use Rattle.laws.specs.cell.Stretches.{boundaries}
+use Rattle.laws.proofs.cell.Stretches.{boundaries-fit}
+use Rattle.laws.specs.cell.Cells.{Cell, reading, cellOf}
+use Rattle.laws.proofs.cell.Cells.{cellPlace}
+use Rattle.laws.proofs.cell.Ends.{end-above}
+use Rattle.laws.proofs.cell.Neighbours.{upper-found, upper-none}
+use Rattle.laws.specs.cell.Keys.{Keys}
+use Rattle.laws.proofs.cell.Keys.{NonePassed, cellPlaceAt, lastIn, endAt, end-key, last-keys, end-clear}
 use Rattle.window.specs.declared.Bound.{Bound}
 use Rattle.window.specs.declared.Bound.the-variants.{At, Nothing}
 use Rattle.window.specs.Bounds.{UpperIs}

@@ -13,12 +13,12 @@ use Rattle.definitions.specs.Explicit.{knot}
 use Rattle.definitions.specs.ClipSet.{ClipSet, maxKnots, stage}
 use Rattle.definitions.specs.Timing.{lastAtMost, activePosition}
 use Rattle.definitions.specs.Samples.{Samples}
-use Rattle.set_laws.proofs.Places.{last-inside}
-use Rattle.cell_laws.proofs.Direct.{SoundSet, SoundSamples}
-use Rattle.cell_laws.specs.Stretches.{severalStarts}
-use Rattle.cell_laws.proofs.Tracks.{SoundValues}
-use Rattle.cell_laws.specs.Unpacked.{Ready, setOf, samplesOf, start}
-use Rattle.cell_laws.proofs.Unpacked.{active-times, zip-length, zip-here, sound-set, sound-samples}
+use Rattle.laws.proofs.list.Places.{last-inside}
+use Rattle.laws.proofs.cell.Direct.{SoundSet, SoundSamples}
+use Rattle.laws.specs.cell.Stretches.{severalStarts}
+use Rattle.laws.proofs.cell.Tracks.{SoundValues}
+use Rattle.laws.specs.cell.Unpacked.{Ready, setOf, samplesOf, start}
+use Rattle.laws.proofs.cell.Unpacked.{active-times, zip-length, zip-here, sound-set, sound-samples}
 use Rattle.window.proofs.Parts.{ready-starts}
 use Rattle.near.specs.declared.Window.{Window}
 use Rattle.value.specs.Handed.{WindowIs}

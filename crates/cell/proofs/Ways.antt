@@ -19,14 +19,14 @@ use Rattle.definitions.specs.ClipSet.{ClipSet, knotTimes, stage}
 use Rattle.definitions.specs.Timing.{lastAtMost, activePosition}
 use Rattle.definitions.specs.Samples.{Samples, clipTimes}
 use Rattle.definitions.specs.Value.{contributes, blockedAt, manifestDefault, gapSource, _orElse_, directSource, gathered, jump}
-use Rattle.cell_laws.specs.Knots.{lineOf}
-use Rattle.cell_laws.specs.Stretches.{severalStarts, boundaries}
-use Rattle.cell_laws.specs.Cells as Cells
-use Rattle.cell_laws.proofs.Cells as Cells-laws
-use Rattle.cell_laws.specs.Neighbours.{IsLower, IsUpper}
-use Rattle.cell_laws.proofs.Neighbours.{cell-held, cell-jump, cell-below, cell-last, cell-few}
-use Rattle.cell_laws.specs.Unpacked.{Ready, setOf, samplesOf, knotsOf, start}
-use Rattle.cell_laws.proofs.Unpacked.{knot-times}
+use Rattle.laws.specs.cell.Knots.{lineOf}
+use Rattle.laws.specs.cell.Stretches.{severalStarts, boundaries}
+use Rattle.laws.specs.cell.Cells as Cells
+use Rattle.laws.proofs.cell.Cells as Cells-laws
+use Rattle.laws.specs.cell.Neighbours.{IsLower, IsUpper}
+use Rattle.laws.proofs.cell.Neighbours.{cell-held, cell-jump, cell-below, cell-last, cell-few}
+use Rattle.laws.specs.cell.Unpacked.{Ready, setOf, samplesOf, knotsOf, start}
+use Rattle.laws.proofs.cell.Unpacked.{knot-times}
 use Rattle.window.specs.declared.Bound.{Bound}
 use Rattle.window.specs.declared.Bounds.{Bounds}
 use Rattle.window.specs.declared.Bound.the-variants.{At, Nothing}

@@ -9,8 +9,8 @@ use Rattle.definitions.specs.declared.Knot.{Knot}
 use Rattle.definitions.specs.ClipSet.{ClipSet, stage}
 use Rattle.definitions.specs.Samples.{Samples, clipTimes}
 use Rattle.definitions.specs.Value.{jump}
-use Rattle.cell_laws.specs.Stretches.{boundaries}
-use Rattle.cell_laws.specs.Cells as Cells
+use Rattle.laws.specs.cell.Stretches.{boundaries}
+use Rattle.laws.specs.cell.Cells as Cells
 use Rattle.window.specs.declared.Bound.{Bound}
 use Rattle.window.specs.declared.Bound.the-variants.{At, Nothing}
 use Rattle.window.specs.Bounds.{UpperIs}

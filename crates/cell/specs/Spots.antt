@@ -10,7 +10,7 @@ use Rattle.definitions.specs.declared.Manifest.{Manifest}
 use Rattle.definitions.specs.Lists.{any}
 use Rattle.definitions.specs.Timing.{lastAtMost}
 use Rattle.definitions.specs.Samples.{clipBegin, clipEnd}
-use Rattle.cell_laws.specs.Unpacked.{setOf, samplesOf}
+use Rattle.laws.specs.cell.Unpacked.{setOf, samplesOf}
 use Rattle.direct.specs.Sources.{standIn}
 use Rattle.near.specs.declared.Window.{Window}
 use Rattle.value.specs.Handed.{WindowIs}

@@ -18,7 +18,7 @@ ghost use lib.Ieee.{Float, eq};
 ghost use Rattle.definitions.specs.Lists.{any};
 ghost use Rattle.definitions.specs.Doubles.{FiniteDouble};
 ghost use Rattle.definitions.specs.Samples.{clipBegin, clipEnd};
-ghost use Rattle.cell_laws.specs.Unpacked.{Ready};
+ghost use Rattle.laws.specs.cell.Unpacked.{Ready};
 ghost use Rattle.value.specs.Handed.{WindowIs};
 ghost use Rattle.cell.specs.Spots.{SpotIs, SpotAt, Follows};
 

@@ -11,9 +11,9 @@ use lib.Ieee.{Float, nan}
 use Rattle.gf.specs.Doubles.{storable}
 use Rattle.definitions.specs.Lists.{_if_else_}
 use Rattle.definitions.specs.ClipSet.{anyUnstorable}
-use Rattle.set_laws.proofs.Tests.{is-true}
-use Rattle.set_laws.specs.Every.{Every}
-use Rattle.set_laws.specs.Places.{Fits}
+use Rattle.laws.proofs.list.Tests.{is-true}
+use Rattle.laws.specs.list.Every.{Every}
+use Rattle.laws.specs.list.Places.{Fits}
 
 -- ---- tests and their answers
 

@@ -11,8 +11,8 @@ use Rattle.definitions.specs.declared.LayerOffset.{LayerOffset}
 use Rattle.definitions.specs.ClipSet as Definitions
 use Rattle.definitions.specs.ClipSet.{activeTimes, knotTimes}
 use Rattle.definitions.specs.Retime.{apply, moveActivation, moveKnot, moved, sorted}
-use Rattle.set_laws.specs.Sound.{knotValues}
-use Rattle.cell_laws.specs.Unpacked.{activeOf, knotsOf, setOf}
+use Rattle.laws.specs.set.Sound.{knotValues}
+use Rattle.laws.specs.cell.Unpacked.{activeOf, knotsOf, setOf}
 use Rattle.clip.specs.declared.ClipSet.{ClipSet}
 use Rattle.clip.specs.declared.Parsed.{Parsed}
 use Rattle.clip.specs.Holding.{activeIn, activeClips, knotsIn, blocksIn, clipSetOf, manifestOf}

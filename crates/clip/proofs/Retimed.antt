@@ -7,9 +7,9 @@ use lib.Ieee.Scale.{finite}
 use Rattle.gf.specs.Doubles.{0·0}
 use Rattle.definitions.specs.declared.LayerOffset.{LayerOffset}
 use Rattle.definitions.specs.Retime.{isIdentity, moved, sorted, retimeStageTimes, movedNumber}
-use Rattle.set_laws.specs.Places.{Fits}
-use Rattle.set_laws.specs.Sound.{Sound}
-use Rattle.set_laws.proofs.SoundRetime.{retime-sound}
+use Rattle.laws.specs.list.Places.{Fits}
+use Rattle.laws.specs.set.Sound.{Sound}
+use Rattle.laws.proofs.set.SoundRetime.{retime-sound}
 use Rattle.clip.specs.declared.ClipSet.{ClipSet}
 use Rattle.clip.specs.declared.Parsed.{Parsed}
 use Rattle.clip.specs.Holding.{Held, clipSetOf}

@@ -7,8 +7,8 @@ use Rattle.definitions.specs.declared.Manifest.{Manifest}
 use Rattle.definitions.specs.ClipSet as Definitions
 use Rattle.definitions.specs.ClipSet.{maxActive, maxKnots, maxBlocks, sortActive, sortKnots, beyondLimits, equalStarts, equalKnots}
 use Rattle.definitions.specs.Retime.{sorted}
-use Rattle.cell_laws.specs.Unpacked.{activeOf, knotsOf, setOf}
-use Rattle.cell_laws.proofs.Unpacked.{active-times, knot-times}
+use Rattle.laws.specs.cell.Unpacked.{activeOf, knotsOf, setOf}
+use Rattle.laws.proofs.cell.Unpacked.{active-times, knot-times}
 use Rattle.clip.specs.declared.storage.Active.{Active}
 use Rattle.clip.specs.declared.storage.Knots.{Knots}
 use Rattle.clip.specs.declared.storage.Blocks.{Blocks}

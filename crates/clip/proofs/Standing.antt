@@ -14,12 +14,12 @@ use Rattle.definitions.specs.Lists.{any, pairsFrom}
 use Rattle.definitions.specs.Doubles.{twoEqual}
 use Rattle.definitions.specs.ClipSet as Definitions
 use Rattle.definitions.specs.ClipSet.{markNone, activeTimes, knotTimes, anyUnstorable, beyondLimits, equalStarts, badDefaultMark}
-use Rattle.set_laws.proofs.Tests.{is-false}
-use Rattle.set_laws.specs.Every.{Every, Chain, ChainFrom}
-use Rattle.set_laws.proofs.Every.{every-map}
-use Rattle.set_laws.specs.Stored.{Stored, Lt}
-use Rattle.set_laws.proofs.Stored.{stored-number}
-use Rattle.set_laws.specs.Sound.{Sound}
+use Rattle.laws.proofs.list.Tests.{is-false}
+use Rattle.laws.specs.list.Every.{Every, Chain, ChainFrom}
+use Rattle.laws.proofs.list.Every.{every-map}
+use Rattle.laws.specs.set.Stored.{Stored, Lt}
+use Rattle.laws.proofs.set.Stored.{stored-number}
+use Rattle.laws.specs.set.Sound.{Sound}
 use Rattle.clip.specs.Settling.{settleNumber}
 use Rattle.clip.proofs.Laws.{every-storable}
 

@@ -9,7 +9,7 @@ use Rattle.gf.specs.Doubles.{0·0}
 use Rattle.definitions.specs.declared.LayerOffset.{LayerOffset}
 use Rattle.definitions.specs.ClipSet as Definitions
 use Rattle.definitions.specs.Retime.{moved, sorted, retimeStageTimes, movedNumber}
-use Rattle.set_laws.specs.Sound.{Sound}
+use Rattle.laws.specs.set.Sound.{Sound}
 use Rattle.clip.specs.declared.ClipSet.{ClipSet}
 use Rattle.clip.specs.declared.Parsed.{Parsed}
 use Rattle.clip.specs.Holding.{Held, clipSetOf}

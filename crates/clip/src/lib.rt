@@ -8,7 +8,7 @@ use definitions::LayerOffset;
 use storage::Active;
 use storage::Blocks;
 use storage::Knots;
-ghost use Rattle.set_laws.specs.Sound.{Sound};
+ghost use Rattle.laws.specs.set.Sound.{Sound};
 ghost use Rattle.clip.specs.Holding.{Held, clipSetOf, EmptySet};
 ghost use Rattle.clip.specs.Retiming.{Retimes};
 

@@ -7,7 +7,7 @@ use definitions::LayerOffset;
 use definitions::Manifest;
 ghost use mathlib.Core.Path.{_≡_};
 ghost use Rattle.definitions.specs.Retime.{isIdentity, moved};
-ghost use Rattle.cell_laws.specs.Unpacked.{setOf};
+ghost use Rattle.laws.specs.cell.Unpacked.{setOf};
 ghost use Rattle.clip.specs.Holding.{Held, clipSetOf, manifestOf};
 ghost use Rattle.clip.specs.Settling.{Settles};
 ghost use Rattle.clip.specs.Retiming.{Spacious, movedAndSorted};

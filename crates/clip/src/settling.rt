@@ -7,7 +7,7 @@ use definitions::Manifest;
 ghost use mathlib.Core.Path.{_≡_};
 ghost use Rattle.definitions.specs.ClipSet.{nanDefault};
 ghost use Rattle.definitions.specs.Retime.{sorted};
-ghost use Rattle.cell_laws.specs.Unpacked.{setOf};
+ghost use Rattle.laws.specs.cell.Unpacked.{setOf};
 ghost use Rattle.clip.specs.Settling.{Fitting, Settles, Refuses, listsNumber};
 
 // A refusal carries its number alone; the set beside it is empty.

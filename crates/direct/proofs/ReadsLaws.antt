@@ -19,7 +19,7 @@ use Rattle.definitions.specs.ClipSet.{ClipSet, stage}
 use Rattle.definitions.specs.Timing.{lastAtMost, mapStageToClip}
 use Rattle.definitions.specs.Samples.{Samples, clipBegin, clipEnd, clipTimes, heldPlace}
 use Rattle.definitions.specs.Value.{blockedAt, sampleOf, readClip, firstReading}
-use Rattle.cell_laws.specs.Unpacked.{start, activeOf, knotsOf, setOf, samplesOf, Ready}
+use Rattle.laws.specs.cell.Unpacked.{start, activeOf, knotsOf, setOf, samplesOf, Ready}
 use Rattle.lists.proofs.Fronts.{front, no-front}
 use Rattle.window.specs.Parts.{partOf, Readable}
 use Rattle.window.proofs.Parts.{ready-active, ready-start}

@@ -18,8 +18,8 @@ use Rattle.definitions.specs.declared.Manifest.{Manifest}
 use Rattle.definitions.specs.Timing.{lastAtMost, activePosition}
 use Rattle.definitions.specs.Samples.{Samples, clipTimes}
 use Rattle.definitions.specs.Value.{_orElse_, blockedAt, contributes, readClip, firstReading, interpolateMissingValue, sourceAt, directSource}
-use Rattle.cell_laws.specs.Unpacked.{start, activeOf, setOf, samplesOf, Ready}
-use Rattle.cell_laws.proofs.Unpacked.{zip-here}
+use Rattle.laws.specs.cell.Unpacked.{start, activeOf, setOf, samplesOf, Ready}
+use Rattle.laws.proofs.cell.Unpacked.{zip-here}
 use Rattle.window.proofs.Parts.{ready-active, ready-position}
 use Rattle.direct.proofs.ReadsLaws.{readPart}
 use Rattle.direct.specs.Sources.{standIn}

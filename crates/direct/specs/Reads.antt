@@ -13,7 +13,7 @@ use Rattle.definitions.specs.ClipSet.{ClipSet, stage}
 use Rattle.definitions.specs.Timing.{mapStageToClip}
 use Rattle.definitions.specs.Samples.{Samples, clipBegin, clipEnd}
 use Rattle.definitions.specs.Value.{blockedAt, readClip}
-use Rattle.cell_laws.specs.Unpacked.{start, knotsOf}
+use Rattle.laws.specs.cell.Unpacked.{start, knotsOf}
 use Rattle.look.specs.Reads.{heldReading}
 use Rattle.direct.specs.declared.Reading.{Reading}
 use Rattle.direct.specs.declared.Reading.the-variants.{Of, Nothing}

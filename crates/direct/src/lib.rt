@@ -14,7 +14,7 @@ ghost use lib.ListN.{length, getD, take, drop};
 ghost use lib.Ieee.{Float, nan, eq};
 ghost use Rattle.definitions.specs.Lists.{any};
 ghost use Rattle.definitions.specs.Value.{_orElse_, firstReading, manifestDefault, gapSource};
-ghost use Rattle.cell_laws.specs.Unpacked.{start, activeOf, setOf, samplesOf, Ready};
+ghost use Rattle.laws.specs.cell.Unpacked.{start, activeOf, setOf, samplesOf, Ready};
 ghost use Rattle.window.specs.Parts.{Readable};
 ghost use Rattle.look.specs.Reads.{heldIs};
 ghost use Rattle.direct.specs.Reads.{readingIs, heldPart, readStart};

@@ -13,13 +13,13 @@ use Rattle.definitions.specs.Lists.{zipWith}
 use Rattle.definitions.specs.ClipSet.{activeTimes, knotTimes, anyUnstorable, nanDefault, beyondLimits}
 use Rattle.definitions.specs.Explicit.{ExplicitFields, activation, knot, explicitSet, explicit1, explicit2, explicit3, explicitNumber}
 use Rattle.definitions.specs.Retime.{sorted}
-use Rattle.set_laws.proofs.Tests.{or-false, passed}
-use Rattle.set_laws.specs.Every.{Every}
-use Rattle.set_laws.proofs.Every.{any-not-every, every-to-map, every-zip-left}
-use Rattle.set_laws.specs.Sound.{Sound}
-use Rattle.set_laws.proofs.Sound.{sorted-times, sorted-xs}
-use Rattle.set_laws.proofs.SoundExplicit.{ExplicitFits, ExplicitLimits, explicit-limits, explicit-sound}
-use Rattle.cell_laws.specs.Unpacked.{start, setOf}
+use Rattle.laws.proofs.list.Tests.{or-false, passed}
+use Rattle.laws.specs.list.Every.{Every}
+use Rattle.laws.proofs.list.Every.{any-not-every, every-to-map, every-zip-left}
+use Rattle.laws.specs.set.Sound.{Sound}
+use Rattle.laws.proofs.set.Sound.{sorted-times, sorted-xs}
+use Rattle.laws.proofs.set.SoundExplicit.{ExplicitFits, ExplicitLimits, explicit-limits, explicit-sound}
+use Rattle.laws.specs.cell.Unpacked.{start, setOf}
 use Rattle.clip.specs.declared.Parsed.{Parsed}
 use Rattle.clip.specs.Settling.{settleNumber, Refuses, Settles}
 use Rattle.explicit.specs.Parsing.{explicitFields, anyNotClip, fieldsNumber, Parses}

@@ -11,7 +11,7 @@ use Rattle.definitions.specs.declared.Manifest.{Manifest}
 use Rattle.definitions.specs.Lists.{_if_else_, any}
 use Rattle.definitions.specs.ClipSet.{maxClips, maxActive, maxKnots, maxBlocks}
 use Rattle.definitions.specs.Explicit.{ExplicitFields, explicitSet, explicit1, explicit2, explicit3, explicitNumber}
-use Rattle.set_laws.specs.Sound.{Sound}
+use Rattle.laws.specs.set.Sound.{Sound}
 use Rattle.clip.specs.declared.Parsed.{Parsed}
 use Rattle.clip.specs.Holding.{Held, clipSetOf}
 

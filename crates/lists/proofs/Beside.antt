@@ -9,8 +9,8 @@ use lib.ListN.{length, getD}
 use lib.Ieee.{Float, nan, binary64, fits, le}
 use borrow.Author.Tests.{ltb-true, ltb-false, leb-true, leb-false, lt-ltb, le-ltb, le-leb, lt-leb, eq-eqb, ne-eqb}
 use Rattle.definitions.specs.Timing.{lastAtMost}
-use Rattle.set_laws.specs.Places.{Ascending}
-use Rattle.set_laws.proofs.Places.{atMost, at-most-is, at-most-length, last-is}
+use Rattle.laws.specs.list.Places.{Ascending}
+use Rattle.laws.proofs.list.Places.{atMost, at-most-is, at-most-length, last-is}
 
 module _ (t : Float) (ft : T (fits binary64 t)) (xs : List Float) (a : Ascending xs) where
   pub reached-is : (i : ℕ) → (i ≡ 0 → ⊥) → i < length xs → le (getD xs i nan) t ≡ leb i (lastAtMost xs t)

@@ -11,9 +11,9 @@ use Rattle.definitions.specs.declared.Knot.{Knot}
 use Rattle.definitions.specs.Lists.{zipWith}
 use Rattle.definitions.specs.Explicit.{knot}
 use Rattle.definitions.specs.Timing.{lastAtMost, lastKnot, onSegment, mapTime}
-use Rattle.set_laws.proofs.Every.{zip-at}
-use Rattle.set_laws.proofs.LastKnot.{last-knot-is}
-use Rattle.cell_laws.proofs.Unpacked.{knot-times, zip-length}
+use Rattle.laws.proofs.list.Every.{zip-at}
+use Rattle.laws.proofs.set.LastKnot.{last-knot-is}
+use Rattle.laws.proofs.cell.Unpacked.{knot-times, zip-length}
 
 pub map-none : (xs ys : List Float) (t : Float) → length xs ≡ 0 → mapTime (zipWith knot xs ys) t ≡ t
 unfolding mapTime

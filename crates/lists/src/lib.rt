@@ -18,8 +18,8 @@ ghost use Rattle.gf.specs.Doubles.{storable};
 ghost use Rattle.definitions.specs.Doubles.{twoEqual, threeEqual};
 ghost use Rattle.definitions.specs.ClipSet.{anyUnstorable};
 ghost use Rattle.definitions.specs.Timing.{lastAtMost, mapTime, mapStageToClip};
-ghost use Rattle.set_laws.specs.Places.{Ascending};
-ghost use Rattle.cell_laws.specs.Unpacked.{knotsOf};
+ghost use Rattle.laws.specs.list.Places.{Ascending};
+ghost use Rattle.laws.specs.cell.Unpacked.{knotsOf};
 
 // 1 for a time that may not be stored, else 0.
 fn unstorable(time: f64) -> u64

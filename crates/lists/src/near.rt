@@ -6,7 +6,7 @@ ghost use Prim.Native.Nat.{_<_};
 ghost use lib.Dec.{leb, ltb, eqb};
 ghost use lib.ListN.{length};
 ghost use Rattle.definitions.specs.Timing.{lastAtMost};
-ghost use Rattle.set_laws.specs.Places.{Ascending};
+ghost use Rattle.laws.specs.list.Places.{Ascending};
 
 // Whether the last of the times that is at most `t` is at this place or behind it.
 fn is_reached(times: &[f64], place: usize, t: f64) -> bool

@@ -14,7 +14,7 @@ use Rattle.definitions.specs.declared.ClipTime.{ClipTime}
 use Rattle.definitions.specs.Timing.{lastAtMost}
 use Rattle.definitions.specs.Samples.{heldPlace}
 use Rattle.gf.specs.Doubles.{0·0}
-use Rattle.set_laws.proofs.Places.{last-inside}
+use Rattle.laws.proofs.list.Places.{last-inside}
 use Rattle.look.specs.Reads.{part, Inside, Readable, markedAt, told, heldReading}
 
 -- ---- what the code finds

@@ -9,7 +9,7 @@ use Rattle.definitions.specs.declared.ClipTime.{ClipTime}
 use Rattle.definitions.specs.Samples.{heldPlace}
 use Rattle.definitions.specs.Value.{marked}
 use Rattle.gf.specs.Doubles.{0·0}
-use Rattle.set_laws.specs.Places.{Ascending}
+use Rattle.laws.specs.list.Places.{Ascending}
 use Rattle.look.specs.declared.Held.{Held}
 use Rattle.look.specs.declared.Held.the-variants.{At, Nothing}
 

@@ -19,13 +19,13 @@ use Rattle.definitions.specs.Doubles.{FiniteDouble}
 use Rattle.definitions.specs.Explicit.{knot}
 use Rattle.definitions.specs.Timing.{lastAtMost}
 use Rattle.definitions.specs.Value.{spans, inverse, onPair}
-use Rattle.set_laws.specs.Every.{Every}
-use Rattle.set_laws.proofs.Every.{every-at}
-use Rattle.set_laws.specs.Places.{Ascending}
-use Rattle.set_laws.proofs.Stored.{length-pairs, pairs-at}
-use Rattle.cell_laws.proofs.Every.{every-by, every-kept, every-map, every-append, every-left, every-right}
-use Rattle.cell_laws.specs.Ends.{Number}
-use Rattle.cell_laws.specs.Unpacked.{knotsOf}
+use Rattle.laws.specs.list.Every.{Every}
+use Rattle.laws.proofs.list.Every.{every-at}
+use Rattle.laws.specs.list.Places.{Ascending}
+use Rattle.laws.proofs.set.Stored.{length-pairs, pairs-at}
+use Rattle.laws.proofs.cell.Every.{every-by, every-kept, every-map, every-append, every-left, every-right}
+use Rattle.laws.specs.cell.Ends.{Number}
+use Rattle.laws.specs.cell.Unpacked.{knotsOf}
 use Rattle.window.specs.declared.Bound.{Bound}
 use Rattle.window.specs.declared.Bound.the-variants.{At, Nothing}
 use Rattle.window.specs.declared.Bounds.{Bounds}

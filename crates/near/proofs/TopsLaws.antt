@@ -19,11 +19,11 @@ use Rattle.definitions.specs.Lists.{pairs}
 use Rattle.definitions.specs.ClipSet.{maxKnots}
 use Rattle.definitions.specs.Explicit.{knot}
 use Rattle.definitions.specs.Value.{spans, inverse}
-use Rattle.set_laws.proofs.Tests.{holds}
-use Rattle.set_laws.specs.Every.{Every}
-use Rattle.cell_laws.proofs.Every.{both, both-l, or-l, or-r, or-split}
-use Rattle.cell_laws.specs.Ends.{Number}
-use Rattle.cell_laws.specs.Unpacked.{knotsOf}
+use Rattle.laws.proofs.list.Tests.{holds}
+use Rattle.laws.specs.list.Every.{Every}
+use Rattle.laws.proofs.cell.Every.{both, both-l, or-l, or-r, or-split}
+use Rattle.laws.specs.cell.Ends.{Number}
+use Rattle.laws.specs.cell.Unpacked.{knotsOf}
 use Rattle.lists.specs.Segments.{knotAt}
 use Rattle.window.proofs.Inverses.{knots-long, knots-at}
 use Rattle.window.specs.Near.{SoundSegment}

@@ -9,12 +9,12 @@ use lib.Ieee.{Float, inf, lt}
 use Rattle.definitions.specs.Lists.{keep}
 use Rattle.definitions.specs.Doubles.{FiniteDouble}
 use Rattle.definitions.specs.Timing.{lastAtMost}
-use Rattle.set_laws.specs.Every.{Every}
-use Rattle.set_laws.specs.Places.{Ascending}
-use Rattle.cell_laws.proofs.Every.{every-map, every-append, every-left, every-right, every-keep}
-use Rattle.cell_laws.specs.Ends.{Number}
-use Rattle.cell_laws.specs.Places.{Fits}
-use Rattle.cell_laws.specs.Unpacked.{knotsOf}
+use Rattle.laws.specs.list.Every.{Every}
+use Rattle.laws.specs.list.Places.{Ascending}
+use Rattle.laws.proofs.cell.Every.{every-map, every-append, every-left, every-right, every-keep}
+use Rattle.laws.specs.cell.Ends.{Number}
+use Rattle.laws.specs.cell.Places.{Fits}
+use Rattle.laws.specs.cell.Unpacked.{knotsOf}
 use Rattle.window.specs.declared.Bounds.{Bounds}
 use Rattle.window.specs.Bounds.{inside, nothing, NeighboursAre}
 use Rattle.window.specs.Inverses.{inversesOf}

@@ -12,9 +12,9 @@ use Rattle.definitions.specs.declared.Source.the-variants.{Sample as sample}
 use Rattle.definitions.specs.Lists.{keep, pairs}
 use Rattle.definitions.specs.Doubles.{FiniteDouble}
 use Rattle.definitions.specs.Timing.{lastAtMost, mapTime}
-use Rattle.set_laws.specs.Every.{Every}
-use Rattle.set_laws.specs.Places.{Ascending}
-use Rattle.cell_laws.specs.Unpacked.{knotsOf}
+use Rattle.laws.specs.list.Every.{Every}
+use Rattle.laws.specs.list.Places.{Ascending}
+use Rattle.laws.specs.cell.Unpacked.{knotsOf}
 use Rattle.window.specs.declared.Bounds.{Bounds}
 use Rattle.window.specs.Bounds.{inside}
 use Rattle.window.specs.Inverses.{inversesOf}

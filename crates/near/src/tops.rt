@@ -8,9 +8,9 @@ ghost use Prim.Native.Nat.{_≤_, _<_};
 ghost use lib.ListN.{length};
 ghost use Rattle.definitions.specs.Lists.{pairs};
 ghost use Rattle.definitions.specs.ClipSet.{maxKnots};
-ghost use Rattle.set_laws.specs.Every.{Every};
-ghost use Rattle.cell_laws.specs.Ends.{Number};
-ghost use Rattle.cell_laws.specs.Unpacked.{knotsOf};
+ghost use Rattle.laws.specs.list.Every.{Every};
+ghost use Rattle.laws.specs.cell.Ends.{Number};
+ghost use Rattle.laws.specs.cell.Unpacked.{knotsOf};
 ghost use Rattle.window.specs.Near.{SoundSegment};
 ghost use Rattle.near.specs.Tops.{NewTop, ReachOf, TopsOf};
 

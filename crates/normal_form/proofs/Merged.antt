@@ -8,8 +8,8 @@ use native.Mathlib.Omega.{arith}
 use lib.ListN.{length, getD, take, drop, set, length-drop, length-set}
 use lib.Seq.{take-all, drop-length, drop-cons, drop-set-add, drop-set-lt, getD-set-same}
 use lib.Ieee.{Float, nan, eq}
-use Rattle.set_laws.specs.Every.{Every}
-use Rattle.set_laws.proofs.Every.{every-drop}
+use Rattle.laws.specs.list.Every.{Every}
+use Rattle.laws.proofs.list.Every.{every-drop}
 use Rattle.lists.specs.Placed.{Inside}
 use Rattle.normal_form.specs.Runs.{Run, alone, meets, join, runs, firsts, lasts, RunsFrom}
 

@@ -11,9 +11,9 @@ use Rattle.definitions.specs.ClipSet.{maxSamples, anyUnstorable}
 use Rattle.definitions.specs.Samples.{samples2}
 use Rattle.definitions.specs.Normalize.{normalizeNumber}
 use Rattle.definitions.specs.Track.{Outputs, slots}
-use Rattle.set_laws.proofs.Tests.{or-false}
-use Rattle.set_laws.specs.Every.{Every}
-use Rattle.set_laws.proofs.Sorting.{every-sort, length-sort}
+use Rattle.laws.proofs.list.Tests.{or-false}
+use Rattle.laws.specs.list.Every.{Every}
+use Rattle.laws.proofs.list.Sorting.{every-sort, length-sort}
 use Rattle.lists.specs.Placed.{Inside}
 use Rattle.normal_form.specs.Placed.{keyAt, inOrder}
 use Rattle.normal_form.specs.Runs.{Run, runs, firsts, lasts, RunsFrom}

@@ -13,11 +13,11 @@ use Rattle.gf.proofs.KeyLaws.{lt→key, lt-is, key→lt, le-no-nan, lt→le}
 use Rattle.definitions.specs.declared.Knot.{Knot}
 use Rattle.definitions.specs.Lists.{gather}
 use Rattle.definitions.specs.Value.{spans, inverse, onPair}
-use Rattle.set_laws.proofs.Tests.{is-true, holds}
-use Rattle.set_laws.specs.Every.{Every}
-use Rattle.set_laws.proofs.Every.{every-at}
-use Rattle.set_laws.specs.Places.{Fits}
-use Rattle.cell_laws.specs.Ends.{Number}
+use Rattle.laws.proofs.list.Tests.{is-true, holds}
+use Rattle.laws.specs.list.Every.{Every}
+use Rattle.laws.proofs.list.Every.{every-at}
+use Rattle.laws.specs.list.Places.{Fits}
+use Rattle.laws.specs.cell.Ends.{Number}
 use Rattle.window.specs.declared.Bound.{Bound}
 use Rattle.window.specs.declared.Bound.the-variants.{At, Nothing}
 use Rattle.window.specs.Bounds.{In}

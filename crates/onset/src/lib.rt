@@ -17,7 +17,7 @@ ghost use Prim.Native.Nat.{_+_, _≤_, _<_};
 ghost use lib.Dec.{T};
 ghost use lib.ListN.{length};
 ghost use lib.Ieee.{inf, isNan, lt, le};
-ghost use Rattle.set_laws.specs.Places.{Ascending};
+ghost use Rattle.laws.specs.list.Places.{Ascending};
 ghost use Rattle.near.specs.Windowed.{samplesIn, Lent, Nearing};
 ghost use Rattle.onset.specs.Begins.{BeforeIs, LastIs, PastTops, OnsetIs};
 

@@ -14,16 +14,16 @@ use Rattle.definitions.specs.declared.Knot.{Knot}
 use Rattle.definitions.specs.Lists.{any, gather}
 use Rattle.definitions.specs.Value.{spans, inverse, onPair, greatest}
 use Rattle.definitions.specs.Track.{Entry}
-use Rattle.set_laws.proofs.Tests.{is-true}
-use Rattle.set_laws.specs.Every.{Every}
-use Rattle.set_laws.proofs.Every.{every-map}
-use Rattle.set_laws.specs.Places.{Fits}
-use Rattle.track_laws.specs.Steps.{Level}
-use Rattle.cell_laws.proofs.Every.{or-l, or-r}
-use Rattle.cell_laws.specs.Ends.{Number}
-use Rattle.cell_laws.proofs.Keys.{none-passed}
-use Rattle.cell_laws.specs.Neighbours.{IsLower}
-use Rattle.cell_laws.proofs.Places.{keep-le-same}
+use Rattle.laws.proofs.list.Tests.{is-true}
+use Rattle.laws.specs.list.Every.{Every}
+use Rattle.laws.proofs.list.Every.{every-map}
+use Rattle.laws.specs.list.Places.{Fits}
+use Rattle.laws.specs.track.Steps.{Level}
+use Rattle.laws.proofs.cell.Every.{or-l, or-r}
+use Rattle.laws.specs.cell.Ends.{Number}
+use Rattle.laws.proofs.cell.Keys.{none-passed}
+use Rattle.laws.specs.cell.Neighbours.{IsLower}
+use Rattle.laws.proofs.cell.Places.{keep-le-same}
 use Rattle.window.specs.Inverses.{onSegment}
 use Rattle.steps.specs.Lines.{placeOn}
 use Rattle.reading.specs.Readings.{readingAt}

@@ -8,9 +8,9 @@ use lib.Seq.{take-append-seam, drop-append-add, drop-drop, length-take-le}
 use lib.Ieee.{Float}
 use Rattle.gf.specs.Key.{ofKey}
 use Rattle.definitions.specs.Track.{Entry, Change, Outputs}
-use Rattle.track_laws.specs.Track as steps
-use Rattle.track_laws.proofs.Laws.{put, length-put, length-part, no-part}
-use Rattle.cell_laws.specs.Tracks.{writtenChange}
+use Rattle.laws.specs.track.Track as steps
+use Rattle.laws.proofs.track.Laws.{put, length-put, length-part, no-part}
+use Rattle.laws.specs.cell.Tracks.{writtenChange}
 use Rattle.reading.specs.Walks.{outputs, writtenFrom, written, Room}
 
 -- ---- any list

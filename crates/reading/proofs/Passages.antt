@@ -16,12 +16,12 @@ use Rattle.gf.proofs.KeyLaws.{key-ofKey, ofKey-fits, ofKey-no-nan, lt-is, le-is
 use Rattle.gf.proofs.Exactly.{within-finite}
 use Rattle.definitions.specs.declared.Knot.{Knot}
 use Rattle.definitions.specs.Value.{spans, inverse, onPair}
-use Rattle.set_laws.proofs.Tests.{is-true}
-use Rattle.set_laws.specs.Every.{Every}
-use Rattle.set_laws.specs.Places.{Ascending}
-use Rattle.cell_laws.proofs.Every.{every-by, both, both-l, both-r, or-l, or-r, or-split}
-use Rattle.cell_laws.specs.Ends.{Number}
-use Rattle.cell_laws.proofs.Inverse.{inverse-fin-up, inverse-fin-down, inverse-up, inverse-down}
+use Rattle.laws.proofs.list.Tests.{is-true}
+use Rattle.laws.specs.list.Every.{Every}
+use Rattle.laws.specs.list.Places.{Ascending}
+use Rattle.laws.proofs.cell.Every.{every-by, both, both-l, both-r, or-l, or-r, or-split}
+use Rattle.laws.specs.cell.Ends.{Number}
+use Rattle.laws.proofs.cell.Inverse.{inverse-fin-up, inverse-fin-down, inverse-up, inverse-down}
 use Rattle.window.specs.Inverses.{onSegment}
 use Rattle.window.proofs.Inverses.{every-of}
 use Rattle.window.specs.Near.{SoundSegment}

@@ -14,12 +14,12 @@ use Rattle.definitions.specs.declared.Knot.{Knot}
 use Rattle.definitions.specs.Lists.{keep}
 use Rattle.definitions.specs.Doubles.{FiniteDouble}
 use Rattle.definitions.specs.Value.{spans, inverse, greatest, maximum, lowerNeighbour}
-use Rattle.set_laws.proofs.Tests.{is-true}
-use Rattle.set_laws.specs.Every.{Every}
-use Rattle.cell_laws.proofs.Every.{every-keep}
-use Rattle.cell_laws.specs.Neighbours.{IsLower}
-use Rattle.cell_laws.proofs.Neighbours.{lower-found}
-use Rattle.cell_laws.specs.Places.{Fits}
+use Rattle.laws.proofs.list.Tests.{is-true}
+use Rattle.laws.specs.list.Every.{Every}
+use Rattle.laws.proofs.cell.Every.{every-keep}
+use Rattle.laws.specs.cell.Neighbours.{IsLower}
+use Rattle.laws.proofs.cell.Neighbours.{lower-found}
+use Rattle.laws.specs.cell.Places.{Fits}
 use Rattle.window.specs.Inverses.{onSegment}
 use Rattle.window.proofs.Near.{inverse-fits}
 use Rattle.reading.specs.Passages.{passedBy}

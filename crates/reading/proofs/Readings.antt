@@ -13,10 +13,10 @@ use Rattle.gf.specs.Doubles.{0·0}
 use Rattle.definitions.specs.declared.Answer.the-variants.{Value, Blocked}
 use Rattle.definitions.specs.Value.{marked}
 use Rattle.definitions.specs.Track.{Entry, alike}
-use Rattle.track_laws.specs.Steps.{Once, Level, StepAt}
-use Rattle.track_laws.proofs.Steps.{Through, grows-once, falls-once, level-through}
-use Rattle.cell_laws.specs.Knots as Knots
-use Rattle.cell_laws.proofs.Tracks.{marked-fits, alike-same}
+use Rattle.laws.specs.track.Steps.{Once, Level, StepAt}
+use Rattle.laws.proofs.track.Steps.{Through, grows-once, falls-once, level-through}
+use Rattle.laws.specs.cell.Knots as Knots
+use Rattle.laws.proofs.cell.Tracks.{marked-fits, alike-same}
 use Rattle.window.proofs.Parts.{last-short}
 use Rattle.steps.specs.declared.line.Line.{Line}
 use Rattle.steps.specs.Lines.{lineIs, placeOn}

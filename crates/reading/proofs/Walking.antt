@@ -12,13 +12,13 @@ use lib.Ieee.{Float}
 use Rattle.gf.specs.Key.{ofKey}
 use Rattle.definitions.specs.Track.{Entry, Outputs, alike}
 use Rattle.definitions.proofs.Tracks.{alike-refl}
-use Rattle.set_laws.proofs.Tests.{holds, is-true}
-use Rattle.track_laws.specs.Track.{Change}
-use Rattle.track_laws.specs.Laws.{Agree}
-use Rattle.track_laws.proofs.Laws.{changes-none, changes-still, changes-next, changes-agree, changes-split}
-use Rattle.track_laws.specs.Steps.{Level}
-use Rattle.track_laws.proofs.Steps.{StopAt, still-level, still-stop, change-stop}
-use Rattle.cell_laws.specs.Tracks.{entry-same}
+use Rattle.laws.proofs.list.Tests.{holds, is-true}
+use Rattle.laws.specs.track.Track.{Change}
+use Rattle.laws.specs.track.Laws.{Agree}
+use Rattle.laws.proofs.track.Laws.{changes-none, changes-still, changes-next, changes-agree, changes-split}
+use Rattle.laws.specs.track.Steps.{Level}
+use Rattle.laws.proofs.track.Steps.{StopAt, still-level, still-stop, change-stop}
+use Rattle.laws.specs.cell.Tracks.{entry-same}
 use Rattle.steps.specs.declared.entry.Entry as declared
 use Rattle.steps.specs.Entries.{entryIs}
 use Rattle.reading.specs.declared.walk.Went.{Went}

@@ -13,8 +13,8 @@ use Rattle.definitions.specs.Lists.{keep}
 use Rattle.definitions.specs.Doubles.{FiniteDouble}
 use Rattle.definitions.specs.Value.{spans, inverse, greatest}
 use Rattle.definitions.specs.Track.{Entry}
-use Rattle.set_laws.specs.Every.{Every}
-use Rattle.cell_laws.specs.Keys.{Keys}
+use Rattle.laws.specs.list.Every.{Every}
+use Rattle.laws.specs.cell.Keys.{Keys}
 use Rattle.window.specs.Inverses.{onSegment}
 use Rattle.window.specs.Near.{SoundSegment}
 use Rattle.steps.specs.declared.line.Line.{Line}

@@ -8,9 +8,9 @@ use lib.Ieee.{Float}
 use Rattle.gf.specs.Doubles.{0·0}
 use Rattle.definitions.specs.Value.{marked}
 use Rattle.definitions.specs.Track.{Entry, entryOf}
-use Rattle.set_laws.specs.Every.{Every}
-use Rattle.set_laws.specs.Places.{Fits, Ascending}
-use Rattle.track_laws.specs.Steps.{Grows, Falls}
+use Rattle.laws.specs.list.Every.{Every}
+use Rattle.laws.specs.list.Places.{Fits, Ascending}
+use Rattle.laws.specs.track.Steps.{Grows, Falls}
 use Rattle.steps.specs.declared.line.Line.{Line}
 use Rattle.steps.specs.Lines.{placeOn}
 

@@ -6,8 +6,8 @@ use Prim.Native.Nat.{ℕ, _+_, _≤_, _<_}
 use lib.ListN.{length, take, drop}
 use lib.Ieee.{Float}
 use Rattle.definitions.specs.Track.{Entry, Change, changeTimes, alike, Outputs}
-use Rattle.track_laws.specs.Track as steps
-use Rattle.cell_laws.specs.Tracks.{entry-same, writtenChange}
+use Rattle.laws.specs.track.Track as steps
+use Rattle.laws.specs.cell.Tracks.{entry-same, writtenChange}
 use Rattle.steps.specs.Entries.{entryIs}
 use Rattle.reading.specs.declared.walk.Went.{Went}
 

@@ -14,7 +14,7 @@ ghost use mathlib.Core.Path.{_≡_};
 ghost use Prim.Native.Nat.{_≤_, _<_};
 ghost use lib.ListN.{length};
 ghost use Rattle.gf.specs.Key as Key;
-ghost use Rattle.set_laws.specs.Places.{Ascending};
+ghost use Rattle.laws.specs.list.Places.{Ascending};
 ghost use Rattle.window.specs.Near.{SoundSegment};
 ghost use Rattle.steps.specs.Entries.{entryIs};
 ghost use Rattle.reading.specs.Readings.{Reads, readingAt};

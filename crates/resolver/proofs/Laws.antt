@@ -25,17 +25,17 @@ use Rattle.definitions.specs.declared.StageTime.{StageTime}
 use Rattle.definitions.specs.Questions.{Reply, refused, replied, reply, ofSet, stageTimeNumber, roomNumber, askStageSampleTimes, askStageSamples}
 use Rattle.gf.specs.Doubles.{0·0}
 use Rattle.definitions.specs.Track.{Track, Outputs, slots, bakeNumber}
-use Rattle.cell_laws.specs.Unpacked.{setOf, samplesOf}
-use Rattle.cell_laws.proofs.Unpacked.{active-times, knot-times, sound-set, sound-samples}
+use Rattle.laws.specs.cell.Unpacked.{setOf, samplesOf}
+use Rattle.laws.proofs.cell.Unpacked.{active-times, knot-times, sound-set, sound-samples}
 use Rattle.track.specs.declared.bake.Baked.{Baked}
 use Rattle.track.specs.Bakes.{BakeIs, bakedIs, bakedReply}
 use Rattle.track.proofs.Bakes.{bakes}
 use Rattle.definitions.specs.Calls as calls
 use Rattle.definitions.specs.Calls.{step, accepted, retimed, bakedOf, outputsAfter, Bakes}
-use Rattle.set_laws.specs.Places.{Ascending}
-use Rattle.set_laws.specs.Sound.{Sound, SoundModel}
-use Rattle.set_laws.proofs.Sound.{sound-active, sound-knots}
-use Rattle.set_laws.specs.Accepted.{Accepted as AcceptedSamples}
+use Rattle.laws.specs.list.Places.{Ascending}
+use Rattle.laws.specs.set.Sound.{Sound, SoundModel}
+use Rattle.laws.proofs.set.Sound.{sound-active, sound-knots}
+use Rattle.laws.specs.set.Accepted.{Accepted as AcceptedSamples}
 use Rattle.standing.specs.declared.questions.ActiveClip.the-variants.{Clip, NoClip}
 use Rattle.clip.specs.declared.ClipSet as clip
 use Rattle.clip.specs.declared.Parsed.{Parsed}

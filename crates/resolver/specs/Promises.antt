@@ -22,7 +22,7 @@ use Rattle.definitions.specs.Samples.{Samples}
 use Rattle.definitions.specs.Track.{Outputs}
 use Rattle.definitions.specs.Calls as calls
 use Rattle.definitions.specs.Calls.{explicit, template, retime, step, accepted}
-use Rattle.set_laws.specs.Sound.{Sound}
+use Rattle.laws.specs.set.Sound.{Sound}
 use Rattle.clip.specs.declared.Parsed.{Parsed}
 use Rattle.clip.specs.Holding.{clipSetOf, Held}
 use Rattle.resolver.specs.declared.Resolver.{Resolver}

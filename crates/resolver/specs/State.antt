@@ -1,7 +1,7 @@
 -- A resolver's state, 01's "desk", and what of it stands by the calls: document 01's plain desk, the `Model` of the definitions. Assumes nothing.
 use mathlib.Core.Bool.{cond}
 use Rattle.definitions.specs.ClipSet.{Model, Standing, noSet, standing}
-use Rattle.set_laws.specs.Sound.{SoundModel}
+use Rattle.laws.specs.set.Sound.{SoundModel}
 use Rattle.standing.specs.Standing.{setIn, Whole}
 use Rattle.resolver.specs.declared.Resolver.{Resolver}
 

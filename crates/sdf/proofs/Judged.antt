@@ -4,9 +4,9 @@ use mathlib.Core.List.{List}
 use Prim.Native.Nat.{ℕ}
 use lib.Ieee.{Float}
 use Rattle.definitions.specs.ClipSet.{ClipSet}
-use Rattle.set_laws.specs.Accepted.{Accepted}
-use Rattle.set_laws.proofs.Accepted.{accepted}
-use Rattle.cell_laws.specs.Unpacked.{samplesOf}
+use Rattle.laws.specs.set.Accepted.{Accepted}
+use Rattle.laws.proofs.set.Accepted.{accepted}
+use Rattle.laws.specs.cell.Unpacked.{samplesOf}
 use Rattle.sdf.specs.Judged.{Judged}
 
 pub judged-accepted : {clips : ℕ} {times values : List Float} {marks ends : List ℕ} {r : ℕ} → Judged clips times values marks ends r → r ≡ 0

@@ -9,9 +9,9 @@ use lib.Ieee.{Float, nan}
 use borrow.Author.Tests.{eqb-true, ltb-false, not-false}
 use Rattle.definitions.specs.ClipSet.{maxSamples}
 use Rattle.definitions.specs.Samples.{unlikeLengths}
-use Rattle.set_laws.proofs.Tests.{or-false}
-use Rattle.set_laws.specs.Every.{Every}
-use Rattle.cell_laws.specs.Places.{Fits}
+use Rattle.laws.proofs.list.Tests.{or-false}
+use Rattle.laws.specs.list.Every.{Every}
+use Rattle.laws.specs.cell.Places.{Fits}
 
 -- what owning a list of doubles tells, as a property of every entry
 pub every-fits : (xs : List Float) → ((i : ℕ) → Fits (getD xs i nan)) → Every Fits xs

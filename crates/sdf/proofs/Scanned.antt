@@ -17,7 +17,7 @@ use Rattle.definitions.specs.ClipSet.{markValue, markBlock}
 use Rattle.definitions.specs.Samples.{nanValue, closes, clipBegin, clipEnd}
 use lib.Ieee.Fits.{and-l, and-r}
 use lib.Ieee.Compare.{differs-from-itself}
-use Rattle.set_laws.proofs.Tests.{is-false}
+use Rattle.laws.proofs.list.Tests.{is-false}
 use Rattle.sdf.specs.Parts.{part}
 use Rattle.lists.proofs.Fronts.{front, no-front}
 

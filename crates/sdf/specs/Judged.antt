@@ -5,9 +5,9 @@ use Prim.Native.Nat.{ℕ}
 use lib.Ieee.{Float}
 use Rattle.definitions.specs.ClipSet.{ClipSet}
 use Rattle.definitions.specs.Samples.{samplesNumber}
-use Rattle.set_laws.specs.Every.{Every}
-use Rattle.cell_laws.specs.Places.{Fits}
-use Rattle.cell_laws.specs.Unpacked.{samplesOf}
+use Rattle.laws.specs.list.Every.{Every}
+use Rattle.laws.specs.cell.Places.{Fits}
+use Rattle.laws.specs.cell.Unpacked.{samplesOf}
 
 -- r is the samples' number for every set with that many clips, and the doubles are ones that a program can hold
 pub record Judged (clips : ℕ) (times values : List Float) (marks ends : List ℕ) (r : ℕ) : Type 0 where

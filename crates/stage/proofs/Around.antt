@@ -20,14 +20,14 @@ use Rattle.definitions.specs.ClipSet.{ClipSet, maxKnots}
 use Rattle.definitions.specs.Explicit.{knot}
 use Rattle.definitions.specs.Timing.{lastAtMost}
 use Rattle.definitions.specs.Samples.{Samples}
-use Rattle.set_laws.proofs.Tests.{holds, is-true}
-use Rattle.set_laws.specs.Every.{Every}
-use Rattle.set_laws.proofs.Every.{every-at}
-use Rattle.set_laws.proofs.Places.{atMost, at-most-is, last-is, last-later}
-use Rattle.cell_laws.proofs.Every.{every-map, every-zip, every-append, every-left, every-right, every-gather, both-l, both-r}
-use Rattle.cell_laws.specs.Places.{Fits}
-use Rattle.cell_laws.specs.Unpacked.{setOf, samplesOf, Ready}
-use Rattle.cell_laws.proofs.Unpacked.{zip-length}
+use Rattle.laws.proofs.list.Tests.{holds, is-true}
+use Rattle.laws.specs.list.Every.{Every}
+use Rattle.laws.proofs.list.Every.{every-at}
+use Rattle.laws.proofs.list.Places.{atMost, at-most-is, last-is, last-later}
+use Rattle.laws.proofs.cell.Every.{every-map, every-zip, every-append, every-left, every-right, every-gather, both-l, both-r}
+use Rattle.laws.specs.cell.Places.{Fits}
+use Rattle.laws.specs.cell.Unpacked.{setOf, samplesOf, Ready}
+use Rattle.laws.proofs.cell.Unpacked.{zip-length}
 use Rattle.window.specs.declared.Bound.{Bound}
 use Rattle.window.specs.declared.Bound.the-variants.{At, Nothing}
 use Rattle.window.proofs.Parts.{ready-starts}

@@ -13,11 +13,11 @@ use Rattle.gf.specs.Key.{key}
 use Rattle.gf.proofs.KeyLaws.{isZero, eq→le, same-or-zeros, key-inj, key→lt, lt→key, key→eq, eq→key, le→key, le-no-nan, lt→le, finite-no-nan}
 use Rattle.gf.specs.Doubles.{0·0, totalKey}
 use Rattle.definitions.specs.Doubles.{FiniteDouble}
-use Rattle.set_laws.specs.Every.{Every}
-use Rattle.set_laws.proofs.Stored.{total→key}
-use Rattle.cell_laws.proofs.Every.{any-with, every-map, every-zip}
-use Rattle.cell_laws.specs.Places.{Fits}
-use Rattle.cell_laws.specs.Neighbours.{IsUpper}
+use Rattle.laws.specs.list.Every.{Every}
+use Rattle.laws.proofs.set.Stored.{total→key}
+use Rattle.laws.proofs.cell.Every.{any-with, every-map, every-zip}
+use Rattle.laws.specs.cell.Places.{Fits}
+use Rattle.laws.specs.cell.Neighbours.{IsUpper}
 use Rattle.window.specs.declared.Bound.{Bound}
 use Rattle.window.specs.declared.Bound.the-variants.{At, Nothing}
 use Rattle.window.specs.Bounds.{In}

@@ -17,9 +17,9 @@ use Rattle.definitions.specs.Samples.{Samples, clipBegin, clipTimes, heldPlace}
 use Rattle.definitions.specs.Value.{marked}
 use Rattle.definitions.specs.Track.{markOf}
 use Rattle.definitions.specs.StageSamples.{StageSample, readMark, markIn, suppliedAt, stageSampleTimes, stageSamples}
-use Rattle.cell_laws.proofs.Every.{every-getD}
-use Rattle.cell_laws.specs.Unpacked.{start, activeOf, knotsOf, setOf, samplesOf, Ready}
-use Rattle.cell_laws.proofs.Unpacked.{zip-here}
+use Rattle.laws.proofs.cell.Every.{every-getD}
+use Rattle.laws.specs.cell.Unpacked.{start, activeOf, knotsOf, setOf, samplesOf, Ready}
+use Rattle.laws.proofs.cell.Unpacked.{zip-here}
 use Rattle.lists.proofs.Fronts.{front, no-front}
 use Rattle.window.specs.Parts.{partOf}
 use Rattle.window.proofs.Parts.{ready-active, ready-position}

@@ -16,11 +16,11 @@ use Rattle.gf.specs.Doubles.{totalKey}
 use Rattle.definitions.specs.Lists.{keep, sortBy}
 use Rattle.definitions.specs.Doubles.{FiniteDouble}
 use Rattle.definitions.specs.StageSamples.{dropEqual, dedup}
-use Rattle.set_laws.specs.Every.{Every, Chain, ChainFrom}
-use Rattle.set_laws.proofs.Stored.{total→key}
-use Rattle.set_laws.proofs.Sorting.{every-sort, sort-every, sort-sorted}
-use Rattle.cell_laws.proofs.Every.{every-map, every-zip, every-keep}
-use Rattle.cell_laws.specs.Places.{Fits}
+use Rattle.laws.specs.list.Every.{Every, Chain, ChainFrom}
+use Rattle.laws.proofs.set.Stored.{total→key}
+use Rattle.laws.proofs.list.Sorting.{every-sort, sort-every, sort-sorted}
+use Rattle.laws.proofs.cell.Every.{every-map, every-zip, every-keep}
+use Rattle.laws.specs.cell.Places.{Fits}
 use Rattle.window.specs.declared.Bound.{Bound}
 use Rattle.window.specs.declared.Bound.the-variants.{At, Nothing}
 use Rattle.window.specs.Bounds.{In}

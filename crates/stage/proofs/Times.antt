@@ -23,15 +23,15 @@ use Rattle.definitions.specs.ClipSet.{ClipSet, clip}
 use Rattle.definitions.specs.Samples.{Samples, clipBegin, clipEnd, clipTimes}
 use Rattle.definitions.specs.Value.{spans, inverse, onPair, stageTimesForClipTime, windowSampleTimes}
 use Rattle.definitions.specs.StageSamples.{timesOfClip, stageSampleTimes}
-use Rattle.set_laws.specs.Every.{Every}
-use Rattle.set_laws.proofs.Every.{every-at}
-use Rattle.set_laws.specs.Stored.{Stored}
-use Rattle.set_laws.proofs.Stored.{stored-finite}
-use Rattle.cell_laws.proofs.Every.{every-map, every-append, every-left, every-right, every-gather, every-take, every-drop, both-l, both-r, or-split}
-use Rattle.cell_laws.specs.Places.{Fits}
-use Rattle.cell_laws.proofs.Inverse.{inverse-fin-up, inverse-fin-down}
-use Rattle.cell_laws.specs.Unpacked.{start, activeOf, knotsOf, setOf, samplesOf, Ready}
-use Rattle.cell_laws.proofs.Unpacked.{zip-here, zip-length, active-times, knot-times}
+use Rattle.laws.specs.list.Every.{Every}
+use Rattle.laws.proofs.list.Every.{every-at}
+use Rattle.laws.specs.set.Stored.{Stored}
+use Rattle.laws.proofs.set.Stored.{stored-finite}
+use Rattle.laws.proofs.cell.Every.{every-map, every-append, every-left, every-right, every-gather, every-take, every-drop, both-l, both-r, or-split}
+use Rattle.laws.specs.cell.Places.{Fits}
+use Rattle.laws.proofs.cell.Inverse.{inverse-fin-up, inverse-fin-down}
+use Rattle.laws.specs.cell.Unpacked.{start, activeOf, knotsOf, setOf, samplesOf, Ready}
+use Rattle.laws.proofs.cell.Unpacked.{zip-here, zip-length, active-times, knot-times}
 use Rattle.window.specs.declared.Bound.{Bound}
 use Rattle.window.specs.declared.Bound.the-variants.{At, Nothing}
 use Rattle.window.specs.Parts.{partOf}

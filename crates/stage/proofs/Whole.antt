@@ -14,11 +14,11 @@ use Rattle.definitions.specs.declared.Manifest.{Manifest}
 use Rattle.definitions.specs.Lists.{keep}
 use Rattle.definitions.specs.Doubles.{FiniteDouble}
 use Rattle.definitions.specs.Timing.{lastAtMost}
-use Rattle.set_laws.proofs.Tests.{is-true}
-use Rattle.set_laws.proofs.Every.{every-at}
-use Rattle.set_laws.specs.Places.{Ascending}
-use Rattle.cell_laws.proofs.Window.{inf-below, inf-above}
-use Rattle.cell_laws.specs.Unpacked.{knotsOf, Ready}
+use Rattle.laws.proofs.list.Tests.{is-true}
+use Rattle.laws.proofs.list.Every.{every-at}
+use Rattle.laws.specs.list.Places.{Ascending}
+use Rattle.laws.proofs.cell.Window.{inf-below, inf-above}
+use Rattle.laws.specs.cell.Unpacked.{knotsOf, Ready}
 use Rattle.window.specs.declared.Bounds.{Bounds}
 use Rattle.window.specs.Parts.{partOf}
 use Rattle.window.proofs.Parts.{ready-starts, ready-clip, ready-readable}

@@ -21,14 +21,14 @@ use Rattle.definitions.specs.Doubles.{FiniteDouble}
 use Rattle.definitions.specs.ClipSet.{knotTimes, clip}
 use Rattle.definitions.specs.Timing.{lastAtMost}
 use Rattle.definitions.specs.Value.{spans, inverse, onPair, stageTimesForClipTime}
-use Rattle.set_laws.proofs.Tests.{is-true, is-false}
-use Rattle.set_laws.specs.Every.{Every}
-use Rattle.set_laws.proofs.Every.{every-at}
-use Rattle.set_laws.proofs.Places.{atMost, at-most-length, beyond, up-to, last-is, last-inside}
-use Rattle.cell_laws.proofs.Every.{any-with, every-map, every-zip, every-append, every-left, every-right, every-keep, every-kept, every-by, every-gather, both, both-l, both-r, or-l, or-r, or-split}
-use Rattle.cell_laws.specs.Places.{Fits}
-use Rattle.cell_laws.specs.Unpacked.{knotsOf, Ready}
-use Rattle.cell_laws.proofs.Unpacked.{knot-times}
+use Rattle.laws.proofs.list.Tests.{is-true, is-false}
+use Rattle.laws.specs.list.Every.{Every}
+use Rattle.laws.proofs.list.Every.{every-at}
+use Rattle.laws.proofs.list.Places.{atMost, at-most-length, beyond, up-to, last-is, last-inside}
+use Rattle.laws.proofs.cell.Every.{any-with, every-map, every-zip, every-append, every-left, every-right, every-keep, every-kept, every-by, every-gather, both, both-l, both-r, or-l, or-r, or-split}
+use Rattle.laws.specs.cell.Places.{Fits}
+use Rattle.laws.specs.cell.Unpacked.{knotsOf, Ready}
+use Rattle.laws.proofs.cell.Unpacked.{knot-times}
 use Rattle.window.specs.Parts.{partOf}
 use Rattle.window.proofs.Parts.{ready-starts, ready-clip, ready-readable}
 use Rattle.window.specs.Near.{SoundSegment}

@@ -7,7 +7,7 @@ use lib.Dec.{ltb}
 use lib.ListN.{length, getD}
 use lib.Ieee.{Float, nan}
 use Rattle.definitions.specs.Samples.{clipBegin, clipEnd}
-use Rattle.set_laws.specs.Places.{Ascending}
+use Rattle.laws.specs.list.Places.{Ascending}
 use Rattle.window.specs.Parts.{partOf, Readable}
 use Rattle.window.specs.Windows.{minOf, maxOf, windowPart}
 use Rattle.near.specs.declared.Window.{Window}

@@ -12,7 +12,7 @@ use Rattle.definitions.specs.Lists.{any}
 use Rattle.definitions.specs.ClipSet.{clip}
 use Rattle.definitions.specs.Timing.{lastAtMost}
 use Rattle.definitions.specs.Samples.{clipBegin, clipEnd}
-use Rattle.set_laws.specs.Places.{Ascending}
+use Rattle.laws.specs.list.Places.{Ascending}
 use Rattle.window.specs.Parts.{partOf}
 use Rattle.window.specs.Bounds.{inside}
 use Rattle.stage.specs.MinusZero.{minusZero}

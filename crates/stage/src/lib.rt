@@ -14,7 +14,7 @@ ghost use mathlib.Core.Path.{_≡_};
 ghost use Prim.Native.Nat.{min};
 ghost use lib.ListN.{length};
 ghost use Rattle.definitions.specs.StageSamples.{stageSampleTimes};
-ghost use Rattle.cell_laws.specs.Unpacked.{setOf, samplesOf, Ready};
+ghost use Rattle.laws.specs.cell.Unpacked.{setOf, samplesOf, Ready};
 ghost use Rattle.stage.specs.Promises.{TimesWritten, SamplesWritten};
 ghost use Rattle.stage.specs.Marks.{sampleTimes, sampleMarks};
 

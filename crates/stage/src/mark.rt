@@ -11,7 +11,7 @@ ghost use lib.ListN.{length};
 ghost use Rattle.definitions.specs.Lists.{writtenOver};
 ghost use Rattle.definitions.specs.StageSamples.{suppliedAt};
 ghost use Rattle.definitions.specs.Track.{markOf};
-ghost use Rattle.cell_laws.specs.Unpacked.{setOf, samplesOf, Ready};
+ghost use Rattle.laws.specs.cell.Unpacked.{setOf, samplesOf, Ready};
 ghost use Rattle.stage.specs.Marks.{gapMarkOf, marksAt};
 
 // The mark that stands where the active clip has no samples: that of the manifest default if it is a value, else a block.

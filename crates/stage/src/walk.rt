@@ -9,7 +9,7 @@ ghost use lib.Dec.{leb};
 ghost use lib.ListN.{length};
 ghost use Rattle.definitions.specs.Lists.{writtenOver};
 ghost use Rattle.definitions.specs.StageSamples.{stageSampleTimes};
-ghost use Rattle.cell_laws.specs.Unpacked.{setOf, samplesOf, Ready};
+ghost use Rattle.laws.specs.cell.Unpacked.{setOf, samplesOf, Ready};
 ghost use Rattle.near.specs.Tops.{TopsOf};
 
 // No stage sample time is below -2^40.

@@ -10,8 +10,8 @@ use Rattle.definitions.specs.declared.Knot.{Knot}
 use Rattle.definitions.specs.declared.Start.{Start}
 use Rattle.definitions.specs.declared.Manifest.{Manifest}
 use Rattle.definitions.specs.ClipSet.{activeTimes, knotTimes, maxActive, maxKnots, maxBlocks}
-use Rattle.set_laws.specs.Sound.{knotValues}
-use Rattle.cell_laws.specs.Unpacked.{activeOf, knotsOf, setOf}
+use Rattle.laws.specs.set.Sound.{knotValues}
+use Rattle.laws.specs.cell.Unpacked.{activeOf, knotsOf, setOf}
 use Rattle.clip.specs.declared.ClipSet.{ClipSet}
 use Rattle.clip.specs.declared.storage.Active.{Active}
 use Rattle.clip.specs.declared.storage.Knots.{Knots}

@@ -8,7 +8,7 @@ use lib.Ieee.{Float}
 use Rattle.definitions.specs.declared.Manifest.{Manifest}
 use Rattle.definitions.specs.ClipSet as Definitions
 use Rattle.definitions.specs.ClipSet.{maxActive, maxKnots, maxBlocks}
-use Rattle.cell_laws.specs.Unpacked.{setOf, Ready}
+use Rattle.laws.specs.cell.Unpacked.{setOf, Ready}
 use Rattle.clip.specs.declared.ClipSet.{ClipSet}
 use Rattle.clip.specs.Holding.{Room, Held, clipSetOf}
 use Rattle.standing.specs.declared.Counts.{Counts}

@@ -2,9 +2,9 @@
 use mathlib.Core.Path.{_≡_, sym, _∙_}
 use Prim.Native.Nat.{ℕ, _-_, _≤_}
 use native.Mathlib.Omega.{arith}
-use Rattle.track_laws.specs.Steps.{Once, Level, StepAt, FirstStep}
-use Rattle.track_laws.specs.declared.Next.{Next}
-use Rattle.track_laws.specs.declared.Next.the-variants.{At, Nothing}
+use Rattle.laws.specs.track.Steps.{Once, Level, StepAt, FirstStep}
+use Rattle.laws.specs.declared.Next.{Next}
+use Rattle.laws.specs.declared.Next.the-variants.{At, Nothing}
 
 module _ {f : ℕ → ℕ} {k hi : ℕ} (o : Once f k hi) (a b : ℕ) (l : k ≤ a) (h : b ≤ hi) (e : f a ≡ f k) where
   -- from a key where it is as at k on it is left once

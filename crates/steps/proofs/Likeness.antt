@@ -7,8 +7,8 @@ use lib.Ieee.Compare.{differs-from-itself}
 use borrow.Author.Tests.{eq-eqb, ne-eqb}
 use Rattle.gf.proofs.Units.{same-bits}
 use Rattle.definitions.specs.Track.{Entry, alike}
-use Rattle.set_laws.proofs.Tests.{holds}
-use Rattle.set_laws.specs.Places.{Fits}
+use Rattle.laws.proofs.list.Tests.{holds}
+use Rattle.laws.specs.list.Places.{Fits}
 
 -- ---- a NaN differs from itself, and nothing else does
 

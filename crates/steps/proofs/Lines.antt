@@ -3,7 +3,7 @@ use mathlib.Core.Path.{_≡_, ap}
 use lib.Ieee.{Float}
 use Rattle.definitions.specs.declared.Segment as definitions
 use Rattle.definitions.specs.Timing.{onSegment}
-use Rattle.cell_laws.specs.Knots as Knots
+use Rattle.laws.specs.cell.Knots as Knots
 use Rattle.steps.specs.declared.line.Line.{Line}
 use Rattle.steps.specs.declared.line.Line.the-variants.{Plain, Flat, Segment}
 use Rattle.steps.specs.Lines.{lineIs}

@@ -15,13 +15,13 @@ use Rattle.definitions.specs.Doubles.{FiniteDouble}
 use Rattle.definitions.specs.Explicit.{knot}
 use Rattle.definitions.specs.ClipSet.{knotTimes}
 use Rattle.definitions.specs.Timing.{lastAtMost, lastKnot}
-use Rattle.set_laws.proofs.Tests.{is-true}
-use Rattle.set_laws.proofs.Every.{every-at}
-use Rattle.set_laws.specs.Places.{Fits, Ascending}
-use Rattle.set_laws.proofs.Places.{up-to, last-is, fitting}
-use Rattle.cell_laws.specs.Knots.{plain, flat, segment, lineOf}
-use Rattle.cell_laws.specs.Unpacked.{knotsOf}
-use Rattle.cell_laws.proofs.Unpacked.{knot-times}
+use Rattle.laws.proofs.list.Tests.{is-true}
+use Rattle.laws.proofs.list.Every.{every-at}
+use Rattle.laws.specs.list.Places.{Fits, Ascending}
+use Rattle.laws.proofs.list.Places.{up-to, last-is, fitting}
+use Rattle.laws.specs.cell.Knots.{plain, flat, segment, lineOf}
+use Rattle.laws.specs.cell.Unpacked.{knotsOf}
+use Rattle.laws.proofs.cell.Unpacked.{knot-times}
 
 -- ---- the knot at a place
 

@@ -4,7 +4,7 @@ use Prim.Native.Nat.{ℕ}
 use lib.Ieee.{Float}
 use Rattle.gf.specs.Key.{ofKey}
 use Rattle.definitions.specs.Timing.{lastAtMost}
-use Rattle.cell_laws.specs.Knots as Knots
+use Rattle.laws.specs.cell.Knots as Knots
 use Rattle.steps.specs.declared.line.Line.{Line}
 use Rattle.steps.specs.declared.line.Line.the-variants.{Plain, Flat, Segment}
 

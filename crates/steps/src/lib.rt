@@ -6,19 +6,19 @@ pub mod line;
 // A value and its mark, and when two are alike.
 pub mod entry;
 
+use laws::Next;
 use line::Line;
 use line::along;
 use lists::near::is_place;
 use lists::segment::stage_time;
-use track_laws::Next;
 ghost use mathlib.Core.Path.{_≡_};
 ghost use Prim.Native.Nat.{_≤_, _<_};
 ghost use lib.Dec.{eqb};
 ghost use lib.ListN.{length};
 ghost use Rattle.gf.specs.Key as Key;
-ghost use Rattle.set_laws.specs.Places.{Ascending};
-ghost use Rattle.track_laws.specs.Steps.{Once, StepAt, FirstStep};
-ghost use Rattle.cell_laws.specs.Keys.{Keys};
+ghost use Rattle.laws.specs.list.Places.{Ascending};
+ghost use Rattle.laws.specs.track.Steps.{Once, StepAt, FirstStep};
+ghost use Rattle.laws.specs.cell.Keys.{Keys};
 ghost use Rattle.steps.specs.Lines.{placeOn};
 
 // Whether the sample at q is read at the key k.

@@ -9,9 +9,9 @@ ghost use lib.Dec.{T};
 ghost use lib.Ieee.{isNan};
 ghost use lib.ListN.{length};
 ghost use Rattle.gf.specs.Key as Key;
-ghost use Rattle.set_laws.specs.Places.{Ascending};
-ghost use Rattle.cell_laws.specs.Knots as Knots;
-ghost use Rattle.cell_laws.specs.Unpacked.{knotsOf};
+ghost use Rattle.laws.specs.list.Places.{Ascending};
+ghost use Rattle.laws.specs.cell.Knots as Knots;
+ghost use Rattle.laws.specs.cell.Unpacked.{knotsOf};
 ghost use Rattle.steps.specs.Lines.{lineIs, placeOn};
 
 // How stage times lead to clip times in a cell: no knots, below the first or from the last on, or

@@ -24,18 +24,18 @@ use Rattle.definitions.specs.Timing.{lastAtMost}
 use Rattle.definitions.specs.Samples.{Samples, clipBegin, clipEnd}
 use Rattle.definitions.specs.Value.{marked, says, valueInSet, directSource, gathered}
 use Rattle.definitions.specs.Track.{Entry, entryOf}
-use Rattle.set_laws.proofs.Tests.{is-true, is-false, holds}
-use Rattle.set_laws.specs.Every.{Every}
-use Rattle.set_laws.proofs.Every.{every-at, every-take, every-drop}
-use Rattle.set_laws.specs.Places.{Fits}
-use Rattle.set_laws.proofs.Places.{atMost, at-most-length, beyond, up-to, last-is}
-use Rattle.cell_laws.specs.Ends.{Number}
-use Rattle.cell_laws.specs.Keys.{Keys, entryAtKey}
-use Rattle.cell_laws.proofs.Keys.{sourceAtKey}
-use Rattle.cell_laws.specs.Knots as Knots
-use Rattle.cell_laws.proofs.Window.{gathered-fit}
-use Rattle.cell_laws.proofs.Zeros.{zero-direct}
-use Rattle.cell_laws.specs.Unpacked.{Ready, setOf, samplesOf, knotsOf}
+use Rattle.laws.proofs.list.Tests.{is-true, is-false, holds}
+use Rattle.laws.specs.list.Every.{Every}
+use Rattle.laws.proofs.list.Every.{every-at, every-take, every-drop}
+use Rattle.laws.specs.list.Places.{Fits}
+use Rattle.laws.proofs.list.Places.{atMost, at-most-length, beyond, up-to, last-is}
+use Rattle.laws.specs.cell.Ends.{Number}
+use Rattle.laws.specs.cell.Keys.{Keys, entryAtKey}
+use Rattle.laws.proofs.cell.Keys.{sourceAtKey}
+use Rattle.laws.specs.cell.Knots as Knots
+use Rattle.laws.proofs.cell.Window.{gathered-fit}
+use Rattle.laws.proofs.cell.Zeros.{zero-direct}
+use Rattle.laws.specs.cell.Unpacked.{Ready, setOf, samplesOf, knotsOf}
 use Rattle.window.specs.declared.Bound.the-variants.{At, Nothing}
 use Rattle.window.specs.Bounds.{NeighboursAre}
 use Rattle.window.specs.Near.{SoundSegment}

@@ -22,19 +22,19 @@ use Rattle.definitions.specs.ClipSet.{ClipSet, stage}
 use Rattle.definitions.specs.Timing.{lastAtMost, mapTime}
 use Rattle.definitions.specs.Samples.{Samples, clipTimes}
 use Rattle.definitions.specs.Value.{jump, valueSource}
-use Rattle.set_laws.proofs.Tests.{holds}
-use Rattle.set_laws.specs.Every.{Every}
-use Rattle.set_laws.proofs.Every.{every-at}
-use Rattle.set_laws.specs.Places.{Ascending}
-use Rattle.set_laws.proofs.Places.{fitting, last-inside}
-use Rattle.cell_laws.proofs.Every.{both, every-kept, every-left, every-zip}
-use Rattle.cell_laws.specs.Places.{Fits}
-use Rattle.cell_laws.proofs.Places.{Clear, not-le-lt, place-mono, place-same}
-use Rattle.cell_laws.proofs.Window.{inf-below}
-use Rattle.cell_laws.specs.Knots as Knots
-use Rattle.cell_laws.specs.Neighbours.{IsLower}
-use Rattle.cell_laws.specs.Keys.{Keys}
-use Rattle.cell_laws.specs.Unpacked.{knotsOf, setOf, samplesOf, Ready}
+use Rattle.laws.proofs.list.Tests.{holds}
+use Rattle.laws.specs.list.Every.{Every}
+use Rattle.laws.proofs.list.Every.{every-at}
+use Rattle.laws.specs.list.Places.{Ascending}
+use Rattle.laws.proofs.list.Places.{fitting, last-inside}
+use Rattle.laws.proofs.cell.Every.{both, every-kept, every-left, every-zip}
+use Rattle.laws.specs.cell.Places.{Fits}
+use Rattle.laws.proofs.cell.Places.{Clear, not-le-lt, place-mono, place-same}
+use Rattle.laws.proofs.cell.Window.{inf-below}
+use Rattle.laws.specs.cell.Knots as Knots
+use Rattle.laws.specs.cell.Neighbours.{IsLower}
+use Rattle.laws.specs.cell.Keys.{Keys}
+use Rattle.laws.specs.cell.Unpacked.{knotsOf, setOf, samplesOf, Ready}
 use Rattle.window.specs.declared.Bound.{Bound}
 use Rattle.window.specs.declared.Bound.the-variants.{At, Nothing}
 use Rattle.window.specs.declared.Bounds.{Bounds}

@@ -19,18 +19,18 @@ use Rattle.definitions.specs.ClipSet.{ClipSet, stage}
 use Rattle.definitions.specs.Samples.{Samples, clipBegin, clipEnd, clipTimes}
 use Rattle.definitions.specs.Value.{marked, says, valueInSet}
 use Rattle.definitions.specs.Track.{Entry, entryOf}
-use Rattle.set_laws.proofs.Every.{every-take, every-drop}
-use Rattle.set_laws.specs.Places.{Fits}
-use Rattle.track_laws.specs.Laws.{Agree}
-use Rattle.cell_laws.proofs.Direct.{SoundSet, SoundSamples}
-use Rattle.cell_laws.proofs.Stretches.{Stretch}
-use Rattle.cell_laws.specs.Stretches.{boundaries}
-use Rattle.cell_laws.specs.Knots as Knots
-use Rattle.cell_laws.specs.Cells as Cells
-use Rattle.cell_laws.proofs.Cells as Cells-laws
-use Rattle.cell_laws.specs.Keys.{Keys, entryAtKey}
-use Rattle.cell_laws.proofs.Keys.{NonePassed, cellPlaceAt, sourceAtKey, cell-source}
-use Rattle.cell_laws.specs.Unpacked.{Ready, setOf, samplesOf}
+use Rattle.laws.proofs.list.Every.{every-take, every-drop}
+use Rattle.laws.specs.list.Places.{Fits}
+use Rattle.laws.specs.track.Laws.{Agree}
+use Rattle.laws.proofs.cell.Direct.{SoundSet, SoundSamples}
+use Rattle.laws.proofs.cell.Stretches.{Stretch}
+use Rattle.laws.specs.cell.Stretches.{boundaries}
+use Rattle.laws.specs.cell.Knots as Knots
+use Rattle.laws.specs.cell.Cells as Cells
+use Rattle.laws.proofs.cell.Cells as Cells-laws
+use Rattle.laws.specs.cell.Keys.{Keys, entryAtKey}
+use Rattle.laws.proofs.cell.Keys.{NonePassed, cellPlaceAt, sourceAtKey, cell-source}
+use Rattle.laws.specs.cell.Unpacked.{Ready, setOf, samplesOf}
 use Rattle.window.proofs.Parts.{ready-readable, last-short}
 use Rattle.window.specs.declared.Bound.{Bound}
 use Rattle.steps.specs.declared.line.Line.{Line}

@@ -11,9 +11,9 @@ use Rattle.definitions.specs.declared.Knot.{Knot}
 use Rattle.definitions.specs.ClipSet.{ClipSet}
 use Rattle.definitions.specs.Samples.{Samples, clipBegin, clipEnd}
 use Rattle.definitions.specs.Track.{Entry}
-use Rattle.track_laws.specs.Laws.{Agree}
-use Rattle.cell_laws.specs.Keys.{Keys, entryAtKey}
-use Rattle.cell_laws.specs.Unpacked.{setOf, samplesOf}
+use Rattle.laws.specs.track.Laws.{Agree}
+use Rattle.laws.specs.cell.Keys.{Keys, entryAtKey}
+use Rattle.laws.specs.cell.Unpacked.{setOf, samplesOf}
 use Rattle.steps.specs.declared.line.Line.{Line}
 use Rattle.steps.specs.Lines.{placeOn}
 use Rattle.steps.specs.Entries.{entryIs}

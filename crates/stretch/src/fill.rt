@@ -8,7 +8,7 @@ use reading::walk::Went;
 use steps::entry::Entry;
 use window::part::clip_begin;
 use window::part::clip_end;
-ghost use Rattle.cell_laws.specs.Keys.{Keys};
+ghost use Rattle.laws.specs.cell.Keys.{Keys};
 ghost use Rattle.steps.specs.Entries.{entryIs};
 ghost use Rattle.reading.specs.Walks.{outputs, Room, Walked};
 ghost use Rattle.stretch.specs.Runs.{Runs, Goes, saysOn, saysBy};

@@ -19,7 +19,7 @@ use Rattle.definitions.specs.Lists.{zipWith}
 use Rattle.definitions.specs.Explicit.{knot}
 use Rattle.definitions.specs.Template.{stageTime, activations, diagonal, clipKnots, withBounds}
 use Rattle.definitions.specs.Retime.{sorted}
-use Rattle.cell_laws.specs.Unpacked.{start, setOf}
+use Rattle.laws.specs.cell.Unpacked.{start, setOf}
 use Rattle.template.specs.Expanding.{offsetOf, timesOfClips, bounded, knotXs, knotCount, numbered, expandedSet}
 
 module _ {A : Type 0} where

@@ -8,9 +8,9 @@ use lib.ListN.{length}
 use borrow.Author.Tests.{lt-ltb, le-ltb, ltb-false}
 use Rattle.definitions.specs.ClipSet.{maxClips, maxBlocks, maxTemplate}
 use Rattle.definitions.specs.Template.{TemplateFields, activeOffset, promoted, templateSet, template1, template2, template7, template6, template8, templateNumber}
-use Rattle.set_laws.proofs.Tests.{or-false, passed}
-use Rattle.set_laws.specs.Sound.{Sound}
-use Rattle.set_laws.proofs.SoundTemplate.{TemplateFits, template-sound}
+use Rattle.laws.proofs.list.Tests.{or-false, passed}
+use Rattle.laws.specs.set.Sound.{Sound}
+use Rattle.laws.proofs.set.SoundTemplate.{TemplateFits, template-sound}
 use Rattle.clip.specs.declared.Parsed.{Parsed}
 use Rattle.clip.specs.Settling.{settleNumber, Refuses, Settles}
 use Rattle.clip.specs.Holding.{manifest}

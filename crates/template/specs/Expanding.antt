@@ -14,7 +14,7 @@ use Rattle.definitions.specs.Lists.{_if_else_}
 use Rattle.definitions.specs.ClipSet as Definitions
 use Rattle.definitions.specs.ClipSet.{maxClips, maxBlocks, sortActive, sortKnots}
 use Rattle.definitions.specs.Template.{TemplateFields, promoted, activations, clipKnots, withBounds, offsetNotFinite, offsetBeyond, templateSet, template1, template2, template7, template6, templateNumber}
-use Rattle.set_laws.specs.Sound.{Sound}
+use Rattle.laws.specs.set.Sound.{Sound}
 use Rattle.clip.specs.declared.Parsed.{Parsed}
 use Rattle.template.specs.declared.expanding.Promoted.{Promoted}
 use Rattle.clip.specs.Holding.{Held, clipSetOf}

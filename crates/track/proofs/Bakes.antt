@@ -9,8 +9,8 @@ use Rattle.definitions.specs.Value.{valueInSet}
 use Rattle.definitions.specs.Questions.{reply, roomNumber}
 use Rattle.definitions.specs.Track.{TrackOf, Outputs, slots, bakeNumber}
 use Rattle.definitions.specs.Calls as Calls
-use Rattle.cell_laws.proofs.Direct.{SoundSet, SoundSamples}
-use Rattle.cell_laws.proofs.Tracks.{SoundValues, track-is}
+use Rattle.laws.proofs.cell.Direct.{SoundSet, SoundSamples}
+use Rattle.laws.proofs.cell.Tracks.{SoundValues, track-is}
 use Rattle.track.specs.declared.bake.Baked.{Baked}
 use Rattle.track.specs.Bakes.{trackOf, bakedIs, BakeIs, bakedReply}
 

@@ -13,9 +13,9 @@ use Rattle.definitions.specs.Lists.{_if_else_, writtenOver}
 use Rattle.definitions.specs.ClipSet.{ClipSet}
 use Rattle.definitions.specs.Samples.{Samples}
 use Rattle.definitions.specs.Track.{Entry, Change, changeTimes, Outputs, slots, writeTrack}
-use Rattle.track_laws.specs.Track as steps
-use Rattle.cell_laws.specs.Keys.{entryAtKey}
-use Rattle.cell_laws.specs.Tracks.{writtenChange}
+use Rattle.laws.specs.track.Track as steps
+use Rattle.laws.specs.cell.Keys.{entryAtKey}
+use Rattle.laws.specs.cell.Tracks.{writtenChange}
 use Rattle.reading.specs.Walks.{writtenFrom, written}
 use Rattle.stretch.specs.Changes.{changesOf}
 use Rattle.track.specs.Bakes.{outputs, trackOf, BakeIs}

@@ -5,10 +5,10 @@ use Prim.Native.Nat.{ℕ, _+_}
 use lib.ListN.{length, length-append}
 use lib.Ieee.{Float}
 use Rattle.definitions.specs.declared.Manifest.{Manifest}
-use Rattle.track_laws.proofs.Laws.{changes-split}
-use Rattle.cell_laws.specs.Keys.{entryAtKey}
-use Rattle.cell_laws.specs.Tracks.{entry-same}
-use Rattle.cell_laws.specs.Unpacked.{setOf, samplesOf}
+use Rattle.laws.proofs.track.Laws.{changes-split}
+use Rattle.laws.specs.cell.Keys.{entryAtKey}
+use Rattle.laws.specs.cell.Tracks.{entry-same}
+use Rattle.laws.specs.cell.Unpacked.{setOf, samplesOf}
 use Rattle.stretch.specs.Changes.{changesOf}
 use Rattle.track.specs.declared.fill.Filled.{Filled}
 use Rattle.track.specs.Fills.{PassedTo}

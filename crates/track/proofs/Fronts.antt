@@ -8,7 +8,7 @@ use lib.ListN.{length, getD, drop}
 use lib.Ieee.{Float, nan, le}
 use Rattle.definitions.specs.Lists.{zipWith}
 use Rattle.definitions.specs.Track.{Entry, Change, readFrom}
-use Rattle.set_laws.proofs.Every.{zip-at}
+use Rattle.laws.proofs.list.Every.{zip-at}
 use Rattle.lists.proofs.Fronts.{front, no-front}
 use Rattle.track.specs.Held.{entry, change, changesOfLists}
 

@@ -12,12 +12,12 @@ use Rattle.definitions.specs.declared.Manifest.{Manifest}
 use Rattle.definitions.specs.ClipSet.{ClipSet, stage}
 use Rattle.definitions.specs.Samples.{Samples}
 use Rattle.definitions.specs.Track.{Outputs, slots}
-use Rattle.track_laws.proofs.Laws.{changes-none, changes-split}
-use Rattle.cell_laws.proofs.Direct.{SoundSet, SoundSamples}
-use Rattle.cell_laws.specs.Keys.{Keys, entryAtKey}
-use Rattle.cell_laws.proofs.Tracks.{SoundValues, entries-alike}
-use Rattle.cell_laws.specs.Tracks.{entry-same}
-use Rattle.cell_laws.specs.Unpacked.{setOf, samplesOf}
+use Rattle.laws.proofs.track.Laws.{changes-none, changes-split}
+use Rattle.laws.proofs.cell.Direct.{SoundSet, SoundSamples}
+use Rattle.laws.specs.cell.Keys.{Keys, entryAtKey}
+use Rattle.laws.proofs.cell.Tracks.{SoundValues, entries-alike}
+use Rattle.laws.specs.cell.Tracks.{entry-same}
+use Rattle.laws.specs.cell.Unpacked.{setOf, samplesOf}
 use Rattle.reading.specs.declared.walk.Went.{Went}
 use Rattle.reading.specs.Walks.{outputs, written, Room, Walked}
 use Rattle.reading.proofs.Filling.{Long}

@@ -10,8 +10,8 @@ use Rattle.definitions.specs.Samples.{Samples}
 use Rattle.definitions.specs.Questions.{Reply, reply, roomNumber}
 use Rattle.definitions.specs.Track.{Track, Outputs, slots}
 use Rattle.definitions.specs.Calls as Calls
-use Rattle.cell_laws.specs.Keys.{entryAtKey}
-use Rattle.cell_laws.specs.Tracks.{writtenTrack}
+use Rattle.laws.specs.cell.Keys.{entryAtKey}
+use Rattle.laws.specs.cell.Tracks.{writtenTrack}
 use Rattle.stretch.specs.Changes.{changesOf}
 use Rattle.track.specs.declared.bake.Baked.{Baked}
 

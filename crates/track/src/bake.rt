@@ -17,7 +17,7 @@ ghost use lib.ListN.{length};
 ghost use Rattle.gf.specs.Doubles.{0·0};
 ghost use Rattle.gf.specs.Key as Key;
 ghost use Rattle.definitions.specs.Track.{slots};
-ghost use Rattle.cell_laws.specs.Unpacked.{setOf, samplesOf, Ready};
+ghost use Rattle.laws.specs.cell.Unpacked.{setOf, samplesOf, Ready};
 ghost use Rattle.near.specs.Tops.{TopsOf};
 ghost use Rattle.reading.specs.Walks.{Room};
 ghost use Rattle.track.specs.Bakes.{outputs, BakeIs};

@@ -7,8 +7,8 @@ ghost use mathlib.Core.Path.{_≡_};
 ghost use Prim.Native.Nat.{_≤_};
 ghost use lib.ListN.{length};
 ghost use Rattle.gf.specs.Key as Key;
-ghost use Rattle.cell_laws.specs.Keys.{entryAtKey};
-ghost use Rattle.cell_laws.specs.Unpacked.{setOf, samplesOf, Ready};
+ghost use Rattle.laws.specs.cell.Keys.{entryAtKey};
+ghost use Rattle.laws.specs.cell.Unpacked.{setOf, samplesOf, Ready};
 ghost use Rattle.steps.specs.Entries.{entryIs};
 
 // The entry at the double with the key k.

@@ -7,7 +7,7 @@ use stretch::fill::fill_in;
 use stretch::stretch_at;
 ghost use mathlib.Core.Path.{_≡_};
 ghost use Prim.Native.Nat.{min};
-ghost use Rattle.cell_laws.specs.Unpacked.{Ready};
+ghost use Rattle.laws.specs.cell.Unpacked.{Ready};
 ghost use Rattle.near.specs.Tops.{TopsOf};
 ghost use Rattle.reading.specs.Walks.{outputs};
 ghost use Rattle.track.specs.Fills.{CursorIs, FillIs};

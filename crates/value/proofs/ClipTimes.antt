@@ -10,14 +10,14 @@ use lib.Ieee.{Float, nan, lt, le}
 use Rattle.gf.proofs.KeyLaws.{le-trans, lt-not-le}
 use Rattle.definitions.specs.Explicit.{knot}
 use Rattle.definitions.specs.Timing.{lastAtMost, lastKnot, onSegment, mapTime}
-use Rattle.set_laws.proofs.Tests.{is-false, holds}
-use Rattle.set_laws.proofs.Every.{zip-at}
-use Rattle.set_laws.proofs.LastKnot.{last-knot-is}
-use Rattle.set_laws.specs.Places.{Ascending}
-use Rattle.set_laws.proofs.Places.{beyond, up-to, last-is}
-use Rattle.cell_laws.specs.Places.{Fits}
-use Rattle.cell_laws.specs.Unpacked.{knotsOf}
-use Rattle.cell_laws.proofs.Unpacked.{knot-times, zip-length}
+use Rattle.laws.proofs.list.Tests.{is-false, holds}
+use Rattle.laws.proofs.list.Every.{zip-at}
+use Rattle.laws.proofs.set.LastKnot.{last-knot-is}
+use Rattle.laws.specs.list.Places.{Ascending}
+use Rattle.laws.proofs.list.Places.{beyond, up-to, last-is}
+use Rattle.laws.specs.cell.Places.{Fits}
+use Rattle.laws.specs.cell.Unpacked.{knotsOf}
+use Rattle.laws.proofs.cell.Unpacked.{knot-times, zip-length}
 use Rattle.lists.specs.Segments.{knotAt}
 use Rattle.beside.proofs.Beside.{number-at}
 use Rattle.value.proofs.Jumps.{step-le}

@@ -18,17 +18,17 @@ use Rattle.definitions.specs.ClipSet.{ClipSet, stage}
 use Rattle.definitions.specs.Timing.{lastAtMost, mapTime, mapStageToClip}
 use Rattle.definitions.specs.Samples.{Samples, clipBegin, clipEnd}
 use Rattle.definitions.specs.Value.{startOf, gathered, directSource}
-use Rattle.set_laws.proofs.Tests.{is-true, holds}
-use Rattle.set_laws.specs.Every.{Every}
-use Rattle.set_laws.proofs.Every.{every-at}
-use Rattle.set_laws.specs.Places.{Ascending}
-use Rattle.set_laws.proofs.Places.{atMost, at-most-length, at-most-is, beyond, last-is}
-use Rattle.cell_laws.proofs.Every.{every-by}
-use Rattle.cell_laws.specs.Places.{Fits}
-use Rattle.cell_laws.proofs.Places.{Clear, place-same}
-use Rattle.cell_laws.proofs.Window.{inf-below, inf-above}
-use Rattle.cell_laws.specs.Neighbours.{IsLower}
-use Rattle.cell_laws.specs.Unpacked.{activeOf, knotsOf, setOf, samplesOf, Ready}
+use Rattle.laws.proofs.list.Tests.{is-true, holds}
+use Rattle.laws.specs.list.Every.{Every}
+use Rattle.laws.proofs.list.Every.{every-at}
+use Rattle.laws.specs.list.Places.{Ascending}
+use Rattle.laws.proofs.list.Places.{atMost, at-most-length, at-most-is, beyond, last-is}
+use Rattle.laws.proofs.cell.Every.{every-by}
+use Rattle.laws.specs.cell.Places.{Fits}
+use Rattle.laws.proofs.cell.Places.{Clear, place-same}
+use Rattle.laws.proofs.cell.Window.{inf-below, inf-above}
+use Rattle.laws.specs.cell.Neighbours.{IsLower}
+use Rattle.laws.specs.cell.Unpacked.{activeOf, knotsOf, setOf, samplesOf, Ready}
 use Rattle.window.specs.Bounds.{inside}
 use Rattle.window.specs.Inverses.{inversesOf}
 use Rattle.window.specs.Parts.{partOf}

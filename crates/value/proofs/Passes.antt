@@ -18,15 +18,15 @@ use Rattle.definitions.specs.declared.Knot.{Knot}
 use Rattle.definitions.specs.Lists.{any, keep}
 use Rattle.definitions.specs.Timing.{lastAtMost}
 use Rattle.definitions.specs.Value.{spans, inverse, onPair, jump}
-use Rattle.set_laws.proofs.Tests.{is-true, is-false, holds}
-use Rattle.set_laws.specs.Every.{Every}
-use Rattle.set_laws.proofs.Every.{every-at}
-use Rattle.cell_laws.proofs.Every.{any-with, every-by, every-zip, every-keep, every-kept, every-append, every-left, every-right, both, or-l, or-r}
-use Rattle.cell_laws.specs.Ends.{Number}
-use Rattle.cell_laws.specs.Places.{Fits}
-use Rattle.cell_laws.proofs.Window.{inf-below}
-use Rattle.cell_laws.specs.Neighbours.{IsLower, IsUpper}
-use Rattle.cell_laws.specs.Unpacked.{knotsOf}
+use Rattle.laws.proofs.list.Tests.{is-true, is-false, holds}
+use Rattle.laws.specs.list.Every.{Every}
+use Rattle.laws.proofs.list.Every.{every-at}
+use Rattle.laws.proofs.cell.Every.{any-with, every-by, every-zip, every-keep, every-kept, every-append, every-left, every-right, both, or-l, or-r}
+use Rattle.laws.specs.cell.Ends.{Number}
+use Rattle.laws.specs.cell.Places.{Fits}
+use Rattle.laws.proofs.cell.Window.{inf-below}
+use Rattle.laws.specs.cell.Neighbours.{IsLower, IsUpper}
+use Rattle.laws.specs.cell.Unpacked.{knotsOf}
 use Rattle.window.specs.declared.Bound.{Bound}
 use Rattle.window.specs.declared.Bound.the-variants.{At, Nothing}
 use Rattle.window.specs.Bounds.{In, inside, LowerIs, UpperIs}

@@ -20,9 +20,9 @@ use Rattle.definitions.specs.ClipSet.{ClipSet, markValue, stage}
 use Rattle.definitions.specs.Timing.{activePosition, mapStageToClip}
 use Rattle.definitions.specs.Samples.{Samples, clipBegin, clipEnd, clipTimes, heldPlace}
 use Rattle.definitions.specs.Value.{_orElse_, says, contributes, sampleOf, readClip, blockedAt, firstReading, interpolateMissingValue, manifestDefault, gapSource, readingTime, sourceAt, directSource, valueSource}
-use Rattle.set_laws.specs.Every.{Every}
-use Rattle.set_laws.proofs.Every.{every-drop, every-take}
-use Rattle.cell_laws.specs.Unpacked.{setOf, samplesOf, Ready}
+use Rattle.laws.specs.list.Every.{Every}
+use Rattle.laws.proofs.list.Every.{every-drop, every-take}
+use Rattle.laws.specs.cell.Unpacked.{setOf, samplesOf, Ready}
 use Rattle.window.proofs.Parts.{last-short}
 use Rattle.look.specs.Reads.{markedAt}
 use Rattle.value.specs.Says.{saysIn, Sayable}

@@ -16,8 +16,8 @@ use Rattle.definitions.specs.ClipSet.{ClipSet, markValue}
 use Rattle.definitions.specs.Samples.{Samples, clipBegin, clipEnd, clipTimes}
 use Rattle.definitions.specs.StageSamples as Stage
 use Rattle.definitions.specs.StageSamples.{anySamples, untimed, untimedAnswer}
-use Rattle.set_laws.specs.Every.{Every}
-use Rattle.cell_laws.specs.Unpacked.{activeOf, setOf, samplesOf, Ready}
+use Rattle.laws.specs.list.Every.{Every}
+use Rattle.laws.specs.cell.Unpacked.{activeOf, setOf, samplesOf, Ready}
 use Rattle.value.specs.Untimed.{hasSamples}
 
 some-samples : (n b e : ℕ) → n ≡ e - b → not (eqb n 0) ≡ ltb b e

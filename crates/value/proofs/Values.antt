@@ -19,20 +19,20 @@ use Rattle.definitions.specs.ClipSet.{ClipSet, stage}
 use Rattle.definitions.specs.Timing.{lastAtMost, activePosition}
 use Rattle.definitions.specs.Samples.{Samples}
 use Rattle.definitions.specs.Value.{directSource, gathered, greatest, maximum, lowerNeighbour, upperNeighbour, jump, valueSource}
-use Rattle.set_laws.specs.Every.{Every}
-use Rattle.cell_laws.proofs.Every.{every-map, every-keep}
-use Rattle.cell_laws.specs.Places.{Fits}
-use Rattle.cell_laws.proofs.Places.{Clear}
-use Rattle.cell_laws.proofs.Knots.{Alike}
-use Rattle.cell_laws.proofs.Direct.{SoundSet, SoundSamples, direct-alike}
-use Rattle.cell_laws.proofs.Ends.{minimum-one}
-use Rattle.cell_laws.proofs.Window.{gathered-fit}
-use Rattle.cell_laws.specs.Stretches.{boundaries, heldBetween, heldFrom}
-use Rattle.cell_laws.proofs.Stretches.{readAs, boundaries-fit, value-by, held-many, held-few}
-use Rattle.cell_laws.specs.Neighbours.{IsLower, IsUpper}
-use Rattle.cell_laws.proofs.Neighbours.{lower-found, lower-none, upper-found, upper-none, jump-alike}
-use Rattle.cell_laws.specs.Unpacked.{activeOf, knotsOf, setOf, samplesOf, Ready}
-use Rattle.cell_laws.proofs.Unpacked.{sound-set, sound-samples}
+use Rattle.laws.specs.list.Every.{Every}
+use Rattle.laws.proofs.cell.Every.{every-map, every-keep}
+use Rattle.laws.specs.cell.Places.{Fits}
+use Rattle.laws.proofs.cell.Places.{Clear}
+use Rattle.laws.proofs.cell.Knots.{Alike}
+use Rattle.laws.proofs.cell.Direct.{SoundSet, SoundSamples, direct-alike}
+use Rattle.laws.proofs.cell.Ends.{minimum-one}
+use Rattle.laws.proofs.cell.Window.{gathered-fit}
+use Rattle.laws.specs.cell.Stretches.{boundaries, heldBetween, heldFrom}
+use Rattle.laws.proofs.cell.Stretches.{readAs, boundaries-fit, value-by, held-many, held-few}
+use Rattle.laws.specs.cell.Neighbours.{IsLower, IsUpper}
+use Rattle.laws.proofs.cell.Neighbours.{lower-found, lower-none, upper-found, upper-none, jump-alike}
+use Rattle.laws.specs.cell.Unpacked.{activeOf, knotsOf, setOf, samplesOf, Ready}
+use Rattle.laws.proofs.cell.Unpacked.{sound-set, sound-samples}
 use Rattle.window.specs.declared.Bound.{Bound}
 use Rattle.window.specs.declared.Bound.the-variants.{At, Nothing}
 use Rattle.window.specs.declared.Bounds.{Bounds}

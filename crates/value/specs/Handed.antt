@@ -10,7 +10,7 @@ use Rattle.definitions.specs.Lists.{any}
 use Rattle.definitions.specs.ClipSet.{stage}
 use Rattle.definitions.specs.Timing.{lastAtMost}
 use Rattle.definitions.specs.Value.{directSource}
-use Rattle.cell_laws.specs.Unpacked.{setOf, samplesOf}
+use Rattle.laws.specs.cell.Unpacked.{setOf, samplesOf}
 use Rattle.window.specs.Parts.{partOf}
 use Rattle.window.specs.Windows.{minOf, maxOf, ifOwn}
 use Rattle.near.specs.declared.Window.{Window}

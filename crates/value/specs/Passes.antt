@@ -9,8 +9,8 @@ use lib.Dec.{T}
 use lib.ListN.{length, getD}
 use lib.Ieee.{Float, nan, inf, lt, le}
 use Rattle.definitions.specs.Value.{inverse}
-use Rattle.cell_laws.specs.Places.{Fits}
-use Rattle.cell_laws.specs.Neighbours.{IsLower}
+use Rattle.laws.specs.cell.Places.{Fits}
+use Rattle.laws.specs.cell.Neighbours.{IsLower}
 use Rattle.window.specs.Bounds.{In}
 use Rattle.window.specs.Inverses.{onSegment}
 use Rattle.near.specs.declared.Window.{Window}

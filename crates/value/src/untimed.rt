@@ -8,8 +8,8 @@ ghost use Prim.Native.Nat.{ℕ, _<_};
 ghost use lib.ListN.{length};
 ghost use Rattle.definitions.specs.Lists.{any};
 ghost use Rattle.definitions.specs.StageSamples.{untimedAnswer};
-ghost use Rattle.set_laws.specs.Every.{Every};
-ghost use Rattle.cell_laws.specs.Unpacked.{setOf, samplesOf, Ready};
+ghost use Rattle.laws.specs.list.Every.{Every};
+ghost use Rattle.laws.specs.cell.Unpacked.{setOf, samplesOf, Ready};
 ghost use Rattle.value.specs.Untimed.{stateIs, hasSamples};
 
 // Whether a set has a value at all.

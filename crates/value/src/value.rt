@@ -17,7 +17,7 @@ ghost use lib.Dec.{T};
 ghost use lib.ListN.{length};
 ghost use lib.Ieee.Scale.{finite};
 ghost use Rattle.definitions.specs.Value.{valueSource, valueInSet};
-ghost use Rattle.cell_laws.specs.Unpacked.{setOf, samplesOf, Ready};
+ghost use Rattle.laws.specs.cell.Unpacked.{setOf, samplesOf, Ready};
 ghost use Rattle.value.specs.Says.{saysIn, Sayable};
 ghost use Rattle.value.specs.Values.{Valued, ValueIn};
 

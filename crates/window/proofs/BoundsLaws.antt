@@ -7,9 +7,9 @@ use lib.Dec.{T}
 use lib.Ieee.{Float, lt, le, eq}
 use Rattle.gf.proofs.KeyLaws.{le-no-nan, lt→le, le-refl, le-both, le-or-lt, le-trans}
 use Rattle.definitions.specs.Lists.{any}
-use Rattle.set_laws.specs.Every.{Every}
-use Rattle.cell_laws.proofs.Every.{every-map, every-zip, or-l, or-r}
-use Rattle.cell_laws.specs.Places.{Fits}
+use Rattle.laws.specs.list.Every.{Every}
+use Rattle.laws.proofs.cell.Every.{every-map, every-zip, or-l, or-r}
+use Rattle.laws.specs.cell.Places.{Fits}
 use Rattle.window.specs.declared.Bound.{Bound}
 use Rattle.window.specs.declared.Bound.the-variants.{At, Nothing}
 use Rattle.window.specs.Bounds.{LowerIs, UpperIs, In}

@@ -11,11 +11,11 @@ use Rattle.definitions.specs.declared.Knot.{Knot}
 use Rattle.definitions.specs.Lists.{keep, pairs, gather}
 use Rattle.definitions.specs.Explicit.{knot}
 use Rattle.definitions.specs.Value.{onPair, stageTimesForClipTime}
-use Rattle.set_laws.specs.Every.{Every}
-use Rattle.set_laws.proofs.Every.{zip-at}
-use Rattle.cell_laws.proofs.Every.{every-map, every-append, every-left, every-right, every-kept, every-swap}
-use Rattle.cell_laws.specs.Unpacked.{knotsOf}
-use Rattle.cell_laws.proofs.Unpacked.{zip-length}
+use Rattle.laws.specs.list.Every.{Every}
+use Rattle.laws.proofs.list.Every.{zip-at}
+use Rattle.laws.proofs.cell.Every.{every-map, every-append, every-left, every-right, every-kept, every-swap}
+use Rattle.laws.specs.cell.Unpacked.{knotsOf}
+use Rattle.laws.proofs.cell.Unpacked.{zip-length}
 use Rattle.window.specs.Inverses.{onSegment, inversesOf}
 
 -- ---- lists of lists

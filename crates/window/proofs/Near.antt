@@ -17,14 +17,14 @@ use Rattle.definitions.specs.declared.Knot.{Knot}
 use Rattle.definitions.specs.Lists.{pairs, pairsFrom}
 use Rattle.definitions.specs.ClipSet.{knotTimes}
 use Rattle.definitions.specs.Value.{spans, inverse}
-use Rattle.set_laws.specs.Every.{Every, Chain, ChainFrom}
-use Rattle.set_laws.proofs.Every.{every-at}
-use Rattle.set_laws.specs.Places.{Le}
-use Rattle.set_laws.proofs.Stored.{length-pairs, pairs-at}
-use Rattle.cell_laws.proofs.Every.{both-l, both-r, or-split}
-use Rattle.cell_laws.specs.Places.{Fits}
-use Rattle.cell_laws.specs.Knots.{SoundKnot}
-use Rattle.cell_laws.proofs.Inverse.{inverse-fin-up, inverse-fin-down, inverse-up, inverse-down}
+use Rattle.laws.specs.list.Every.{Every, Chain, ChainFrom}
+use Rattle.laws.proofs.list.Every.{every-at}
+use Rattle.laws.specs.list.Places.{Le}
+use Rattle.laws.proofs.set.Stored.{length-pairs, pairs-at}
+use Rattle.laws.proofs.cell.Every.{both-l, both-r, or-split}
+use Rattle.laws.specs.cell.Places.{Fits}
+use Rattle.laws.specs.cell.Knots.{SoundKnot}
+use Rattle.laws.proofs.cell.Inverse.{inverse-fin-up, inverse-fin-down, inverse-up, inverse-down}
 use Rattle.window.specs.Near.{SoundSegment}
 
 segments-from : (k : Knot) (l : List Knot) → Every SoundKnot (k ∷ l) → ChainFrom Le (k .x) (knotTimes l) → Every SoundSegment (pairsFrom k l)

@@ -12,12 +12,12 @@ use Rattle.definitions.specs.Lists.{any}
 use Rattle.definitions.specs.ClipSet.{ClipSet, stage, clip}
 use Rattle.definitions.specs.Timing.{lastAtMost, activePosition}
 use Rattle.definitions.specs.Samples.{Samples, clipTimes}
-use Rattle.set_laws.proofs.Every.{every-at, zip-at}
-use Rattle.set_laws.specs.Places.{Ascending}
-use Rattle.set_laws.proofs.Sound.{sound-active, sound-knots}
-use Rattle.set_laws.proofs.Accepted.{clip-ascending}
-use Rattle.cell_laws.specs.Unpacked.{start, activeOf, knotsOf, setOf, samplesOf, Ready}
-use Rattle.cell_laws.proofs.Unpacked.{zip-length, active-times, knot-times, sound-set}
+use Rattle.laws.proofs.list.Every.{every-at, zip-at}
+use Rattle.laws.specs.list.Places.{Ascending}
+use Rattle.laws.proofs.set.Sound.{sound-active, sound-knots}
+use Rattle.laws.proofs.set.Accepted.{clip-ascending}
+use Rattle.laws.specs.cell.Unpacked.{start, activeOf, knotsOf, setOf, samplesOf, Ready}
+use Rattle.laws.proofs.cell.Unpacked.{zip-length, active-times, knot-times, sound-set}
 use Rattle.window.proofs.Near.{segments}
 use Rattle.window.specs.Parts.{Readable}
 

@@ -16,8 +16,8 @@ use Rattle.definitions.specs.Lists.{any, keep}
 use Rattle.definitions.specs.ClipSet.{ClipSet, knotTimes}
 use Rattle.definitions.specs.Samples.{Samples, clipTimes}
 use Rattle.definitions.specs.Value.{contains, timeOr, window, startOf, contributes, blockedAt, windowSampleTimes, contributedTimes, gathered}
-use Rattle.cell_laws.specs.Unpacked.{start, activeOf, knotsOf, setOf, samplesOf, Ready}
-use Rattle.cell_laws.proofs.Unpacked.{zip-here, zip-length, knot-times}
+use Rattle.laws.specs.cell.Unpacked.{start, activeOf, knotsOf, setOf, samplesOf, Ready}
+use Rattle.laws.proofs.cell.Unpacked.{zip-here, zip-length, knot-times}
 use Rattle.window.specs.Parts.{partOf}
 use Rattle.window.specs.Bounds.{inside}
 use Rattle.window.specs.Inverses.{inversesOf}

@@ -6,8 +6,8 @@ use mathlib.Core.List.{List, [], _∷_}
 use lib.Dec.{T}
 use lib.Ieee.{Float, lt, le}
 use Rattle.gf.specs.declared.interval.Interval.{Interval}
-use Rattle.set_laws.specs.Every.{Every}
-use Rattle.cell_laws.specs.Neighbours.{IsLower, IsUpper}
+use Rattle.laws.specs.list.Every.{Every}
+use Rattle.laws.specs.cell.Neighbours.{IsLower, IsUpper}
 use Rattle.window.specs.declared.Bound.{Bound}
 use Rattle.window.specs.declared.Bound.the-variants.{At, Nothing}
 use Rattle.window.specs.declared.Bounds.{Bounds}

@@ -2,7 +2,7 @@
 use lib.Dec.{T}
 use lib.Ieee.{le}
 use Rattle.definitions.specs.declared.Knot.{Knot}
-use Rattle.cell_laws.specs.Knots.{SoundKnot}
+use Rattle.laws.specs.cell.Knots.{SoundKnot}
 
 -- two neighbouring knots of a set
 pub record SoundSegment (q : Knot × Knot) : Type 0 where

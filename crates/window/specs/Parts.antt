@@ -6,9 +6,9 @@ use lib.ListN.{length, take, drop}
 use lib.Ieee.{Float}
 use Rattle.definitions.specs.Lists.{pairs}
 use Rattle.definitions.specs.Samples.{clipBegin, clipEnd}
-use Rattle.set_laws.specs.Every.{Every}
-use Rattle.set_laws.specs.Places.{Ascending}
-use Rattle.cell_laws.specs.Unpacked.{knotsOf}
+use Rattle.laws.specs.list.Every.{Every}
+use Rattle.laws.specs.list.Places.{Ascending}
+use Rattle.laws.specs.cell.Unpacked.{knotsOf}
 use Rattle.window.specs.Near.{SoundSegment}
 
 -- ---- a clip's part of the lent times

@@ -1,7 +1,7 @@
 -- `cell::first_above` meets its contract: behind the times that are at most t stands the least above it. Assumes nothing.
 use Prim.Native.Nat.{_+_}
 use native.Mathlib.Omega.{arith}
-use Rattle.set_laws.proofs.Places.{last-inside}
+use Rattle.laws.proofs.list.Places.{last-inside}
 use Rattle.cell.proofs.Firsts.{upper-at, upper-end, none-counted, some-counted}
 use borrow.Author.Needs.{needs}
 use Rattle.cell.proofs.first_above.Statement.{statement}

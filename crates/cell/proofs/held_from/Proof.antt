@@ -1,7 +1,7 @@
 -- `cell::held_from` meets its contract. Assumes nothing.
 use mathlib.Core.Path.{sym, ap, ap₂, _∙_}
 use mathlib.Core.Bool.{Bool, cond}
-use Rattle.cell_laws.specs.Unpacked.{knotsOf}
+use Rattle.laws.specs.cell.Unpacked.{knotsOf}
 use Rattle.window.specs.declared.Bound.the-variants.{At, Nothing}
 use Rattle.cell.specs.Pieces.{heldOf}
 use borrow.Author.Needs.{needs}

@@ -5,7 +5,7 @@ use native.Mathlib.Omega.{arith}
 use lib.ListN.{length, drop}
 use Rattle.definitions.specs.declared.Source.the-variants.{Sample as sample}
 use Rattle.definitions.specs.Value.{firstReading}
-use Rattle.cell_laws.specs.Unpacked.{activeOf, setOf, samplesOf}
+use Rattle.laws.specs.cell.Unpacked.{activeOf, setOf, samplesOf}
 use Rattle.direct.specs.Reads.{readingIs}
 use Rattle.direct.proofs.ReadsLaws.{from-found, from-on, from-end}
 use borrow.Author.Needs.{needs}

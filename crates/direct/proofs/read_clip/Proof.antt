@@ -3,7 +3,7 @@ use mathlib.Core.Path.{sym, ap, ap₂, _∙_}
 use Prim.Native.Nat.{ℕ}
 use denote.Ref.{now}
 use Rattle.definitions.specs.Timing.{mapStageToClip}
-use Rattle.cell_laws.specs.Unpacked.{knotsOf}
+use Rattle.laws.specs.cell.Unpacked.{knotsOf}
 use Rattle.look.specs.Reads.{heldReading}
 use Rattle.look.proofs.ReadsLaws.{held-none}
 use Rattle.direct.proofs.ReadsLaws.{part-looked}

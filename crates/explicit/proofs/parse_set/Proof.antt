@@ -5,7 +5,7 @@ use borrow.Author.Needs.{needs}
 use lib.Dec.{T}
 use denote.Ref.{now}
 use Rattle.definitions.specs.Explicit.{ExplicitFields}
-use Rattle.set_laws.proofs.SoundExplicit.{ExplicitLimits, ExplicitFits}
+use Rattle.laws.proofs.set.SoundExplicit.{ExplicitLimits, ExplicitFits}
 use Rattle.clip.specs.Holding.{manifest}
 use Rattle.explicit.specs.Parsing.{explicitFields, fieldsNumber}
 use Rattle.clip.proofs.Laws.{all-fit, lent}

@@ -6,7 +6,7 @@ use lib.Dec.{T}
 use lib.ListN.{length}
 use lib.Ieee.{nan, binary64, fits}
 use borrow.Author.Needs.{needs}
-use Rattle.set_laws.proofs.Places.{atMost, at-most-length, beyond, up-to, last-is}
+use Rattle.laws.proofs.list.Places.{atMost, at-most-length, beyond, up-to, last-is}
 use Rattle.lists.proofs.last_at_most.Statement.{statement}
 use Rattle.lists.proofs.last_at_most.Tie as tie
 

@@ -11,7 +11,7 @@ use mathlib.Core.List.{List}
 use Rattle.definitions.specs.declared.Knot.{Knot}
 use Rattle.definitions.specs.declared.Segment.{Segment}
 use Rattle.definitions.specs.Timing.{onSegment}
-use Rattle.set_laws.proofs.Places.{atMost, up-to, last-is}
+use Rattle.laws.proofs.list.Places.{atMost, up-to, last-is}
 use Rattle.lists.specs.Segments.{knotAt}
 use Rattle.lists.proofs.ClipTimes.{map-none, map-first, map-last, map-between, next-knot, no-knot}
 use Rattle.lists.proofs.y_at.Statement.{statement}

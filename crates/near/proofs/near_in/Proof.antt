@@ -3,7 +3,7 @@ use native.Mathlib.Omega.{arith}
 use denote.Ref.{now}
 use lib.Dec.{T}
 use lib.Ieee.{binary64, fits}
-use Rattle.set_laws.proofs.Places.{last-inside}
+use Rattle.laws.proofs.list.Places.{last-inside}
 use Rattle.near.proofs.Windowed.{near-faces, near-searchable, near-knots, near-plain}
 use borrow.Author.Needs.{needs}
 use Rattle.near.proofs.near_in.Statement.{statement}

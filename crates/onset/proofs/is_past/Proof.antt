@@ -4,7 +4,7 @@ use Prim.Native.Nat.{_-_}
 use mathlib.Core.Bool.{false≢true}
 use lib.ListN.{getD}
 use lib.Ieee.{nan, le}
-use Rattle.set_laws.proofs.Tests.{holds}
+use Rattle.laws.proofs.list.Tests.{holds}
 use borrow.Author.Needs.{needs}
 use Rattle.onset.proofs.is_past.Statement.{statement}
 use Rattle.onset.proofs.is_past.Tie as tie

@@ -3,7 +3,7 @@ use mathlib.Core.Path.{sym, _∙_, subst}
 use lib.Ieee.{Float, lt}
 use denote.Ref.{now}
 use Rattle.definitions.specs.declared.Knot.{Knot}
-use Rattle.set_laws.proofs.Tests.{holds}
+use Rattle.laws.proofs.list.Tests.{holds}
 use Rattle.window.specs.Bounds.{In}
 use Rattle.window.specs.Inverses.{onSegment}
 use Rattle.onset.proofs.Ahead.{in-segment}

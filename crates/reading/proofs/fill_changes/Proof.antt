@@ -4,9 +4,9 @@ use Prim.Native.Nat.{ℕ, _-_, _≤_}
 use native.Mathlib.Omega.{arith}
 use borrow.Author.Needs.{needs}
 use Rattle.definitions.specs.Track.{Entry, Outputs}
-use Rattle.track_laws.specs.Steps.{Level, StepAt, FirstStep}
-use Rattle.track_laws.specs.declared.Next.{Next}
-use Rattle.cell_laws.specs.Keys.{Keys}
+use Rattle.laws.specs.track.Steps.{Level, StepAt, FirstStep}
+use Rattle.laws.specs.declared.Next.{Next}
+use Rattle.laws.specs.cell.Keys.{Keys}
 use Rattle.steps.specs.Lines.{placeOn}
 use Rattle.steps.specs.Entries.{entryIs}
 use Rattle.reading.specs.Readings.{Reads, entryAt, readingAt}

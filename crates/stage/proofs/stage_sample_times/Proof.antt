@@ -8,7 +8,7 @@ use Prim.Native.Nat.{_≤_}
 use borrow.Author.Tests.{leb-true, leb-false}
 use borrow.Author.Needs.{needs}
 use Rattle.definitions.specs.StageSamples.{stageSampleTimes}
-use Rattle.cell_laws.specs.Unpacked.{setOf, samplesOf}
+use Rattle.laws.specs.cell.Unpacked.{setOf, samplesOf}
 use Rattle.window.proofs.Parts.{ready-readable}
 use Rattle.stage.proofs.Around.{ready-few}
 use Rattle.stage.proofs.stage_sample_times.Statement.{statement}

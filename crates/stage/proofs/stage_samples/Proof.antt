@@ -13,7 +13,7 @@ use borrow.Author.Tests.{leb-true, leb-false}
 use Rattle.definitions.specs.ClipSet.{ClipSet}
 use Rattle.definitions.specs.Samples.{Samples}
 use Rattle.definitions.specs.StageSamples.{stageSampleTimes}
-use Rattle.cell_laws.specs.Unpacked.{setOf, samplesOf}
+use Rattle.laws.specs.cell.Unpacked.{setOf, samplesOf}
 use Rattle.window.proofs.Parts.{ready-readable}
 use Rattle.stage.proofs.Around.{ready-few}
 use Rattle.stage.proofs.Writing.{length-written}

@@ -4,7 +4,7 @@ use lib.Dec.{eqb}
 use lib.Ieee.{Float}
 use borrow.Author.Needs.{needs}
 use Rattle.definitions.specs.Timing.{lastAtMost}
-use Rattle.cell_laws.specs.Knots as Knots
+use Rattle.laws.specs.cell.Knots as Knots
 use Rattle.steps.specs.Lines.{lineIs, placeOn}
 use Rattle.steps.proofs.is_read.Statement.{statement}
 use Rattle.steps.proofs.is_read.Tie as tie

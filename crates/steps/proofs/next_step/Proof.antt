@@ -4,8 +4,8 @@ use Prim.Native.Nat.{ℕ}
 use native.Mathlib.Omega.{arith}
 use borrow.Author.Needs.{needs}
 use borrow.Author.Tests.{eqb-true, eqb-false}
-use Rattle.track_laws.specs.Steps.{Once}
-use Rattle.cell_laws.specs.Keys.{Keys}
+use Rattle.laws.specs.track.Steps.{Once}
+use Rattle.laws.specs.cell.Keys.{Keys}
 use Rattle.steps.specs.Lines.{placeOn}
 use Rattle.steps.proofs.Gallops.{once-part, step-part, first-part}
 use Rattle.steps.proofs.next_step.Statement.{statement}

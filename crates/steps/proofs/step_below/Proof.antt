@@ -3,8 +3,8 @@ use mathlib.Core.Path.{_≡_, refl, sym, ap, _∙_}
 use Prim.Native.Nat.{ℕ, _+_, _-_, _≤_, _<_}
 use native.Mathlib.Omega.{arith}
 use borrow.Author.Tests.{eqb-true, eqb-false}
-use Rattle.track_laws.specs.Steps.{Once}
-use Rattle.cell_laws.specs.Keys.{Keys}
+use Rattle.laws.specs.track.Steps.{Once}
+use Rattle.laws.specs.cell.Keys.{Keys}
 use Rattle.steps.specs.Lines.{placeOn}
 use Rattle.steps.proofs.Gallops.{once-part, step-part}
 use Rattle.steps.proofs.step_below.Statement.{statement}

@@ -3,9 +3,9 @@ use mathlib.Core.Path.{_≡_, sym, ap, _∙_}
 use Prim.Native.Nat.{ℕ, _-_, _≤_, _<_}
 use native.Mathlib.Omega.{arith}
 use borrow.Author.Tests.{eqb-true, eqb-false}
-use Rattle.track_laws.specs.Steps.{Once}
-use Rattle.track_laws.proofs.Steps.{bisected}
-use Rattle.cell_laws.specs.Keys.{Keys}
+use Rattle.laws.specs.track.Steps.{Once}
+use Rattle.laws.proofs.track.Steps.{bisected}
+use Rattle.laws.specs.cell.Keys.{Keys}
 use Rattle.steps.specs.Lines.{placeOn}
 use Rattle.steps.proofs.step_between.Statement.{statement}
 use Rattle.steps.proofs.step_between.Tie as tie

@@ -10,9 +10,9 @@ use Rattle.definitions.specs.Doubles.{FiniteDouble}
 use Rattle.definitions.specs.ClipSet.{ClipSet}
 use Rattle.definitions.specs.Samples.{Samples}
 use Rattle.definitions.specs.Track.{entryOf}
-use Rattle.track_laws.specs.Laws.{Agree}
-use Rattle.cell_laws.specs.Keys.{Keys, entryAtKey}
-use Rattle.cell_laws.specs.Unpacked.{setOf, samplesOf}
+use Rattle.laws.specs.track.Laws.{Agree}
+use Rattle.laws.specs.cell.Keys.{Keys, entryAtKey}
+use Rattle.laws.specs.cell.Unpacked.{setOf, samplesOf}
 use Rattle.steps.specs.Entries.{entryIs}
 use Rattle.value.specs.Says.{saysIn, Sayable}
 use Rattle.value.proofs.Says.{ready-marks}

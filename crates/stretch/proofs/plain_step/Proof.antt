@@ -9,8 +9,8 @@ use Rattle.definitions.specs.ClipSet.{ClipSet}
 use Rattle.definitions.specs.Samples.{Samples}
 use Rattle.definitions.specs.Timing.{lastAtMost}
 use Rattle.definitions.specs.Track.{entryOf}
-use Rattle.cell_laws.specs.Keys.{entryAtKey}
-use Rattle.cell_laws.specs.Unpacked.{setOf, samplesOf}
+use Rattle.laws.specs.cell.Keys.{entryAtKey}
+use Rattle.laws.specs.cell.Unpacked.{setOf, samplesOf}
 use Rattle.steps.specs.Entries.{entryIs}
 use Rattle.value.specs.Says.{saysIn, Sayable}
 use Rattle.value.proofs.Says.{ready-marks}

@@ -6,7 +6,7 @@ use native.Mathlib.Omega.{arith}
 use lib.ListN.{length, take, drop}
 use lib.Ieee.{Float}
 use Rattle.definitions.specs.declared.Source.the-variants.{Sample}
-use Rattle.set_laws.specs.Places.{Ascending}
+use Rattle.laws.specs.list.Places.{Ascending}
 use Rattle.steps.specs.Lines.{placeOn}
 use Rattle.cell.specs.declared.Cell.{Cell}
 use Rattle.stretch.specs.Runs.{part, Run, Runs, readOn}

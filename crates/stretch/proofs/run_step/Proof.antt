@@ -10,8 +10,8 @@ use Rattle.gf.specs.Key.{key, ofKey}
 use Rattle.gf.proofs.KeyLaws.{ofKey-fits, ofKey-finite, finite→key, finite-no-nan}
 use Rattle.definitions.specs.declared.Segment.{Segment}
 use Rattle.definitions.specs.Doubles.{FiniteDouble}
-use Rattle.cell_laws.specs.Keys.{Keys}
-use Rattle.cell_laws.specs.Unpacked.{setOf, samplesOf}
+use Rattle.laws.specs.cell.Keys.{Keys}
+use Rattle.laws.specs.cell.Unpacked.{setOf, samplesOf}
 use Rattle.lists.specs.Segments.{segmentAt}
 use Rattle.window.proofs.Parts.{ready-readable}
 use Rattle.steps.specs.declared.line.Line.the-variants as Line

@@ -9,8 +9,8 @@ use borrow.Author.Tests.{eqb-true, ltb-true}
 use Rattle.gf.specs.Key.{ofKey}
 use Rattle.gf.proofs.KeyLaws.{ofKey-fits, ofKey-finite}
 use Rattle.definitions.specs.Doubles.{FiniteDouble}
-use Rattle.set_laws.proofs.Tests.{holds, is-true}
-use Rattle.cell_laws.proofs.Every.{both-l, both-r}
+use Rattle.laws.proofs.list.Tests.{holds, is-true}
+use Rattle.laws.proofs.cell.Every.{both-l, both-r}
 use Rattle.value.proofs.Handed.{window-lent, window-nears}
 use Rattle.cell.specs.Spots.{SpotAt}
 use Rattle.cell.proofs.Lent.{spot-window}

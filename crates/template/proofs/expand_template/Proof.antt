@@ -9,7 +9,7 @@ use lib.ListN.{length, take}
 use lib.Ieee.{Float}
 use denote.Ref.{now}
 use Rattle.definitions.specs.Template.{TemplateFields, activeOffset}
-use Rattle.set_laws.proofs.SoundTemplate.{TemplateFits}
+use Rattle.laws.proofs.set.SoundTemplate.{TemplateFits}
 use Rattle.clip.specs.Settling.{Settles}
 use Rattle.clip.specs.Holding.{manifest}
 use Rattle.template.specs.Expanding.{templateFields, templateFieldsNumber, knotCount, expandedSet}

@@ -1,6 +1,6 @@
 -- `spot::spot_at` meets its contract. Assumes nothing.
 use native.Mathlib.Omega.{arith}
-use Rattle.set_laws.proofs.Places.{last-inside}
+use Rattle.laws.proofs.list.Places.{last-inside}
 use Rattle.window.proofs.Parts.{ready-starts}
 use Rattle.cell.proofs.Ways.{gap-stands}
 use borrow.Author.Needs.{needs}

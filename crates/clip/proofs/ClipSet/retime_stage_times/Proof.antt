@@ -6,7 +6,7 @@ use borrow.Author.Needs.{needs}
 use lib.Dec.{T}
 use lib.ListN.{length-take}
 use lib.Ieee.Scale.{finite}
-use Rattle.set_laws.specs.Places.{Fits}
+use Rattle.laws.specs.list.Places.{Fits}
 use Rattle.clip.proofs.Laws.{untrue, holding, lent}
 use Rattle.clip.proofs.Retimed.{retime-refuses, retime-identity, retime-settles}
 use Rattle.clip.proofs.ClipSet.retime_stage_times.Statement.{statement}

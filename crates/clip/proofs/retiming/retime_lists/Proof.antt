@@ -2,7 +2,7 @@
 use mathlib.Core.Path.{_∙_}
 use borrow.Author.Needs.{needs}
 use lib.Ieee.{ofBits}
-use Rattle.cell_laws.specs.Unpacked.{setOf}
+use Rattle.laws.specs.cell.Unpacked.{setOf}
 use Rattle.clip.specs.Holding.{clipSetOf, manifestOf}
 use Rattle.clip.proofs.Moved.{settles-sorted, settles-unsorted}
 use Rattle.clip.proofs.retiming.retime_lists.Statement.{statement}

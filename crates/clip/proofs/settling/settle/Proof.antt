@@ -2,7 +2,7 @@
 use mathlib.Core.Path.{sym, _∙_}
 use borrow.Author.Needs.{needs}
 use denote.Ref.{now}
-use Rattle.cell_laws.specs.Unpacked.{setOf}
+use Rattle.laws.specs.cell.Unpacked.{setOf}
 use Rattle.clip.proofs.Settled.{settle-refuses, lists-number-is, settle-makes}
 use Rattle.clip.proofs.settling.settle.Statement.{statement}
 use Rattle.clip.proofs.settling.settle.Tie as tie

@@ -6,10 +6,10 @@ use borrow.Author.Needs.{needs}
 use lib.ListN.{length, length-set}
 use lib.Ieee.{nan}
 use denote.Ref.{now}
-use Rattle.set_laws.proofs.Every.{zip-at}
+use Rattle.laws.proofs.list.Every.{zip-at}
 use Rattle.definitions.specs.ClipSet.{maxActive}
-use Rattle.cell_laws.specs.Unpacked.{start, activeOf}
-use Rattle.cell_laws.proofs.Unpacked.{zip-length}
+use Rattle.laws.specs.cell.Unpacked.{start, activeOf}
+use Rattle.laws.proofs.cell.Unpacked.{zip-length}
 use Rattle.lists.proofs.Filled.{Filled, fill-start, fill-next}
 use Rattle.clip.proofs.Packing.{packed}
 use Rattle.clip.proofs.storage.pack_active.Statement.{statement}

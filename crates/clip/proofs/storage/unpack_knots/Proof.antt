@@ -9,7 +9,7 @@ use denote.Ref.{now}
 use Rattle.definitions.specs.declared.Knot.{Knot}
 use Rattle.definitions.specs.ClipSet.{knotTimes}
 use Rattle.definitions.specs.Explicit.{knot}
-use Rattle.set_laws.specs.Sound.{knotValues}
+use Rattle.laws.specs.set.Sound.{knotValues}
 use Rattle.clip.specs.Holding.{knotsIn}
 use Rattle.lists.proofs.Filled.{Filled, fill-start, fill-next, fill-whole}
 use Rattle.clip.proofs.Packing.{unpacked-length, unpacked-at}

@@ -9,7 +9,7 @@ use lib.Ieee.{Float, nan}
 use denote.Ref.{now}
 use lib.Dec.{T}
 use Rattle.gf.specs.Doubles.{truncated, isClipNumber}
-use Rattle.set_laws.proofs.Every.{every-at, any-not-every}
+use Rattle.laws.proofs.list.Every.{every-at, any-not-every}
 use Rattle.lists.proofs.Filled.{Filled, fill-start, fill-next, fill-whole}
 use Rattle.explicit.proofs.Indices.{index-ready}
 use Rattle.clip.proofs.Laws.{mapped-at}

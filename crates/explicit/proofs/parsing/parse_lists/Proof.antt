@@ -5,7 +5,7 @@ use borrow.Author.Needs.{needs}
 use denote.Ref.{now}
 use Rattle.definitions.specs.ClipSet as Definitions
 use Rattle.definitions.specs.Explicit.{ExplicitFields}
-use Rattle.set_laws.proofs.SoundExplicit.{ExplicitLimits}
+use Rattle.laws.proofs.set.SoundExplicit.{ExplicitLimits}
 use Rattle.clip.specs.Settling.{Settles}
 use Rattle.explicit.specs.Parsing.{explicitFields}
 use Rattle.explicit.proofs.Acceptance.{fields-fit, fields-clips, explicit-is}

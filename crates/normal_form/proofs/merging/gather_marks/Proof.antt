@@ -5,7 +5,7 @@ use mathlib.Core.List.{List}
 use native.Mathlib.Omega.{arith}
 use borrow.Author.Needs.{needs}
 use lib.ListN.{length, getD, length-set}
-use Rattle.set_laws.proofs.Every.{every-at}
+use Rattle.laws.proofs.list.Every.{every-at}
 use Rattle.lists.specs.Placed.{Inside}
 use Rattle.lists.proofs.ByPlaces.{gatheredTo, gathered-next, gathered-all}
 use Rattle.normal_form.proofs.merging.gather_marks.Statement.{statement}

@@ -6,7 +6,7 @@ use mathlib.Core.List.{List, [], _∷_}
 use native.Mathlib.Omega.{arith}
 use lib.ListN.{length, getD}
 use lib.Ieee.{Float, nan, eq}
-use Rattle.set_laws.specs.Every.{Every}
+use Rattle.laws.specs.list.Every.{Every}
 use Rattle.normal_form.specs.Runs.{meets}
 use borrow.Author.Needs.{needs}
 use Rattle.normal_form.proofs.merging.meets.Statement.{statement}

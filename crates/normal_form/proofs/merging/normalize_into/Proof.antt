@@ -3,7 +3,7 @@ use Prim.Native.Nat.{ℕ}
 use mathlib.Core.Path.{sym, ap, _∙_, subst}
 use mathlib.Core.List.{List}
 use lib.ListN.{length}
-use Rattle.set_laws.specs.Every.{Every}
+use Rattle.laws.specs.list.Every.{Every}
 use Rattle.lists.specs.Placed.{Inside}
 use Rattle.normal_form.proofs.Written.{long, storable, order-inside, order-length, in-runs}
 use borrow.Author.Needs.{needs}

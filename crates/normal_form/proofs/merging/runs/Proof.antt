@@ -5,7 +5,7 @@ use mathlib.Core.Bool.{Bool, true, false}
 use native.Mathlib.Omega.{arith}
 use borrow.Author.Needs.{needs}
 use lib.ListN.{length, drop}
-use Rattle.set_laws.proofs.Every.{every-at}
+use Rattle.laws.proofs.list.Every.{every-at}
 use Rattle.lists.specs.Placed.{Inside}
 use Rattle.normal_form.specs.Runs.{meets}
 use Rattle.normal_form.proofs.Merged.{part-rest, Standing, standing-start, here, same-inside, standing-same, standing-apart, standing-inside, standing-all}

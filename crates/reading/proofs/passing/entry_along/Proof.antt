@@ -1,7 +1,7 @@
 -- `passing::entry_along` meets its contract. Assumes nothing.
 use mathlib.Core.Path.{_≡_, ap, _∙_}
 use Rattle.definitions.specs.Timing.{lastAtMost}
-use Rattle.cell_laws.specs.Knots as Knots
+use Rattle.laws.specs.cell.Knots as Knots
 use Rattle.steps.specs.Lines.{lineIs, placeOn}
 use Rattle.reading.specs.Readings.{entryAt}
 use Rattle.reading.proofs.Readings.{place-slots}

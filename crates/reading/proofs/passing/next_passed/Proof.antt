@@ -3,7 +3,7 @@ use native.Mathlib.Omega.{arith}
 use Prim.Native.Nat.{suc, _-_}
 use mathlib.Core.Path.{_≡_}
 use Rattle.definitions.specs.declared.Knot.{Knot}
-use Rattle.set_laws.proofs.Tests.{holds}
+use Rattle.laws.proofs.list.Tests.{holds}
 use Rattle.reading.proofs.Passages.{end-up, over-end, span-up, step-up, end-down, under-end, span-down, step-down, end-flat}
 use borrow.Author.Needs.{needs}
 use Rattle.reading.proofs.passing.next_passed.Statement.{statement}

@@ -1,7 +1,7 @@
 -- `resolver::Resolver::retime` meets its contract: 20 and 21 by the flags, else the moved set is installed. Assumes nothing.
 use mathlib.Core.Path.{sym, subst}
 use borrow.Author.Tests.{not-true, not-false}
-use Rattle.set_laws.specs.Sound.{Sound}
+use Rattle.laws.specs.set.Sound.{Sound}
 use Rattle.resolver.proofs.Laws.{retimes-20, retimes-21, retimes, stands-sound}
 use Rattle.resolver.proofs.Resolver.retime.Statement.{statement}
 use Rattle.resolver.proofs.Resolver.retime.Tie as tie

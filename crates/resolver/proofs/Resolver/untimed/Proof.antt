@@ -7,7 +7,7 @@ use Rattle.definitions.specs.ClipSet.{ClipSet}
 use Rattle.definitions.specs.Samples.{Samples}
 use Rattle.definitions.specs.StageSamples.{untimedAnswer}
 use Rattle.definitions.specs.Questions.{askUntimed, replied}
-use Rattle.cell_laws.specs.Unpacked.{samplesOf}
+use Rattle.laws.specs.cell.Unpacked.{samplesOf}
 use Rattle.resolver.proofs.Laws.{asked-20, judged-number, plainly-refused, plainly-replied, lent-is, is-asked}
 use Rattle.resolver.proofs.Resolver.untimed.Statement.{statement}
 use Rattle.resolver.proofs.Resolver.untimed.Tie as tie

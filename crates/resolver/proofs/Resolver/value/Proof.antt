@@ -8,7 +8,7 @@ use Rattle.definitions.specs.ClipSet.{ClipSet}
 use Rattle.definitions.specs.Samples.{Samples}
 use Rattle.definitions.specs.Value.{valueInSet}
 use Rattle.definitions.specs.Questions.{askValue, replied, stageTimeNumber}
-use Rattle.cell_laws.specs.Unpacked.{samplesOf}
+use Rattle.laws.specs.cell.Unpacked.{samplesOf}
 use Rattle.resolver.proofs.Laws.{asked-20, not-finite, is-finite, judged-number, samples-refused, samples-passed, lent-is, is-asked}
 use Rattle.resolver.proofs.Resolver.value.Statement.{statement}
 use Rattle.resolver.proofs.Resolver.value.Tie as tie

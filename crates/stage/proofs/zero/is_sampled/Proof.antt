@@ -4,7 +4,7 @@ use native.Mathlib.Omega.{arith}
 use lib.ListN.{length, getD}
 use lib.Ieee.{ofBits, neg}
 use denote.Ref.{now}
-use Rattle.set_laws.proofs.Places.{last-inside}
+use Rattle.laws.proofs.list.Places.{last-inside}
 use Rattle.stage.specs.MinusZero.{minusZero}
 use Rattle.stage.proofs.MinusZero.{minus-finite}
 use borrow.Author.Needs.{needs}

@@ -7,7 +7,7 @@ use lib.Dec.{T}
 use lib.ListN.{length}
 use Rattle.definitions.specs.declared.Segment.{Segment}
 use Rattle.definitions.specs.Timing.{lastAtMost}
-use Rattle.cell_laws.specs.Knots.{segment}
+use Rattle.laws.specs.cell.Knots.{segment}
 use Rattle.lists.specs.Segments.{segmentAt}
 use Rattle.steps.proofs.Segments.{line-plain, line-below, line-last, line-segment, next-knot}
 use Rattle.steps.proofs.line.line_of.Statement.{statement}

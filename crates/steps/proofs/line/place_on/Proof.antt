@@ -2,7 +2,7 @@
 use mathlib.Core.Path.{ap, _∙_}
 use borrow.Author.Needs.{needs}
 use Rattle.definitions.specs.Timing.{lastAtMost}
-use Rattle.cell_laws.specs.Knots as Knots
+use Rattle.laws.specs.cell.Knots as Knots
 use Rattle.steps.specs.Lines.{lineIs, placeOn}
 use Rattle.steps.proofs.line.place_on.Statement.{statement}
 use Rattle.steps.proofs.line.place_on.Tie as tie

@@ -9,8 +9,8 @@ use Rattle.gf.specs.Key.{least, most}
 use Rattle.definitions.specs.ClipSet.{ClipSet}
 use Rattle.definitions.specs.Samples.{Samples}
 use Rattle.definitions.specs.Track.{slots}
-use Rattle.cell_laws.specs.Keys.{entryAtKey}
-use Rattle.cell_laws.specs.Unpacked.{setOf, samplesOf}
+use Rattle.laws.specs.cell.Keys.{entryAtKey}
+use Rattle.laws.specs.cell.Unpacked.{setOf, samplesOf}
 use Rattle.steps.specs.Entries.{entryIs}
 use Rattle.reading.proofs.Filling.{Long}
 use Rattle.stretch.specs.Changes.{changesOf}

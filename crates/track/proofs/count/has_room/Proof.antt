@@ -7,10 +7,10 @@ use lib.ListN.{length}
 use borrow.Author.Tests.{le-leb, lt-leb}
 use Rattle.definitions.specs.ClipSet.{ClipSet}
 use Rattle.definitions.specs.Samples.{Samples}
-use Rattle.track_laws.proofs.Laws.{changes-none}
-use Rattle.cell_laws.specs.Keys.{entryAtKey}
-use Rattle.cell_laws.specs.Tracks.{entry-same}
-use Rattle.cell_laws.specs.Unpacked.{setOf, samplesOf}
+use Rattle.laws.proofs.track.Laws.{changes-none}
+use Rattle.laws.specs.cell.Keys.{entryAtKey}
+use Rattle.laws.specs.cell.Tracks.{entry-same}
+use Rattle.laws.specs.cell.Unpacked.{setOf, samplesOf}
 use Rattle.stretch.specs.Changes.{changesOf}
 use Rattle.track.specs.Fills.{CursorIs, PageIs}
 use Rattle.reading.proofs.Filling.{Long}

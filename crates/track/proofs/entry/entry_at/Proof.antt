@@ -8,7 +8,7 @@ use Rattle.gf.proofs.KeyLaws.{ofKey-finite}
 use Rattle.definitions.specs.ClipSet.{stage}
 use Rattle.definitions.specs.Track.{entryOf}
 use Rattle.definitions.specs.Value.{valueInSet}
-use Rattle.cell_laws.specs.Unpacked.{setOf, samplesOf}
+use Rattle.laws.specs.cell.Unpacked.{setOf, samplesOf}
 use borrow.Author.Needs.{needs}
 use Rattle.track.proofs.entry.entry_at.Statement.{statement}
 use Rattle.track.proofs.entry.entry_at.Tie as tie

@@ -7,8 +7,8 @@ use borrow.Author.Tests.{not-true, not-false}
 use Rattle.definitions.specs.ClipSet.{ClipSet}
 use Rattle.definitions.specs.Samples.{Samples}
 use Rattle.definitions.specs.Track.{Entry, Outputs, slots}
-use Rattle.cell_laws.specs.Keys.{Keys, entryAtKey}
-use Rattle.cell_laws.specs.Unpacked.{setOf, samplesOf}
+use Rattle.laws.specs.cell.Keys.{Keys, entryAtKey}
+use Rattle.laws.specs.cell.Unpacked.{setOf, samplesOf}
 use Rattle.steps.specs.Entries.{entryIs}
 use Rattle.reading.specs.Walks.{outputs, Room, Stands, Walked}
 use Rattle.reading.proofs.Filling.{Long}

@@ -7,7 +7,7 @@ use lib.ListN.{length, getD, drop}
 use denote.Ref.{now}
 use borrow.Author.Tests.{lt-ltb, le-ltb}
 use Rattle.definitions.specs.Lists.{any}
-use Rattle.set_laws.proofs.Every.{every-at}
+use Rattle.laws.proofs.list.Every.{every-at}
 use Rattle.lists.proofs.Fronts.{any-here, any-later, any-end}
 use Rattle.value.specs.Untimed.{hasSamples}
 use borrow.Author.Needs.{needs}

@@ -3,7 +3,7 @@ use mathlib.Core.Path.{sym, ap, _∙_, subst}
 use lib.ListN.{length}
 use denote.Ref.{now}
 use Rattle.definitions.specs.Value.{says, valueInSet}
-use Rattle.cell_laws.specs.Unpacked.{setOf, samplesOf}
+use Rattle.laws.specs.cell.Unpacked.{setOf, samplesOf}
 use Rattle.value.specs.Says.{Sayable}
 use Rattle.value.proofs.Says.{says-ready, ready-marks, value-in}
 use borrow.Author.Needs.{needs}

@@ -1,0 +1,5 @@
+-- What holds of lists, sets, cells and tracks.
+pub mod cell
+pub mod set
+pub mod list
+pub mod track

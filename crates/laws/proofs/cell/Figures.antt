@@ -1,0 +1,93 @@
+-- A set whose cells differ by the number of starts and by a jump, computed, and that what is asked of sets and samples holds of it. Assumes nothing.
+use mathlib.Core.Path.{_≡_, refl}
+use mathlib.Core.Bool.{false}
+use mathlib.Core.List.{List, [], _∷_}
+use mathlib.Core.Option.{some}
+use Prim.Native.Nat.{ℕ}
+use lib.Ieee.{Float, binary64, fits, round, add, sub, mul, div, neg, lt, le, eq, ofBits}
+use Rattle.gf.specs.Exactly.{within}
+use Rattle.gf.specs.Lerp.{lerp, share}
+use Rattle.definitions.specs.declared.Knot.{Knot}
+use Rattle.definitions.specs.declared.Start.{Start}
+use Rattle.definitions.specs.ClipSet.{ClipSet, stage}
+use Rattle.definitions.specs.Timing.{lastAtMost, activePosition, onSegment, mapTime, mapStageToClip}
+use Rattle.definitions.specs.Samples.{Samples, clipBegin, clipEnd, clipTimes, heldPlace}
+use Rattle.definitions.specs.declared.Source.the-variants.{Sample as sample}
+use Rattle.definitions.specs.Value.{blockedAt, contributes, readClip, directSource, window, stageTimesForClipTime, windowSampleTimes, gathered, lowerNeighbour, upperNeighbour, jump}
+use Rattle.laws.specs.cell.Knots.{flat, segment, lineOf}
+use Rattle.laws.proofs.cell.Direct.{SoundSet, SoundSamples}
+use Rattle.laws.specs.cell.Stretches.{heldFrom}
+use Rattle.laws.specs.cell.Cells.{constant, reading, directCell, cellOf}
+use Rattle.laws.proofs.cell.Tracks.{SoundValues}
+
+abbrev frac : ℕ → ℕ → Float
+frac a b = round binary64 false a b
+
+abbrev at : ℕ → ℕ → Knot
+at x y = record { x = frac x 1; y = frac y 1 }
+
+abbrev start : ℕ → Start
+start t = record { time = frac t 1; clip = 0 }
+
+-- knots (0,2) (3,10), and where they are to jump (3,0); clip 0 from 0 on, and again from 1000 on
+abbrev set : List Start → List Knot → ClipSet
+set active knots = record { clips = 1; active = active; knots = knots; blocks = []; default = record { mark = 2; value = frac 0 1 }; interpolateMissing = false }
+
+abbrev one : List Start
+one = start 0 ∷ []
+
+abbrev two : List Start
+two = start 0 ∷ start 1000 ∷ []
+
+abbrev ramp : List Knot
+ramp = at 0 2 ∷ at 3 10 ∷ []
+
+abbrev saw : List Knot
+saw = at 0 2 ∷ at 3 10 ∷ at 3 0 ∷ []
+
+-- 2 → 1.0, 7.6 → 2.0
+abbrev samples : Samples
+samples = record { times = frac 2 1 ∷ frac 76 10 ∷ []; values = frac 1 1 ∷ frac 2 1 ∷ []; marks = 0 ∷ 0 ∷ []; ends = 2 ∷ [] }
+
+-- ---- what is asked holds
+
+sound : SoundSet (set two saw)
+unfolding fits round within le lt eq neg
+sound = record {
+  starts = (record { fitting = tt; finitely = tt }, (record { fitting = tt; finitely = tt }, tt));
+  ascends = tt;
+  knots = (record { fx = tt; fy = tt; bx = tt; by = tt }, (record { fx = tt; fy = tt; bx = tt; by = tt }, (record { fx = tt; fy = tt; bx = tt; by = tt }, tt)));
+}
+
+sound-samples : SoundSamples samples
+unfolding fits round
+sound-samples = record { times = (tt, (tt, tt)) }
+
+sound-values : SoundValues (set two saw) samples
+unfolding fits round
+sound-values = record { values = (tt, (tt, tt)); default = tt }
+
+-- ---- the cells at 2.5. The inverse time of 7.6 is 2.0999999999999996, whose clip time is below 7.6.
+
+held : heldFrom (set two ramp) samples (stage (frac 5 2)) ≡ some (ofBits binary64 0x4000_cccc_cccc_cccc)
+unfolding heldFrom activePosition lastAtMost gathered windowSampleTimes window stageTimesForClipTime lowerNeighbour upperNeighbour jump round add sub mul div neg ofBits eq lt le blockedAt contributes clipBegin clipEnd clipTimes
+held = refl
+
+-- two starts: 1.0 on the whole cell
+two-cell : cellOf (set two ramp) samples (stage (frac 5 2)) ≡ constant (sample 0 0)
+unfolding cellOf directSource readClip mapStageToClip mapTime onSegment lerp share heldPlace heldFrom activePosition lastAtMost gathered windowSampleTimes window stageTimesForClipTime lowerNeighbour upperNeighbour jump round add sub mul div neg ofBits eq lt le blockedAt contributes clipBegin clipEnd clipTimes
+two-cell = refl
+
+-- a jump at 3: direct on the segment
+jump-cell : cellOf (set two saw) samples (stage (frac 5 2)) ≡ reading 0 (segment (at 0 2) (at 3 10))
+unfolding cellOf directCell lineOf heldFrom activePosition lastAtMost gathered windowSampleTimes window stageTimesForClipTime lowerNeighbour upperNeighbour jump round add sub mul div neg ofBits eq lt le blockedAt contributes clipBegin clipEnd clipTimes
+jump-cell = refl
+
+-- one start: direct on the segment, and from the last x on at its y
+one-cell : cellOf (set one ramp) samples (stage (frac 5 2)) ≡ reading 0 (segment (at 0 2) (at 3 10))
+unfolding cellOf directCell lineOf heldFrom activePosition lastAtMost round eq lt le blockedAt contributes clipBegin clipEnd clipTimes
+one-cell = refl
+
+last-cell : cellOf (set one ramp) samples (stage (frac 4 1)) ≡ reading 0 (flat (frac 10 1))
+unfolding cellOf directCell lineOf heldFrom activePosition lastAtMost round eq lt le blockedAt contributes clipBegin clipEnd clipTimes
+last-cell = refl

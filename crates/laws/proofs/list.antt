@@ -1,0 +1,6 @@
+-- Lists: every entry, places, sorting, insertion.
+pub mod Tests
+pub mod Every
+pub mod Places
+pub mod Sorting
+pub mod Insertion

@@ -1,0 +1,8 @@
+-- What is shown of the definitions of `set_laws`.
+pub mod Stored
+pub mod Sound
+pub mod SoundExplicit
+pub mod SoundTemplate
+pub mod SoundRetime
+pub mod LastKnot
+pub mod Accepted

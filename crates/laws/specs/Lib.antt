@@ -1,0 +1,5 @@
+-- The words of contracts on lists, sets, cells and tracks.
+pub mod cell
+pub mod set
+pub mod list
+pub mod track
