@@ -1,12 +1,19 @@
 // Answers the case text of standard input on standard output.
-use lines::calls;
-use lines::calls::Call;
-use lines::calls::Change;
-use lines::input;
-use lines::input::Buffer;
-use lines::lent;
-use lines::lent::Lent;
-use lines::reply;
+mod changes;
+mod lines;
+mod plain_questions;
+mod questions;
+mod text;
+mod track_hash;
+
+use crate::lines::calls;
+use crate::lines::calls::Call;
+use crate::lines::calls::Change;
+use crate::lines::input;
+use crate::lines::input::Buffer;
+use crate::lines::lent;
+use crate::lines::lent::Lent;
+use crate::lines::reply;
 use resolver::Resolver;
 ghost use mathlib.Core.Path.{_≡_};
 ghost use lib.ListN.{length};
@@ -95,7 +102,7 @@ fn flushed(session: Session, out: &mut [u8]) -> Session
     requires { ⌜ Made (session .resolver) ⌝ }
     ensures { λ r. ⌜ Made (r .resolver) ⌝ }
 {
-    let n = text::flush(out, session.full);
+    let n = crate::text::flush(out, session.full);
     written(session, n)
 }
 
@@ -130,7 +137,7 @@ fn run(
         Call::Samples(at) => lend(line, at, session, ends, times, values, marks, out),
         Call::Changing(kind, at) => change(kind, line, at, session, out),
         Call::Asking(kind, at) => {
-            let n = questions::ask(
+            let n = crate::questions::ask(
                 kind,
                 line,
                 at,
@@ -163,7 +170,7 @@ fn unreadable(session: Session, out: &mut [u8]) -> Session
 fn case(line: &[u8], at: usize, session: Session, out: &mut [u8]) -> Session
     ensures { λ r. ⌜ Made (r .resolver) ⌝ }
 {
-    let n = reply::case_named(text::word(line, at), out, session.full);
+    let n = reply::case_named(crate::text::word(line, at), out, session.full);
     begin(n)
 }
 
@@ -194,7 +201,7 @@ fn change(kind: Change, line: &[u8], at: usize, session: Session, out: &mut [u8]
     requires { ⌜ Made (session .resolver) ⌝ }
     ensures { λ r. ⌜ Made (r .resolver) ⌝ }
 {
-    let changed = changes::change(kind, line, at, session.resolver, out, session.full);
+    let changed = crate::changes::change(kind, line, at, session.resolver, out, session.full);
     let lent = session.lent;
     let left = changed.resolver;
     Session {

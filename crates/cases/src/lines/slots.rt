@@ -1,0 +1,31 @@
+// How much of the lent output lists a question may use.
+use crate::text::Listed;
+ghost use Prim.Native.Nat.{_≤_};
+
+// The line's last word, at most `most`, or `room` if the line has no more words.
+pub fn slots(line: &[u8], at: usize, room: usize, most: u64) -> Listed {
+    if crate::text::is_end(line, at) {
+        return Listed { at, count: room };
+    }
+    let n = crate::text::read_decimal(line, at);
+    let count = n.value;
+    if count > most {
+        return Listed {
+            at: crate::text::NOWHERE,
+            count: 0,
+        };
+    }
+    Listed {
+        at: n.at,
+        count: count as usize,
+    }
+}
+
+pub fn least(a: usize, b: usize) -> usize
+    ensures { λ r. ⌜ (r ≤ a) × (r ≤ b) ⌝ }
+{
+    if a < b {
+        return a;
+    }
+    b
+}

@@ -1,0 +1,94 @@
+// The lists that a question has written, as its reply shows them: a count, and that many entries.
+use crate::lines::reply;
+use crate::lines::slots::least;
+
+fn begin(word: &[u8], count: usize, out: &mut [u8], full: usize) -> usize {
+    let n = crate::text::put(out, full, word);
+    reply::decimal(count as u64, out, n)
+}
+
+// Each entry a time.
+pub fn times(word: &[u8], count: usize, times: &[f64], out: &mut [u8], full: usize) -> usize {
+    let shown = least(count, times.len());
+    let mut n = begin(word, count, out, full);
+    let mut i: usize = 0;
+    while i < shown {
+        n = reply::double(times[i], out, n);
+        i += 1;
+    }
+    crate::text::put_byte(out, n, b'\n')
+}
+
+fn marked_time(time: f64, mark: u8, out: &mut [u8], full: usize) -> usize {
+    let n = reply::double(time, out, full);
+    reply::mark(mark, out, n)
+}
+
+// Each entry a time and a mark.
+pub fn marked_times(
+    word: &[u8],
+    count: usize,
+    times: &[f64],
+    marks: &[u8],
+    out: &mut [u8],
+    full: usize,
+) -> usize {
+    let shown = least(count, least(times.len(), marks.len()));
+    let mut n = begin(word, count, out, full);
+    let mut i: usize = 0;
+    while i < shown {
+        n = marked_time(times[i], marks[i], out, n);
+        i += 1;
+    }
+    crate::text::put_byte(out, n, b'\n')
+}
+
+fn change(time: f64, value: f64, mark: u8, out: &mut [u8], full: usize) -> usize {
+    let n = marked_time(time, mark, out, full);
+    reply::double(value, out, n)
+}
+
+// Each entry a change's time, mark and value.
+pub fn changes(
+    count: usize,
+    times: &[f64],
+    values: &[f64],
+    marks: &[u8],
+    out: &mut [u8],
+    full: usize,
+) -> usize {
+    let shown = least(count, least(times.len(), least(values.len(), marks.len())));
+    let mut n = begin(b"", count, out, full);
+    let mut i: usize = 0;
+    while i < shown {
+        n = change(times[i], values[i], marks[i], out, n);
+        i += 1;
+    }
+    crate::text::put_byte(out, n, b'\n')
+}
+
+fn sample(time: f64, value: f64, mark: u8, out: &mut [u8], full: usize) -> usize {
+    let n = reply::double(time, out, full);
+    let n = reply::double(value, out, n);
+    reply::mark(mark, out, n)
+}
+
+// Each entry a sample's time, value and mark.
+pub fn samples(
+    word: &[u8],
+    count: usize,
+    times: &[f64],
+    values: &[f64],
+    marks: &[u8],
+    out: &mut [u8],
+    full: usize,
+) -> usize {
+    let shown = least(count, least(times.len(), least(values.len(), marks.len())));
+    let mut n = begin(word, count, out, full);
+    let mut i: usize = 0;
+    while i < shown {
+        n = sample(times[i], values[i], marks[i], out, n);
+        i += 1;
+    }
+    crate::text::put_byte(out, n, b'\n')
+}

@@ -1,0 +1,121 @@
+// The questions that ask no resolver.
+use crate::lines::reply;
+use crate::lines::slots::least;
+use crate::lines::slots::slots;
+use crate::lines::written;
+use crate::text::first_bytes;
+use crate::text::first_doubles;
+use definitions::ClipTime;
+use names::Named;
+
+// The name at a clip time, in the first `count` bytes of `written`.
+fn named(
+    template: &[u8],
+    time: ClipTime,
+    written: &mut [u8],
+    count: usize,
+    out: &mut [u8],
+    full: usize,
+) -> usize {
+    let k = least(count, written.len());
+    match names::name(template, time, &mut written[0..k]) {
+        Named::Written(length) => {
+            let n = crate::text::put(out, full, b"name ");
+            let n = crate::text::put_bytes(out, n, first_bytes(written, length));
+            crate::text::put_byte(out, n, b'\n')
+        }
+        Named::Refused(number) => reply::refused(number, out, full),
+    }
+}
+
+pub fn name(line: &[u8], at: usize, out: &mut [u8], full: usize) -> usize {
+    let mut template = [0u8; 512];
+    let mut written = [0u8; 512];
+    let b = crate::text::read_bytes(line, at, &mut template);
+    let t = crate::text::read_double(line, b.at);
+    let s = slots(line, t.at, 400, 512);
+    if !crate::text::is_end(line, s.at) {
+        return reply::unreadable(out, full);
+    }
+    named(
+        first_bytes(&template, b.count),
+        ClipTime(t.value),
+        &mut written,
+        s.count,
+        out,
+        full,
+    )
+}
+
+// The samples in order, in the first `count` entries of the three lists.
+fn normalized(
+    times: &[f64],
+    values: &[f64],
+    marks: &[u8],
+    count: usize,
+    outtimes: &mut [f64],
+    outvalues: &mut [f64],
+    outmarks: &mut [u8],
+    out: &mut [u8],
+    full: usize,
+) -> usize {
+    let k = least(
+        count,
+        least(outtimes.len(), least(outvalues.len(), outmarks.len())),
+    );
+    let counted = normal_form::normalize(
+        times,
+        values,
+        marks,
+        &mut outtimes[0..k],
+        &mut outvalues[0..k],
+        &mut outmarks[0..k],
+    );
+    if counted.number != 0 {
+        return reply::refused(counted.number, out, full);
+    }
+    written::samples(
+        b"normalize",
+        counted.count,
+        outtimes,
+        outvalues,
+        outmarks,
+        out,
+        full,
+    )
+}
+
+pub fn normalize(
+    line: &[u8],
+    at: usize,
+    outtimes: &mut [f64],
+    outvalues: &mut [f64],
+    outmarks: &mut [u8],
+    out: &mut [u8],
+    full: usize,
+) -> usize {
+    let mut times = [0.0f64; 5120];
+    let mut values = [0.0f64; 5120];
+    let mut marks = [0u8; 5120];
+    let t = crate::text::doubles_after(line, at, b"t", &mut times);
+    let times = first_doubles(&times, t.count);
+    let v = crate::text::doubles_after(line, t.at, b"v", &mut values);
+    let values = first_doubles(&values, v.count);
+    let m = crate::text::marks_after(line, v.at, b"m", &mut marks);
+    let marks = first_bytes(&marks, m.count);
+    let s = slots(line, m.at, 65536, 65536);
+    if !crate::text::is_end(line, s.at) {
+        return reply::unreadable(out, full);
+    }
+    normalized(
+        times,
+        values,
+        marks,
+        s.count,
+        outtimes,
+        outvalues,
+        outmarks,
+        out,
+        full,
+    )
+}

@@ -1,0 +1,124 @@
+// The questions of the case text, and which function answers each.
+mod dump;
+mod sampled;
+mod timing;
+
+use crate::lines::calls::Question;
+use crate::lines::lent::Lent;
+use crate::text::first_bytes;
+use crate::text::first_doubles;
+use crate::text::first_numbers;
+use resolver::Resolver;
+ghost use Rattle.resolver.specs.State.{Made};
+
+// Answers a question about what stands and the first entries of the lists, which are lent.
+pub fn ask(
+    kind: Question,
+    line: &[u8],
+    at: usize,
+    resolver: Resolver,
+    lent: Lent,
+    ends: &[u64],
+    times: &[f64],
+    values: &[f64],
+    marks: &[u8],
+    outtimes: &mut [f64],
+    outvalues: &mut [f64],
+    outmarks: &mut [u8],
+    out: &mut [u8],
+    full: usize,
+) -> usize
+    requires { ⌜ Made resolver ⌝ }
+{
+    answer(
+        kind,
+        line,
+        at,
+        resolver,
+        first_numbers(ends, lent.ends),
+        first_doubles(times, lent.times),
+        first_doubles(values, lent.values),
+        first_bytes(marks, lent.marks),
+        outtimes,
+        outvalues,
+        outmarks,
+        out,
+        full,
+    )
+}
+
+fn answer(
+    kind: Question,
+    line: &[u8],
+    at: usize,
+    resolver: Resolver,
+    ends: &[u64],
+    times: &[f64],
+    values: &[f64],
+    marks: &[u8],
+    outtimes: &mut [f64],
+    outvalues: &mut [f64],
+    outmarks: &mut [u8],
+    out: &mut [u8],
+    full: usize,
+) -> usize
+    requires { ⌜ Made resolver ⌝ }
+{
+    match kind {
+        Question::Dump => dump::dump(line, at, resolver, out, full),
+        Question::Active => timing::active(line, at, resolver, out, full),
+        Question::ClipTime => timing::clip_time(line, at, resolver, out, full),
+        Question::Name => crate::plain_questions::name(line, at, out, full),
+        Question::Normalize => {
+            crate::plain_questions::normalize(line, at, outtimes, outvalues, outmarks, out, full)
+        }
+        Question::Value => {
+            sampled::value(line, at, resolver, ends, times, values, marks, out, full)
+        }
+        Question::Untimed => {
+            sampled::untimed(line, at, resolver, ends, times, values, marks, out, full)
+        }
+        Question::Times => sampled::stage_sample_times(
+            line,
+            at,
+            resolver,
+            ends,
+            times,
+            values,
+            marks,
+            outtimes,
+            out,
+            full,
+        ),
+        Question::StageSamples => sampled::stage_samples(
+            line,
+            at,
+            resolver,
+            ends,
+            times,
+            values,
+            marks,
+            outtimes,
+            outmarks,
+            out,
+            full,
+        ),
+        Question::Track => sampled::track(
+            line,
+            at,
+            resolver,
+            ends,
+            times,
+            values,
+            marks,
+            outtimes,
+            outvalues,
+            outmarks,
+            out,
+            full,
+        ),
+        Question::TrackHash => {
+            sampled::track_hash(line, at, resolver, ends, times, values, marks, out, full)
+        }
+    }
+}

@@ -1,0 +1,251 @@
+// The questions about the standing set and the lent samples.
+use crate::lines::reply;
+use crate::lines::slots::least;
+use crate::lines::slots::slots;
+use crate::lines::written;
+use definitions::Answer;
+use definitions::StageTime;
+use resolver::Resolver;
+use resolver::UntimedReply;
+use resolver::ValueReply;
+use value::untimed::ValueState;
+ghost use Rattle.resolver.specs.State.{Made};
+
+fn answer(a: Answer, out: &mut [u8], full: usize) -> usize {
+    match a {
+        Answer::Value(x) => {
+            let n = crate::text::put(out, full, b"value 0");
+            let n = reply::double(x, out, n);
+            crate::text::put_byte(out, n, b'\n')
+        }
+        Answer::Blocked => crate::text::put(out, full, b"value 1 0000000000000000\n"),
+        Answer::Absent => crate::text::put(out, full, b"value 2 0000000000000000\n"),
+    }
+}
+
+pub fn value(
+    line: &[u8],
+    at: usize,
+    resolver: Resolver,
+    ends: &[u64],
+    times: &[f64],
+    values: &[f64],
+    marks: &[u8],
+    out: &mut [u8],
+    full: usize,
+) -> usize
+    requires { ⌜ Made resolver ⌝ }
+{
+    let t = crate::text::read_double(line, at);
+    if !crate::text::is_end(line, t.at) {
+        return reply::unreadable(out, full);
+    }
+    match resolver.value(times, values, marks, ends, StageTime(t.value)) {
+        ValueReply::Answered(a) => answer(a, out, full),
+        ValueReply::Refused(number) => reply::refused(number, out, full),
+    }
+}
+
+fn state(s: ValueState, out: &mut [u8], full: usize) -> usize {
+    match s {
+        ValueState::Present => crate::text::put(out, full, b"untimed present\n"),
+        ValueState::Blocked => crate::text::put(out, full, b"untimed blocked\n"),
+        ValueState::Absent => crate::text::put(out, full, b"untimed absent\n"),
+    }
+}
+
+pub fn untimed(
+    line: &[u8],
+    at: usize,
+    resolver: Resolver,
+    ends: &[u64],
+    times: &[f64],
+    values: &[f64],
+    marks: &[u8],
+    out: &mut [u8],
+    full: usize,
+) -> usize
+    requires { ⌜ Made resolver ⌝ }
+{
+    if !crate::text::is_end(line, at) {
+        return reply::unreadable(out, full);
+    }
+    match resolver.untimed(times, values, marks, ends) {
+        UntimedReply::Answered(s) => state(s, out, full),
+        UntimedReply::Refused(number) => reply::refused(number, out, full),
+    }
+}
+
+pub fn stage_sample_times(
+    line: &[u8],
+    at: usize,
+    resolver: Resolver,
+    ends: &[u64],
+    times: &[f64],
+    values: &[f64],
+    marks: &[u8],
+    outtimes: &mut [f64],
+    out: &mut [u8],
+    full: usize,
+) -> usize
+    requires { ⌜ Made resolver ⌝ }
+{
+    let s = slots(line, at, 65536, 65536);
+    if !crate::text::is_end(line, s.at) {
+        return reply::unreadable(out, full);
+    }
+    let k = least(s.count, outtimes.len());
+    let counted = resolver.stage_sample_times(times, values, marks, ends, &mut outtimes[0..k]);
+    if counted.number != 0 {
+        return reply::refused(counted.number, out, full);
+    }
+    written::times(b"times", counted.count, outtimes, out, full)
+}
+
+pub fn stage_samples(
+    line: &[u8],
+    at: usize,
+    resolver: Resolver,
+    ends: &[u64],
+    times: &[f64],
+    values: &[f64],
+    marks: &[u8],
+    outtimes: &mut [f64],
+    outmarks: &mut [u8],
+    out: &mut [u8],
+    full: usize,
+) -> usize
+    requires { ⌜ Made resolver ⌝ }
+{
+    let s = slots(line, at, 65536, 65536);
+    if !crate::text::is_end(line, s.at) {
+        return reply::unreadable(out, full);
+    }
+    let k = least(s.count, least(outtimes.len(), outmarks.len()));
+    let counted = resolver.stage_samples(
+        times,
+        values,
+        marks,
+        ends,
+        &mut outtimes[0..k],
+        &mut outmarks[0..k],
+    );
+    if counted.number != 0 {
+        return reply::refused(counted.number, out, full);
+    }
+    written::marked_times(b"ssamples", counted.count, outtimes, outmarks, out, full)
+}
+
+// The track, in the first `count` entries of the three lists.
+fn bake(
+    count: usize,
+    resolver: Resolver,
+    ends: &[u64],
+    times: &[f64],
+    values: &[f64],
+    marks: &[u8],
+    outtimes: &mut [f64],
+    outvalues: &mut [f64],
+    outmarks: &mut [u8],
+    out: &mut [u8],
+    full: usize,
+) -> usize
+    requires { ⌜ Made resolver ⌝ }
+{
+    let k = least(
+        count,
+        least(outtimes.len(), least(outvalues.len(), outmarks.len())),
+    );
+    let baked = resolver.bake(
+        times,
+        values,
+        marks,
+        ends,
+        &mut outtimes[0..k],
+        &mut outvalues[0..k],
+        &mut outmarks[0..k],
+    );
+    if baked.number != 0 {
+        return reply::refused(baked.number, out, full);
+    }
+    let n = reply::head(b"track", baked.mark, baked.value, out, full);
+    written::changes(baked.count, outtimes, outvalues, outmarks, out, n)
+}
+
+pub fn track(
+    line: &[u8],
+    at: usize,
+    resolver: Resolver,
+    ends: &[u64],
+    times: &[f64],
+    values: &[f64],
+    marks: &[u8],
+    outtimes: &mut [f64],
+    outvalues: &mut [f64],
+    outmarks: &mut [u8],
+    out: &mut [u8],
+    full: usize,
+) -> usize
+    requires { ⌜ Made resolver ⌝ }
+{
+    let s = slots(line, at, 65536, 65536);
+    if !crate::text::is_end(line, s.at) {
+        return reply::unreadable(out, full);
+    }
+    bake(
+        s.count,
+        resolver,
+        ends,
+        times,
+        values,
+        marks,
+        outtimes,
+        outvalues,
+        outmarks,
+        out,
+        full,
+    )
+}
+
+// The numbers are the bake's, except for 22.
+pub fn track_hash(
+    line: &[u8],
+    at: usize,
+    resolver: Resolver,
+    ends: &[u64],
+    times: &[f64],
+    values: &[f64],
+    marks: &[u8],
+    out: &mut [u8],
+    full: usize,
+) -> usize
+    requires { ⌜ Made resolver ⌝ }
+{
+    if !crate::text::is_end(line, at) {
+        return reply::unreadable(out, full);
+    }
+    if !resolver.stands {
+        return reply::refused(20, out, full);
+    }
+    let number = sdf::samples_number(resolver.set.clips, times, values, marks, ends);
+    if number != 0 {
+        return reply::refused(number, out, full);
+    }
+    crate::track_hash::put_hashed(
+        crate::track_hash::hash_of(
+            &resolver.set.starts,
+            &resolver.set.numbers,
+            &resolver.set.xs,
+            &resolver.set.ys,
+            &resolver.set.blocks,
+            resolver.set.counts,
+            resolver.set.manifest,
+            times,
+            values,
+            marks,
+            ends,
+        ),
+        out,
+        full,
+    )
+}

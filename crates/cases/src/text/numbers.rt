@@ -1,0 +1,147 @@
+// Numbers of a line: decimal counts and doubles by their bits.
+use crate::text::words::NOWHERE;
+use crate::text::words::closed;
+use crate::text::words::skip_blanks;
+ghost use Prim.Native.Nat.{_≤_};
+ghost use mathlib.Core.Path.{_≡_};
+ghost use lib.Ieee.{binary64, ofBits, toBits};
+
+pub struct Number {
+    pub at: usize,
+    pub value: u64,
+}
+
+pub struct Byte {
+    pub at: usize,
+    pub value: u8,
+}
+
+pub struct Double {
+    pub at: usize,
+    pub value: f64,
+}
+
+// A number that could not be read.
+fn nowhere() -> Number {
+    Number {
+        at: NOWHERE,
+        value: 0,
+    }
+}
+
+fn wide(b: u8) -> u64
+    ensures { λ r. ⌜ r ≡ b ⌝ }
+{
+    b as u64
+}
+
+// The digit that the byte is, 16 for a byte that is none.
+fn digit(b: u8) -> u64
+    ensures { λ r. ⌜ r ≤ 16 ⌝ }
+{
+    match b {
+        48..=57 => wide(b - 48),
+        65..=70 => wide(b - 55),
+        97..=102 => wide(b - 87),
+        _ => 16,
+    }
+}
+
+// The decimal digits from `at` on, if their number has at most 64 bits.
+fn decimal_digits(line: &[u8], at: usize) -> Number {
+    let mut i = at;
+    let mut value: u64 = 0;
+    while i < line.len() {
+        let d = digit(line[i]);
+        if d >= 10 {
+            return Number { at: i, value };
+        }
+        if value > (0xffff_ffff_ffff_ffff - d) / 10 {
+            return nowhere();
+        }
+        value = value * 10 + d;
+        i += 1;
+    }
+    Number { at: i, value }
+}
+
+// The next word, a decimal number.
+pub fn read_decimal(line: &[u8], at: usize) -> Number {
+    let from = skip_blanks(line, at);
+    let n = decimal_digits(line, from);
+    if n.at == from {
+        return nowhere();
+    }
+    Number {
+        at: closed(line, n.at),
+        value: n.value,
+    }
+}
+
+// The next word, a decimal number that a byte holds.
+pub fn read_byte(line: &[u8], at: usize) -> Byte {
+    let n = read_decimal(line, at);
+    let value = n.value;
+    if value > 255 {
+        return Byte {
+            at: NOWHERE,
+            value: 0,
+        };
+    }
+    Byte {
+        at: n.at,
+        value: value as u8,
+    }
+}
+
+// The number of exactly `count` hex digits from `at` on.
+pub fn hex_digits(line: &[u8], at: usize, count: usize) -> Number {
+    let mut i = at;
+    let mut left = count;
+    let mut value: u64 = 0;
+    while left > 0 {
+        if i >= line.len() {
+            return nowhere();
+        }
+        let d = digit(line[i]);
+        if d > 15 {
+            return nowhere();
+        }
+        if value > 0x0fff_ffff_ffff_ffff {
+            return nowhere();
+        }
+        value = value * 16 + d;
+        i += 1;
+        left -= 1;
+    }
+    Number { at: i, value }
+}
+
+// The double of a bit pattern. The logic has one NaN, for all of its patterns.
+pub fn double_of(bits: u64) -> f64
+    ensures { λ r. ⌜ r ≡ ofBits binary64 bits ⌝ }
+{
+    if bits % 0x8000_0000_0000_0000 > 0x7ff0_0000_0000_0000 {
+        return 0.0 / 0.0;
+    }
+    f64::from_bits(bits)
+}
+
+// The bit pattern of a double, of a NaN the quiet one.
+pub fn bits_of(x: f64) -> u64
+    ensures { λ r. ⌜ r ≡ toBits binary64 x ⌝ }
+{
+    if x != x {
+        return 0x7ff8_0000_0000_0000;
+    }
+    f64::to_bits(x)
+}
+
+// The next word, a double by its bits.
+pub fn read_double(line: &[u8], at: usize) -> Double {
+    let n = hex_digits(line, skip_blanks(line, at), 16);
+    Double {
+        at: closed(line, n.at),
+        value: double_of(n.value),
+    }
+}

@@ -1,0 +1,95 @@
+// The words of a line, parted by blanks. A place is an index into the line. `NOWHERE` is the place behind a word that could
+// not be read; whatever is read from there is not readable either, so a call is read straight through and judged at its end.
+
+use crate::text::lists::first_bytes;
+use crate::text::lists::part;
+
+pub const NOWHERE: usize = 0xffff_ffff_ffff_ffff;
+
+// A space, a tab or the carriage return of a line that ends in two bytes.
+fn is_blank(b: u8) -> bool {
+    match b {
+        9 | 13 | 32 => true,
+        _ => false,
+    }
+}
+
+// The first place from `at` on that is no blank.
+pub fn skip_blanks(line: &[u8], at: usize) -> usize {
+    let mut i = at;
+    while i < line.len() {
+        if !is_blank(line[i]) {
+            return i;
+        }
+        i += 1;
+    }
+    i
+}
+
+// The first place from `at` on that is a blank: behind the word that stands there.
+pub fn word_end(line: &[u8], at: usize) -> usize {
+    let mut i = at;
+    while i < line.len() {
+        if is_blank(line[i]) {
+            return i;
+        }
+        i += 1;
+    }
+    i
+}
+
+// The place of the line's comment, its end if it has none.
+fn comment(line: &[u8]) -> usize {
+    let mut i: usize = 0;
+    while i < line.len() {
+        if line[i] == b';' {
+            return i;
+        }
+        i += 1;
+    }
+    i
+}
+
+// The line up to its comment.
+pub fn without_comment(line: &[u8]) -> &[u8] {
+    first_bytes(line, comment(line))
+}
+
+// The next word, empty if there is none.
+pub fn word(line: &[u8], at: usize) -> &[u8] {
+    let from = skip_blanks(line, at);
+    part(line, from, word_end(line, from))
+}
+
+// Nothing but blanks is left.
+pub fn is_end(line: &[u8], at: usize) -> bool {
+    skip_blanks(line, at) == line.len()
+}
+
+// The place itself, if no word goes on there.
+pub fn closed(line: &[u8], at: usize) -> usize {
+    if at < line.len() {
+        if is_blank(line[at]) {
+            return at;
+        }
+        return NOWHERE;
+    }
+    at
+}
+
+// The place behind `word`, if it is the next word of the line.
+pub fn after(line: &[u8], at: usize, word: &[u8]) -> usize {
+    let mut place = skip_blanks(line, at);
+    let mut i: usize = 0;
+    while i < word.len() {
+        if place >= line.len() {
+            return NOWHERE;
+        }
+        if line[place] != word[i] {
+            return NOWHERE;
+        }
+        place += 1;
+        i += 1;
+    }
+    closed(line, place)
+}
