@@ -24,8 +24,8 @@ use Rattle.window.specs.Windows.{minOf, maxOf, ifOwn}
 use Rattle.direct.specs.Reads.{readStart}
 use Rattle.direct.proofs.ReadsLaws.{read-none, start-blocked, start-read, from-on, back-on}
 use Rattle.direct.specs.Sources.{standIn}
-use Rattle.near.specs.declared.Window.{Window}
-use Rattle.near.specs.Windowed.{samplesIn}
+use Rattle.window.specs.declared.neighbours.Window.{Window}
+use Rattle.window.specs.neighbours.Windowed.{samplesIn}
 use Rattle.value.specs.Handed.{WindowIs}
 use Rattle.value.proofs.Handed.{window-gap}
 

@@ -20,7 +20,7 @@ use Rattle.laws.proofs.cell.Tracks.{SoundValues}
 use Rattle.laws.specs.cell.Unpacked.{Ready, setOf, samplesOf, start}
 use Rattle.laws.proofs.cell.Unpacked.{active-times, zip-length, zip-here, sound-set, sound-samples}
 use Rattle.window.proofs.Parts.{ready-starts}
-use Rattle.near.specs.declared.Window.{Window}
+use Rattle.window.specs.declared.neighbours.Window.{Window}
 use Rattle.value.specs.Handed.{WindowIs}
 use Rattle.cell.specs.Spots.{SpotIs, SpotAt}
 

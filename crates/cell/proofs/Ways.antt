@@ -36,9 +36,9 @@ use Rattle.window.proofs.Parts.{ready-clip}
 use Rattle.window.specs.Windows.{ifOwn}
 use Rattle.steps.specs.declared.line.Line.{Line}
 use Rattle.steps.specs.Lines.{lineIs}
-use Rattle.near.specs.declared.Window.{Window}
-use Rattle.near.specs.declared.Near.{Near}
-use Rattle.near.specs.Windowed.{samplesIn, windowTimes, windowSource, boundsOf}
+use Rattle.window.specs.declared.neighbours.Window.{Window}
+use Rattle.window.specs.declared.neighbours.Near.{Near}
+use Rattle.window.specs.neighbours.Windowed.{samplesIn, windowTimes, windowSource, boundsOf}
 use Rattle.value.specs.Handed.{WindowIs}
 use Rattle.value.proofs.Handed.{window-gathered, window-held}
 use Rattle.cell.specs.declared.Cell.{Cell}

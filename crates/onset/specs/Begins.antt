@@ -9,9 +9,9 @@ use Rattle.window.specs.declared.Bound.{Bound}
 use Rattle.window.specs.declared.Bound.the-variants as Bounds
 use Rattle.window.specs.Bounds.{In}
 use Rattle.window.specs.Inverses.{onSegment}
-use Rattle.near.specs.declared.Window.{Window}
-use Rattle.near.specs.Tops.{segmentOf}
-use Rattle.near.specs.Windowed.{samplesIn}
+use Rattle.window.specs.declared.neighbours.Window.{Window}
+use Rattle.window.specs.neighbours.Tops.{segmentOf}
+use Rattle.window.specs.neighbours.Windowed.{samplesIn}
 use Rattle.value.specs.Passes as Passes
 use Rattle.onset.specs.declared.Onset.{Onset}
 use Rattle.onset.specs.declared.Onset.the-variants.{At, Nothing}

@@ -1,15 +1,15 @@
 // Where a run of samples in one segment of knots begins: its lower neighbour, and the inverse time up to which it goes.
-use beside::turn::turn;
 use definitions::Segment;
 use gf::LEAST;
 use gf::MOST;
 use lists::segment::segment_at;
 use lists::segment::spans;
 use lists::segment::stage_time;
-use near::Window;
-use near::near_in;
 use value::windowed::is_between;
 use window::Bound;
+use window::crossing::turn;
+use window::neighbours::Window;
+use window::neighbours::near_in;
 ghost use mathlib.Core.Path.{_≡_};
 ghost use mathlib.Core.Logic.{_⊎_};
 ghost use mathlib.Core.Bool.{true, not, cond};
@@ -18,7 +18,7 @@ ghost use lib.Dec.{T};
 ghost use lib.ListN.{length};
 ghost use lib.Ieee.{inf, isNan, lt, le};
 ghost use Rattle.laws.specs.list.Places.{Ascending};
-ghost use Rattle.near.specs.Windowed.{samplesIn, Lent, Nearing};
+ghost use Rattle.window.specs.neighbours.Windowed.{samplesIn, Lent, Nearing};
 ghost use Rattle.onset.specs.Begins.{BeforeIs, LastIs, PastTops, OnsetIs};
 
 // The place of the segment's first knot, the lower neighbour, the inverse time up to which the run goes,

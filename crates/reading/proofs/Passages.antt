@@ -26,8 +26,8 @@ use Rattle.window.specs.Inverses.{onSegment}
 use Rattle.window.proofs.Inverses.{every-of}
 use Rattle.window.specs.Near.{SoundSegment}
 use Rattle.window.proofs.Near.{inverse-fits}
-use Rattle.beside.proofs.Beside.{number-at, climb}
-use Rattle.beside.specs.Turns.{isBeyond, Turn}
+use Rattle.window.proofs.nearest.Beside.{number-at, climb}
+use Rattle.window.specs.nearest.Turns.{isBeyond, Turn}
 use Rattle.reading.specs.declared.passing.Ahead.{Ahead}
 use Rattle.reading.specs.declared.passing.Ahead.the-variants.{At, Nothing}
 use Rattle.reading.specs.Passages.{spanned, inverseKey, Passes, SampleIs, PassedAt, NextPassed}

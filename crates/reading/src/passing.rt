@@ -3,13 +3,13 @@
 use crate::entry_of_sample;
 use crate::walk::Went;
 use crate::walk::offer;
-use beside::turn::turn;
 use definitions::Segment;
 use lists::near::last_at_most_near;
 use lists::segment::stage_time;
 use steps::entry::Entry;
 use steps::line::Line;
 use steps::line::along;
+use window::crossing::turn;
 ghost use mathlib.Core.Path.{_≡_};
 ghost use Prim.Native.Nat.{_≤_, _<_};
 ghost use lib.ListN.{length};

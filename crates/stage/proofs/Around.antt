@@ -34,7 +34,7 @@ use Rattle.window.proofs.Parts.{ready-starts}
 use Rattle.window.specs.Bounds.{In, UpperIs}
 use Rattle.window.proofs.BoundsLaws.{every-in}
 use Rattle.window.specs.Windows.{minOf, maxOf}
-use Rattle.beside.proofs.Beside.{climb}
+use Rattle.window.proofs.nearest.Beside.{climb}
 use Rattle.stage.specs.Whole.{wholeTimes, nextStart}
 use Rattle.stage.specs.Times.{NextTime}
 use Rattle.stage.proofs.Times.{every-below, part-each, part-first, part-finite, part-in, parts-finite, next-time}

@@ -25,10 +25,10 @@ use Rattle.window.proofs.Parts.{ready-starts, ready-clip, ready-readable}
 use Rattle.window.specs.Bounds.{inside, UpperIs, NeighboursAre}
 use Rattle.window.specs.Inverses.{inversesOf}
 use Rattle.window.specs.Windows.{minOf, maxOf, windowPart}
-use Rattle.beside.proofs.Beside.{finite-number, number-at, next-above, last-reached}
-use Rattle.near.specs.declared.Window.{Window}
-use Rattle.near.specs.Tops.{TopsOf}
-use Rattle.near.specs.Windowed.{samplesIn, nextOf, windowTimes, Nearing}
+use Rattle.window.proofs.nearest.Beside.{finite-number, number-at, next-above, last-reached}
+use Rattle.window.specs.declared.neighbours.Window.{Window}
+use Rattle.window.specs.neighbours.Tops.{TopsOf}
+use Rattle.window.specs.neighbours.Windowed.{samplesIn, nextOf, windowTimes, Nearing}
 use Rattle.stage.specs.Whole.{wholeTimes, nextStart, Windows, WholeWindow}
 
 pub ready-windows : {starts : List Float} {clips : List ℕ} {xs ys blocks : List Float} {m : Manifest} {times values : List Float} {marks ends : List ℕ} → Ready starts clips xs ys blocks m times values marks ends → Windows starts clips xs ys times ends

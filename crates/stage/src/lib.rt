@@ -7,9 +7,9 @@ pub mod zero;
 
 use definitions::Manifest;
 use mark::write_marks;
-use near::tops::tops_of;
 use walk::fits;
 use walk::write_times;
+use window::neighbours::tops::tops_of;
 ghost use mathlib.Core.Path.{_≡_};
 ghost use Prim.Native.Nat.{min};
 ghost use lib.ListN.{length};

@@ -3,10 +3,10 @@
 use super::zero::with_zero;
 use definitions::Manifest;
 use definitions::Source;
-use near::Near;
-use near::Window;
-use near::near_in;
 use window::Bound;
+use window::neighbours::Near;
+use window::neighbours::Window;
+use window::neighbours::near_in;
 use window::part::clip_begin;
 use window::part::clip_end;
 use window::window_max;
@@ -20,7 +20,7 @@ ghost use lib.Ieee.Scale.{finite};
 ghost use Rattle.definitions.specs.Timing.{lastAtMost};
 ghost use Rattle.laws.specs.cell.Unpacked.{setOf, samplesOf, Ready};
 ghost use Rattle.window.specs.Bounds.{UpperIs};
-ghost use Rattle.near.specs.Tops.{TopsOf};
+ghost use Rattle.window.specs.neighbours.Tops.{TopsOf};
 ghost use Rattle.stage.specs.Whole.{Windows, WholeWindow, wholeTimes, nextStart};
 ghost use Rattle.stage.specs.Times.{NextTime};
 

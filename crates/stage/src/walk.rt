@@ -10,7 +10,7 @@ ghost use lib.ListN.{length};
 ghost use Rattle.definitions.specs.Lists.{writtenOver};
 ghost use Rattle.definitions.specs.StageSamples.{stageSampleTimes};
 ghost use Rattle.laws.specs.cell.Unpacked.{setOf, samplesOf, Ready};
-ghost use Rattle.near.specs.Tops.{TopsOf};
+ghost use Rattle.window.specs.neighbours.Tops.{TopsOf};
 
 // No stage sample time is below -2^40.
 const BEFORE_ALL: f64 = -2199023255552.0;

@@ -42,13 +42,13 @@ use Rattle.window.specs.Near.{SoundSegment}
 use Rattle.window.specs.Parts.{partOf}
 use Rattle.window.proofs.Parts.{last-short, ready-clip, ready-readable, ready-starts}
 use Rattle.window.specs.Windows.{ifOwn}
-use Rattle.beside.proofs.Beside.{finite-number}
+use Rattle.window.proofs.nearest.Beside.{finite-number}
 use Rattle.steps.specs.declared.line.Line.{Line}
 use Rattle.steps.specs.Lines.{lineIs, placeOn}
-use Rattle.near.specs.declared.Window.{Window}
-use Rattle.near.specs.Tops.{segmentOf}
-use Rattle.near.proofs.TopsLaws.{segment-here}
-use Rattle.near.specs.Windowed.{samplesIn, windowTimes, windowSource}
+use Rattle.window.specs.declared.neighbours.Window.{Window}
+use Rattle.window.specs.neighbours.Tops.{segmentOf}
+use Rattle.window.proofs.neighbours.TopsLaws.{segment-here}
+use Rattle.window.specs.neighbours.Windowed.{samplesIn, windowTimes, windowSource}
 use Rattle.reading.specs.Readings.{Reads, readingAt}
 use Rattle.reading.specs.Passages.{lineOn, passedBy, passingAt, Passing}
 use Rattle.reading.proofs.PassagesLaws.{passing-lower}

@@ -44,16 +44,16 @@ use Rattle.window.proofs.Inverses.{inverses-none}
 use Rattle.window.specs.Parts.{partOf}
 use Rattle.window.proofs.Parts.{ready-starts, ready-clip, ready-readable}
 use Rattle.window.specs.Windows.{ifOwn}
-use Rattle.beside.specs.Nearest.{withNear, Searched}
-use Rattle.beside.proofs.Nearest.{searched-none, searched-one, searched-then}
-use Rattle.beside.specs.Beside.{Facing}
-use Rattle.beside.proofs.Beside.{climb, last-reached}
+use Rattle.window.specs.nearest.Nearest.{withNear, Searched}
+use Rattle.window.proofs.nearest.Nearest.{searched-none, searched-one, searched-then}
+use Rattle.window.specs.nearest.Beside.{Facing}
+use Rattle.window.proofs.nearest.Beside.{climb, last-reached}
 use Rattle.steps.specs.declared.line.Line.the-variants.{Plain}
 use Rattle.steps.specs.Lines.{placeOn}
-use Rattle.near.specs.declared.Window.{Window}
-use Rattle.near.proofs.TopsLaws.{no-tops}
-use Rattle.near.specs.Windowed.{intervalOf, samplesIn, nextOf, startsOf, windowTimes, windowSource, Nearing}
-use Rattle.near.proofs.Windowed.{near-faces, near-plain}
+use Rattle.window.specs.declared.neighbours.Window.{Window}
+use Rattle.window.proofs.neighbours.TopsLaws.{no-tops}
+use Rattle.window.specs.neighbours.Windowed.{intervalOf, samplesIn, nextOf, startsOf, windowTimes, windowSource, Nearing}
+use Rattle.window.proofs.neighbours.Windowed.{near-faces, near-plain}
 use Rattle.value.specs.Handed.{WindowIs}
 use Rattle.value.proofs.Handed.{window-lent, window-nears}
 use Rattle.value.specs.Values.{heldAt}

@@ -2,7 +2,7 @@
 use mathlib.Core.Bool.{cond}
 use lib.Dec.{ltb}
 use Rattle.steps.specs.declared.line.Line.the-variants.{Plain}
-use Rattle.near.specs.declared.Window.{Window}
+use Rattle.window.specs.declared.neighbours.Window.{Window}
 use Rattle.cell.specs.declared.Cell.{Cell}
 use Rattle.cell.specs.declared.Cell.the-variants.{Constant, Reading}
 

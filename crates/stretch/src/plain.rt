@@ -1,7 +1,7 @@
 // A window of a set without knots: the value is the direct one, so that one cell reads it up to the next start.
 use cell::Cell;
-use near::Window;
 use steps::line::Line;
+use window::neighbours::Window;
 ghost use mathlib.Core.Path.{_≡_};
 ghost use mathlib.Core.Bool.{_&&_};
 ghost use lib.Dec.{eqb, ltb};

@@ -8,7 +8,7 @@ use stretch::stretch_at;
 ghost use mathlib.Core.Path.{_≡_};
 ghost use Prim.Native.Nat.{min};
 ghost use Rattle.laws.specs.cell.Unpacked.{Ready};
-ghost use Rattle.near.specs.Tops.{TopsOf};
+ghost use Rattle.window.specs.neighbours.Tops.{TopsOf};
 ghost use Rattle.reading.specs.Walks.{outputs};
 ghost use Rattle.track.specs.Fills.{CursorIs, FillIs};
 

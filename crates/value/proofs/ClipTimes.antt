@@ -19,7 +19,7 @@ use Rattle.laws.specs.cell.Places.{Fits}
 use Rattle.laws.specs.cell.Unpacked.{knotsOf}
 use Rattle.laws.proofs.cell.Unpacked.{knot-times, zip-length}
 use Rattle.lists.specs.Segments.{knotAt}
-use Rattle.beside.proofs.Beside.{number-at}
+use Rattle.window.proofs.nearest.Beside.{number-at}
 use Rattle.value.proofs.Jumps.{step-le}
 use Rattle.value.specs.ClipTimes.{OnSegment}
 

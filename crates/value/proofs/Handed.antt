@@ -35,13 +35,13 @@ use Rattle.window.specs.Parts.{partOf}
 use Rattle.window.proofs.Parts.{ready-starts, ready-clip, ready-readable}
 use Rattle.window.specs.Windows.{minOf, maxOf, windowOf, windowPart, ifOwn}
 use Rattle.window.proofs.Windows.{next-is, next-none, gathered-is}
-use Rattle.beside.proofs.Beside.{finite-number, number-at, climb, next-above, last-reached}
+use Rattle.window.proofs.nearest.Beside.{finite-number, number-at, climb, next-above, last-reached}
 use Rattle.direct.proofs.ReadsLaws.{read-none, read-some}
 use Rattle.direct.specs.Sources.{standIn}
 use Rattle.direct.proofs.Sources.{reads-own, reads-empty, reads-out}
-use Rattle.near.specs.declared.Window.{Window}
-use Rattle.near.specs.Tops.{TopsOf}
-use Rattle.near.specs.Windowed.{intervalOf, samplesIn, nextOf, windowTimes, windowSource, Lent, Nearing}
+use Rattle.window.specs.declared.neighbours.Window.{Window}
+use Rattle.window.specs.neighbours.Tops.{TopsOf}
+use Rattle.window.specs.neighbours.Windowed.{intervalOf, samplesIn, nextOf, windowTimes, windowSource, Lent, Nearing}
 use Rattle.value.specs.Handed.{WindowIs}
 
 no-more : lt (inf false) (inf false) ≡ false

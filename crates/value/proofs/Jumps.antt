@@ -18,7 +18,7 @@ use Rattle.laws.proofs.cell.Every.{both, both-l, both-r}
 use Rattle.laws.specs.cell.Places.{Fits}
 use borrow.Author.Tests.{lt-ltb}
 use Rattle.window.proofs.Pairs.{jumpsAt}
-use Rattle.beside.proofs.Beside.{number-at, climb}
+use Rattle.window.proofs.nearest.Beside.{number-at, climb}
 
 -- ---- a test of the pairs, by places
 

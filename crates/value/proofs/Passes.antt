@@ -34,13 +34,13 @@ use Rattle.window.proofs.BoundsLaws.{in-every, every-in, lower-there, upper-the
 use Rattle.window.specs.Inverses.{onSegment, inversesOf}
 use Rattle.window.proofs.Inverses.{every-of, every-if}
 use Rattle.window.proofs.Pairs.{jump-by-x}
-use Rattle.beside.specs.Beside.{Facing}
-use Rattle.beside.proofs.Beside.{finite-number, number-at, climb}
-use Rattle.near.specs.declared.Window.{Window}
-use Rattle.near.specs.Tops.{segmentOf}
-use Rattle.near.proofs.Reaches.{segment-times, inverse-number, to-places, from-places}
-use Rattle.near.specs.Windowed.{intervalOf, nextOf, windowTimes, Nearing}
-use Rattle.near.proofs.Windowed.{near-faces}
+use Rattle.window.specs.nearest.Beside.{Facing}
+use Rattle.window.proofs.nearest.Beside.{finite-number, number-at, climb}
+use Rattle.window.specs.declared.neighbours.Window.{Window}
+use Rattle.window.specs.neighbours.Tops.{segmentOf}
+use Rattle.window.proofs.neighbours.Reaches.{segment-times, inverse-number, to-places, from-places}
+use Rattle.window.specs.neighbours.Windowed.{intervalOf, nextOf, windowTimes, Nearing}
+use Rattle.window.proofs.neighbours.Windowed.{near-faces}
 use Rattle.value.proofs.Jumps.{none-all, none-above}
 use Rattle.value.specs.ClipTimes.{OnSegment}
 use Rattle.value.proofs.ClipTimes.{found}

@@ -38,8 +38,8 @@ use Rattle.window.specs.declared.Bound.the-variants.{At, Nothing}
 use Rattle.window.specs.declared.Bounds.{Bounds}
 use Rattle.window.specs.Bounds.{LowerIs, UpperIs, NeighboursAre}
 use Rattle.window.proofs.Parts.{ready-active, ready-position, ready-readable}
-use Rattle.near.specs.declared.Window.{Window}
-use Rattle.near.specs.Windowed.{samplesIn, windowTimes, windowSource}
+use Rattle.window.specs.declared.neighbours.Window.{Window}
+use Rattle.window.specs.neighbours.Windowed.{samplesIn, windowTimes, windowSource}
 use Rattle.value.specs.Handed.{WindowIs}
 use Rattle.value.proofs.Handed.{window-gathered, window-lent, window-nears, window-held}
 use Rattle.value.specs.Values.{heldAt, Valued, ValueIn}

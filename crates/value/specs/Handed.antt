@@ -13,8 +13,8 @@ use Rattle.definitions.specs.Value.{directSource}
 use Rattle.laws.specs.cell.Unpacked.{setOf, samplesOf}
 use Rattle.window.specs.Parts.{partOf}
 use Rattle.window.specs.Windows.{minOf, maxOf, ifOwn}
-use Rattle.near.specs.declared.Window.{Window}
-use Rattle.near.specs.Windowed.{samplesIn, windowSource}
+use Rattle.window.specs.declared.neighbours.Window.{Window}
+use Rattle.window.specs.neighbours.Windowed.{samplesIn, windowSource}
 
 -- the window of the start at the place p
 pub record WindowIs (starts : List Float) (clips : List ℕ) (xs ys blocks : List Float) (m : Manifest) (times values : List Float) (marks ends : List ℕ) (p : ℕ) (w : Window) : Type 0 where

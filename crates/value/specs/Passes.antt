@@ -13,9 +13,9 @@ use Rattle.laws.specs.cell.Places.{Fits}
 use Rattle.laws.specs.cell.Neighbours.{IsLower}
 use Rattle.window.specs.Bounds.{In}
 use Rattle.window.specs.Inverses.{onSegment}
-use Rattle.near.specs.declared.Window.{Window}
-use Rattle.near.specs.Tops.{segmentOf}
-use Rattle.near.specs.Windowed.{windowTimes, Nearing}
+use Rattle.window.specs.declared.neighbours.Window.{Window}
+use Rattle.window.specs.neighbours.Tops.{segmentOf}
+use Rattle.window.specs.neighbours.Windowed.{windowTimes, Nearing}
 use Rattle.value.specs.ClipTimes.{OnSegment}
 
 -- what is known where a run begins at t: its segment is that from the knot at i, the lower neighbour there is l, and h is the inverse time up to which it goes

@@ -13,9 +13,9 @@ use Rattle.window.specs.declared.Bound.{Bound}
 use Rattle.window.specs.declared.Bound.the-variants.{At, Nothing}
 use Rattle.window.specs.declared.Bounds.{Bounds}
 use Rattle.window.specs.Bounds.{NeighboursAre}
-use Rattle.near.specs.declared.Window.{Window}
-use Rattle.near.specs.Tops.{TopsOf}
-use Rattle.near.specs.Windowed.{samplesIn, windowTimes, windowSource, Lent, Nearing}
+use Rattle.window.specs.declared.neighbours.Window.{Window}
+use Rattle.window.specs.neighbours.Tops.{TopsOf}
+use Rattle.window.specs.neighbours.Windowed.{samplesIn, windowTimes, windowSource, Lent, Nearing}
 
 -- ---- the value in a window
 

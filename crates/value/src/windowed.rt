@@ -7,7 +7,7 @@ use definitions::StageTime;
 use direct::contributes;
 use direct::gap_source;
 use lists::segment::segment_at;
-use near::Window;
+use window::neighbours::Window;
 use window::part::clip_begin;
 use window::part::clip_end;
 use window::window_max;
@@ -22,7 +22,7 @@ ghost use Rattle.definitions.specs.Lists.{any};
 ghost use Rattle.definitions.specs.Timing.{mapStageToClip};
 ghost use Rattle.laws.specs.list.Places.{Ascending};
 ghost use Rattle.laws.specs.cell.Unpacked.{knotsOf, Ready};
-ghost use Rattle.near.specs.Windowed.{Lent, windowSource};
+ghost use Rattle.window.specs.neighbours.Windowed.{Lent, windowSource};
 ghost use Rattle.value.specs.Handed.{WindowIs};
 ghost use Rattle.value.specs.ClipTimes.{OnSegment};
 

@@ -9,3 +9,5 @@ pub mod Near
 pub mod Windows
 -- A clip's part of the lent times, and what lists that are ready tell
 pub mod Parts
+pub mod neighbours
+pub mod nearest

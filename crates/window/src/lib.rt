@@ -1,5 +1,8 @@
 // A window of a set, and the neighbours of a time among its times.
 
+pub mod crossing;
+pub mod nearest;
+pub mod neighbours;
 pub mod part;
 
 ghost use mathlib.Core.Path.{_≡_};

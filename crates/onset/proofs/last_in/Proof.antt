@@ -8,7 +8,7 @@ use lib.Ieee.{Float, nan, isNan, binary64, fits, lt}
 use denote.Ref.{now}
 use Rattle.definitions.specs.declared.Segment.{Segment}
 use Rattle.laws.specs.cell.Ends.{Number}
-use Rattle.beside.proofs.Beside.{number-at}
+use Rattle.window.proofs.nearest.Beside.{number-at}
 use Rattle.onset.specs.Begins.{BeforeIs}
 use Rattle.onset.proofs.Ahead.{lesser-number, last-is-in}
 use borrow.Author.Needs.{needs}

@@ -17,8 +17,8 @@ use Rattle.window.proofs.Parts.{ready-readable}
 use Rattle.steps.specs.declared.line.Line.the-variants as Line
 use Rattle.steps.specs.Entries.{entryIs}
 use Rattle.steps.specs.Lines.{placeOn}
-use Rattle.near.specs.Tops.{segmentOf}
-use Rattle.near.specs.Windowed.{samplesIn}
+use Rattle.window.specs.neighbours.Tops.{segmentOf}
+use Rattle.window.specs.neighbours.Windowed.{samplesIn}
 use Rattle.reading.specs.Passages.{lineOn}
 use Rattle.reading.specs.Readings.{Reads, entryAt, readingAt}
 use Rattle.value.specs.Handed.{WindowIs}

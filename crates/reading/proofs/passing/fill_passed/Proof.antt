@@ -6,7 +6,7 @@ use borrow.Author.Needs.{needs}
 use lib.Ieee.{Float}
 use Rattle.definitions.specs.declared.Knot.{Knot}
 use Rattle.definitions.specs.Track.{Entry, Outputs}
-use Rattle.beside.specs.Turns.{isBeyond, Turn}
+use Rattle.window.specs.nearest.Turns.{isBeyond, Turn}
 use Rattle.steps.specs.Entries.{entryIs}
 use Rattle.reading.specs.declared.passing.Ahead.{Ahead}
 use Rattle.reading.specs.declared.passing.Ahead.the-variants.{Nothing}

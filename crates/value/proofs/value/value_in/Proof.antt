@@ -3,8 +3,8 @@ use mathlib.Core.Path.{refl, sym, _∙_}
 use mathlib.Core.List.{[]}
 use denote.Ref.{now}
 use borrow.Author.Needs.{needs}
-use Rattle.near.proofs.TopsLaws.{no-tops}
-use Rattle.near.specs.Windowed.{boundsOf}
+use Rattle.window.proofs.neighbours.TopsLaws.{no-tops}
+use Rattle.window.specs.neighbours.Windowed.{boundsOf}
 use Rattle.value.proofs.Values.{read-below, read-last, read-jump, read-held}
 use Rattle.value.proofs.value.value_in.Statement.{statement}
 use Rattle.value.proofs.value.value_in.Tie as tie

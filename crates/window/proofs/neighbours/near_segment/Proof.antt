@@ -1,0 +1,38 @@
+-- `window::neighbours::near_segment` meets its contract. Assumes nothing.
+use mathlib.Core.Path.{sym, subst}
+use denote.Ref.{now}
+use Rattle.definitions.specs.declared.Segment.{Segment}
+use Rattle.definitions.specs.Lists.{keep}
+use Rattle.window.specs.Bounds.{inside}
+use Rattle.window.specs.Inverses.{onSegment}
+use Rattle.window.specs.Near.{SoundSegment}
+use Rattle.window.specs.nearest.Nearest.{Searched}
+use Rattle.window.proofs.neighbours.TopsLaws.{segment-here}
+use borrow.Author.Needs.{needs}
+use Rattle.window.proofs.neighbours.near_segment.Statement.{statement}
+use Rattle.window.proofs.neighbours.near_segment.Tie as tie
+
+abbrev entry : tie.After-segment-at → tie.Start
+entry c = c .before .before .before .before
+
+segment-at-requires : tie.Need-segment-at-requires
+segment-at-requires c κs = let s = c .before .before .before in (s .pre .0 .paired, s .pre .1)
+
+turn-requires : tie.Need-turn-requires
+turn-requires c κs = search needs
+
+near-turn-requires : tie.Need-near-turn-requires
+near-turn-requires c κs =
+    let m = c .before in
+    let s = entry m in
+    let R = s .pre .0 in
+    (subst (λ (q : Segment). SoundSegment (q .a, q .b)) (sym (m .segment-at .ensures)) (segment-here (now (s .args .xs)) (now (s .args .ys)) (R .paired) (R .segments) (s .args .j) (s .pre .1)), (R .samples, (R .faces, c .turn .ensures)))
+
+returns : tie.Need-returns
+returns c =
+    let m = c .before .before in
+    let a = entry m .args in
+    subst (λ (q : Segment). Searched (a .t) (keep (inside (a .w)) (onSegment (now (a .cs)) (q .a, q .b))) (a .held) (c .near-turn .result)) (m .segment-at .ensures) (c .near-turn .ensures)
+
+pub near-segment-spec : {M : Type 1} → statement M
+near-segment-spec = tie.close (tie.spec segment-at-requires turn-requires near-turn-requires returns)

@@ -1,0 +1,25 @@
+-- The times of an ascending list on either side of a time stand for all of them. Assumes nothing.
+use mathlib.Core.Bool.{cond}
+use mathlib.Core.List.{List}
+use Prim.Native.Nat.{ℕ, _-_, _≤_, _<_}
+use lib.Dec.{ltb}
+use lib.ListN.{length, getD}
+use lib.Ieee.{Float, nan}
+use Rattle.gf.specs.Key.{key}
+use Rattle.gf.specs.declared.interval.Interval.{Interval}
+use Rattle.laws.specs.cell.Ends.{Number}
+use Rattle.window.specs.declared.Bounds.{Bounds}
+use Rattle.window.specs.Bounds.{inside}
+use Rattle.window.specs.nearest.Nearest.{withInside}
+
+unfoldable pub withPlace : Interval → Float → List Float → Bounds → ℕ → Bounds
+withPlace w t xs h i = cond (ltb i (length xs)) (withInside w t h (getD xs i nan)) h
+
+-- ---- a time inside its window
+
+pub record Facing (w : Interval) (t : Float) : Type 0 where
+  pub time : Number t
+  pub min : Number (w .min)
+  pub max : Number (w .max)
+  pub from : key (w .min) ≤ key t
+  pub upto : key t < key (w .max)

@@ -1,0 +1,100 @@
+// The place where the inverse times of ascending samples pass a time, in one segment: they rise or fall with the samples.
+
+use definitions::Segment;
+use lists::segment::stage_time;
+ghost use mathlib.Core.Path.{_≡_};
+ghost use mathlib.Core.Bool.{true, false};
+ghost use Prim.Native.Nat.{ℕ, suc, _≤_, _<_};
+ghost use lib.ListN.{length, getD};
+ghost use lib.Ieee.{nan};
+ghost use Rattle.window.specs.nearest.Turns.{isBeyond, Turn};
+
+// Whether the sample `c` lies behind the place.
+fn is_beyond(s: Segment, c: f64, t: f64) -> bool
+    ensures { λ r. ⌜ r ≡ isBeyond t (s .a, s .b) c ⌝ }
+{
+    let ca = s.a.y;
+    let cb = s.b.y;
+    if ca < cb {
+        if cb < c {
+            return true;
+        }
+        if c < ca {
+            return false;
+        }
+        return t < stage_time(s, c);
+    }
+    if ca < c {
+        return true;
+    }
+    if c < cb {
+        return false;
+    }
+    stage_time(s, c) <= t
+}
+
+// Whether the sample at `n` does, or there is none.
+fn begins_at(cs: &[f64], s: Segment, t: f64, n: usize) -> bool
+    ensures { λ r. ⌜ ((r ≡ true) → n < length (now (cs .entry)) → isBeyond t (s .a, s .b) (getD (now (cs .entry)) n nan) ≡ true) ⌝ ∗ ⌜ ((r ≡ false) → (n < length (now (cs .entry))) × (isBeyond t (s .a, s .b) (getD (now (cs .entry)) n nan) ≡ false)) ⌝ }
+{
+    if n < cs.len() {
+        return is_beyond(s, cs[n], t);
+    }
+    true
+}
+
+// Whether `n` is a place in the list or its end, and the sample before it does not, or there is none.
+fn ends_before(cs: &[f64], s: Segment, t: f64, n: usize) -> bool
+    ensures { λ r. ⌜ ((r ≡ true) → (n ≤ length (now (cs .entry))) × ((i : ℕ) → suc i ≡ n → isBeyond t (s .a, s .b) (getD (now (cs .entry)) i nan) ≡ false)) ⌝ }
+{
+    if cs.len() < n {
+        return false;
+    }
+    if n == 0 {
+        return true;
+    }
+    let before = n - 1;
+    !is_beyond(s, cs[before], t)
+}
+
+// The place, by bisection.
+fn search_turn(cs: &[f64], s: Segment, t: f64) -> usize
+    ensures { λ r. ⌜ Turn (isBeyond t (s .a, s .b)) (now (cs .entry)) r ⌝ }
+{
+    let mut lo: usize = 0;
+    let mut hi = cs.len();
+    while lo < hi {
+        let mid = lo + (hi - lo) / 2;
+        if is_beyond(s, cs[mid], t) {
+            hi = mid;
+        } else {
+            lo = mid + 1;
+        }
+    }
+    lo
+}
+
+// The place, looked for at the hint, behind it and before it: as a segment rises or falls it moves on or back.
+pub fn turn(cs: &[f64], s: Segment, t: f64, hint: usize) -> usize
+    ensures { λ r. ⌜ Turn (isBeyond t (s .a, s .b)) (now (cs .entry)) r ⌝ }
+{
+    if !begins_at(cs, s, t, hint) {
+        let next = hint + 1;
+        if begins_at(cs, s, t, next) {
+            return next;
+        }
+        return search_turn(cs, s, t);
+    }
+    if ends_before(cs, s, t, hint) {
+        return hint;
+    }
+    if 0 < hint {
+        let before = hint - 1;
+        if begins_at(cs, s, t, before) {
+            if ends_before(cs, s, t, before) {
+                return before;
+            }
+        }
+    }
+    search_turn(cs, s, t)
+}

@@ -1,0 +1,215 @@
+// The neighbours of a time among a window's times, by a search that begins at hints: the starts, the knots beside the time, and the samples whose inverse
+// times pass it in its segment.
+
+pub mod tops;
+
+use crate::Bound;
+use crate::Bounds;
+use crate::crossing::turn;
+use crate::nearest::candidate::with_near;
+use crate::nearest::near_times;
+use crate::nearest::near_turn;
+use definitions::Source;
+use gf::interval::Interval;
+use lists::segment::segment_at;
+use tops::top_before;
+ghost use mathlib.Core.Path.{_≡_};
+ghost use mathlib.Core.Bool.{true};
+ghost use Prim.Native.Nat.{_+_, _<_};
+ghost use lib.ListN.{length};
+ghost use Rattle.definitions.specs.Timing.{lastAtMost};
+ghost use Rattle.window.specs.Bounds.{nothing, NeighboursAre};
+ghost use Rattle.window.specs.nearest.Nearest.{Searched};
+ghost use Rattle.window.specs.neighbours.Tops.{TopsOf};
+ghost use Rattle.window.specs.neighbours.Reaches.{Searchable, PastAll, timesOf, Reached, Around};
+ghost use Rattle.window.specs.neighbours.Windowed.{boundsOf, startsOf, windowTimes, Nearing};
+
+// The window of a start: its time, its ends, its clip, the clip's samples `begin..end` if they contribute, and what stands in where there are none.
+pub struct Window {
+    pub start: f64,
+    pub min: f64,
+    pub max: f64,
+    pub clip: u64,
+    pub begin: usize,
+    pub end: usize,
+    pub gap: Source,
+}
+
+// The neighbours of a time, the place of the last knot that is at most it, and the place of a sample beside it: hints for the next search.
+pub struct Near {
+    pub lower: Bound,
+    pub upper: Bound,
+    pub knot: usize,
+    pub sample: usize,
+}
+
+// The neighbours of `t` with the inverse times of all samples in the segment from the knot at `j` on.
+fn near_segment(
+    held: Bounds,
+    xs: &[f64],
+    ys: &[f64],
+    cs: &[f64],
+    j: usize,
+    w: Interval,
+    t: f64,
+    sample: usize,
+) -> Near
+    requires { ⌜ Searchable (now xs) (now ys) (now cs) w t ⌝ ∗ ⌜ j + 1 < length (now xs) ⌝ }
+    ensures { λ r. ⌜ Searched t (timesOf w (now (xs .entry)) (now (ys .entry)) (now (cs .entry)) j) held (boundsOf r) ⌝ }
+{
+    let s = segment_at(xs, ys, j);
+    let n = turn(cs, s, t, sample);
+    let found = near_turn(held, s, cs, n, w, t);
+    let lower = found.lower;
+    let upper = found.upper;
+    Near {
+        lower: lower,
+        upper: upper,
+        knot: j,
+        sample: n,
+    }
+}
+
+// No time up to `top` is above the lower neighbour.
+fn is_past(lower: Bound, top: f64) -> bool
+    ensures { λ r. ⌜ ((r ≡ true) → PastAll lower top) ⌝ }
+{
+    if let Bound::At(l) = lower {
+        return top <= l;
+    }
+    false
+}
+
+// With those of the segments before the knot at `i`, until none can reach past the lower neighbour. That neighbour is not below the knot, so only by
+// rounding does one reach past it.
+fn near_before(
+    held: Bounds,
+    xs: &[f64],
+    ys: &[f64],
+    tops: &[f64],
+    cs: &[f64],
+    i: usize,
+    w: Interval,
+    t: f64,
+    sample: usize,
+) -> Bounds
+    requires { ⌜ Searchable (now xs) (now ys) (now cs) w t ⌝ ∗ ⌜ TopsOf (now xs) (now ys) (now tops) ⌝ ∗ ⌜ i < length (now xs) ⌝ ∗ ⌜ i ≡ lastAtMost (now xs) t ⌝ }
+    ensures { λ r. ⌜ Reached t w (now (xs .entry)) (now (ys .entry)) (now (cs .entry)) 0 i held r ⌝ }
+{
+    let mut r = held;
+    let mut j = i;
+    while j > 0 {
+        let low = r.lower;
+        if is_past(low, top_before(xs, ys, tops, j)) {
+            return r;
+        }
+        let before = j - 1;
+        let found = near_segment(r, xs, ys, cs, before, w, t, sample);
+        let lower = found.lower;
+        let upper = found.upper;
+        r = Bounds {
+            lower: lower,
+            upper: upper,
+        };
+        j = before;
+    }
+    r
+}
+
+// With those of all segments: from the next knot on they lie above it.
+fn near_around(
+    held: Bounds,
+    xs: &[f64],
+    ys: &[f64],
+    tops: &[f64],
+    cs: &[f64],
+    i: usize,
+    w: Interval,
+    t: f64,
+    sample: usize,
+) -> Near
+    requires { ⌜ Searchable (now xs) (now ys) (now cs) w t ⌝ ∗ ⌜ TopsOf (now xs) (now ys) (now tops) ⌝ ∗ ⌜ i < length (now xs) ⌝ ∗ ⌜ i ≡ lastAtMost (now xs) t ⌝ }
+    ensures { λ r. ⌜ Around t w (now (xs .entry)) (now (ys .entry)) (now (cs .entry)) held (boundsOf r) ⌝ }
+{
+    let next = i + 1;
+    if next < xs.len() {
+        let own = near_segment(held, xs, ys, cs, i, w, t, sample);
+        let low = own.lower;
+        let high = own.upper;
+        let place = own.sample;
+        let both = Bounds {
+            lower: low,
+            upper: high,
+        };
+        let all = near_before(both, xs, ys, tops, cs, i, w, t, place);
+        let lower = all.lower;
+        let upper = all.upper;
+        return Near {
+            lower: lower,
+            upper: upper,
+            knot: i,
+            sample: place,
+        };
+    }
+    let all = near_before(held, xs, ys, tops, cs, i, w, t, sample);
+    let lower = all.lower;
+    let upper = all.upper;
+    Near {
+        lower: lower,
+        upper: upper,
+        knot: i,
+        sample: sample,
+    }
+}
+
+// The neighbours of `t` among the window's start and the next start.
+fn near_starts(w: Window, t: f64) -> Bounds
+    ensures { λ r. ⌜ Searched t (startsOf w) nothing r ⌝ }
+{
+    let max = w.max;
+    let none = Bounds {
+        lower: Bound::Nothing,
+        upper: Bound::Nothing,
+    };
+    let first = with_near(none, w.start, t);
+    if max < 1.0 / 0.0 {
+        return with_near(first, max, t);
+    }
+    first
+}
+
+// The neighbours of `t` among the times of its window, whose samples are `cs`. A hint is any number. Tops spare many searches a pass over the knots; there
+// may be none.
+pub fn near_in(
+    xs: &[f64],
+    ys: &[f64],
+    tops: &[f64],
+    cs: &[f64],
+    w: Window,
+    t: f64,
+    knot: usize,
+    sample: usize,
+) -> Near
+    requires { ⌜ Nearing (now xs) (now ys) (now tops) (now cs) w t ⌝ }
+    ensures { λ r. ⌜ NeighboursAre (windowTimes (now (xs .entry)) (now (ys .entry)) (now (cs .entry)) w) t (boundsOf r) ⌝ }
+{
+    let min = w.min;
+    let max = w.max;
+    let inside = Interval { min: min, max: max };
+    let starts = near_starts(w, t);
+    if xs.len() == 0 {
+        let place = lists::near::last_at_most_near(cs, t, sample);
+        let found = near_times(starts, cs, place, inside, t);
+        let lower = found.lower;
+        let upper = found.upper;
+        return Near {
+            lower: lower,
+            upper: upper,
+            knot: 0,
+            sample: place,
+        };
+    }
+    let i = lists::near::last_at_most_near(xs, t, knot);
+    let knots = near_times(starts, xs, i, inside, t);
+    near_around(knots, xs, ys, tops, cs, i, inside, t, sample)
+}
