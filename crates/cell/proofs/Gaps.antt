@@ -21,9 +21,9 @@ use Rattle.laws.specs.cell.Unpacked.{Ready, setOf, samplesOf, start, activeOf}
 use Rattle.window.specs.Parts.{partOf}
 use Rattle.window.proofs.Parts.{ready-clip, ready-readable}
 use Rattle.window.specs.Windows.{minOf, maxOf, ifOwn}
-use Rattle.direct.specs.Reads.{readStart}
-use Rattle.direct.proofs.ReadsLaws.{read-none, start-blocked, start-read, from-on, back-on}
-use Rattle.direct.specs.Sources.{standIn}
+use Rattle.value.specs.direct.Reads.{readStart}
+use Rattle.value.proofs.direct.ReadsLaws.{read-none, start-blocked, start-read, from-on, back-on}
+use Rattle.value.specs.direct.Sources.{standIn}
 use Rattle.window.specs.declared.neighbours.Window.{Window}
 use Rattle.window.specs.neighbours.Windowed.{samplesIn}
 use Rattle.value.specs.Handed.{WindowIs}

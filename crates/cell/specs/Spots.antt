@@ -11,7 +11,7 @@ use Rattle.definitions.specs.Lists.{any}
 use Rattle.definitions.specs.Timing.{lastAtMost}
 use Rattle.definitions.specs.Samples.{clipBegin, clipEnd}
 use Rattle.laws.specs.cell.Unpacked.{setOf, samplesOf}
-use Rattle.direct.specs.Sources.{standIn}
+use Rattle.value.specs.direct.Sources.{standIn}
 use Rattle.window.specs.declared.neighbours.Window.{Window}
 use Rattle.value.specs.Handed.{WindowIs}
 

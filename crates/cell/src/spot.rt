@@ -1,8 +1,8 @@
 // A walk's spot: the window that it is in, and where its last search ended. A search that begins there is short.
 use definitions::Manifest;
 use definitions::Source;
-use direct::contributes;
 use lists::near::last_at_most_near;
+use value::direct::contributes;
 use value::windowed::window_of;
 use window::neighbours::Window;
 use window::part::clip_begin;

@@ -24,7 +24,7 @@ use Rattle.lists.proofs.Fronts.{front, no-front}
 use Rattle.window.specs.Parts.{partOf}
 use Rattle.window.proofs.Parts.{ready-active, ready-position}
 use Rattle.look.specs.Reads.{markedAt, told}
-use Rattle.direct.specs.Reads.{heldPart}
+use Rattle.value.specs.direct.Reads.{heldPart}
 use Rattle.stage.specs.Marks.{gapMarkOf, marksAt, sampleTimes, sampleMarks}
 
 module _ (set : ClipSet) (s : Samples) where

@@ -3,8 +3,8 @@
 use definitions::Answer;
 use definitions::Manifest;
 use definitions::StageTime;
-use direct::read_clip;
 use look::Held;
+use value::direct::read_clip;
 ghost use mathlib.Core.Path.{_≡_};
 ghost use Prim.Native.Nat.{_≤_};
 ghost use lib.ListN.{length};

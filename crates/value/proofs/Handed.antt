@@ -36,9 +36,9 @@ use Rattle.window.proofs.Parts.{ready-starts, ready-clip, ready-readable}
 use Rattle.window.specs.Windows.{minOf, maxOf, windowOf, windowPart, ifOwn}
 use Rattle.window.proofs.Windows.{next-is, next-none, gathered-is}
 use Rattle.window.proofs.nearest.Beside.{finite-number, number-at, climb, next-above, last-reached}
-use Rattle.direct.proofs.ReadsLaws.{read-none, read-some}
-use Rattle.direct.specs.Sources.{standIn}
-use Rattle.direct.proofs.Sources.{reads-own, reads-empty, reads-out}
+use Rattle.value.proofs.direct.ReadsLaws.{read-none, read-some}
+use Rattle.value.specs.direct.Sources.{standIn}
+use Rattle.value.proofs.direct.Sources.{reads-own, reads-empty, reads-out}
 use Rattle.window.specs.declared.neighbours.Window.{Window}
 use Rattle.window.specs.neighbours.Tops.{TopsOf}
 use Rattle.window.specs.neighbours.Windowed.{intervalOf, samplesIn, nextOf, windowTimes, windowSource, Lent, Nearing}

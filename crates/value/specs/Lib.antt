@@ -11,3 +11,4 @@ pub mod ClipTimes
 pub mod Handed
 -- The neighbours along a run of samples in one segment
 pub mod Passes
+pub mod direct

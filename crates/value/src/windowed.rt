@@ -1,11 +1,11 @@
 // A window handed on: what the times between two starts are read from.
 
+use crate::direct::contributes;
+use crate::direct::gap_source;
 use definitions::ClipTime;
 use definitions::Manifest;
 use definitions::Source;
 use definitions::StageTime;
-use direct::contributes;
-use direct::gap_source;
 use lists::segment::segment_at;
 use window::neighbours::Window;
 use window::part::clip_begin;

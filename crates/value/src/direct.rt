@@ -17,7 +17,7 @@ ghost use Rattle.definitions.specs.Value.{_orElse_, firstReading, manifestDefau
 ghost use Rattle.laws.specs.cell.Unpacked.{start, activeOf, setOf, samplesOf, Ready};
 ghost use Rattle.window.specs.Parts.{Readable};
 ghost use Rattle.look.specs.Reads.{heldIs};
-ghost use Rattle.direct.specs.Reads.{readingIs, heldPart, readStart};
+ghost use Rattle.value.specs.direct.Reads.{readingIs, heldPart, readStart};
 
 // A sample that is read: its clip, and its place counted from the clip's first.
 pub enum Reading {

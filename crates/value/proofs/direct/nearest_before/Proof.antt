@@ -1,4 +1,4 @@
--- `direct::nearest_before` meets its contract. Assumes nothing.
+-- `value::direct::nearest_before` meets its contract. Assumes nothing.
 use mathlib.Core.Path.{_≡_, refl, sym, ap, _∙_}
 use mathlib.Core.List.{reverse}
 use Prim.Native.Nat.{_≤_}
@@ -7,11 +7,11 @@ use lib.ListN.{length, take}
 use Rattle.definitions.specs.declared.Source.the-variants.{Sample as sample}
 use Rattle.definitions.specs.Value.{firstReading}
 use Rattle.laws.specs.cell.Unpacked.{activeOf, setOf, samplesOf}
-use Rattle.direct.specs.Reads.{readingIs}
-use Rattle.direct.proofs.ReadsLaws.{back-found, back-on, back-end}
+use Rattle.value.specs.direct.Reads.{readingIs}
+use Rattle.value.proofs.direct.ReadsLaws.{back-found, back-on, back-end}
 use borrow.Author.Needs.{needs}
-use Rattle.direct.proofs.nearest_before.Statement.{statement}
-use Rattle.direct.proofs.nearest_before.Tie as tie
+use Rattle.value.proofs.direct.nearest_before.Statement.{statement}
+use Rattle.value.proofs.direct.nearest_before.Tie as tie
 
 abbrev Inv-loop : tie.InvT-loop
 Inv-loop starts clips xs ys blocks m times values marks ends p left₀ left = (left ≤ length starts) × (firstReading (setOf (length ends) starts clips xs ys blocks m) (samplesOf times values marks ends) (reverse (take p (activeOf starts clips))) ≡ firstReading (setOf (length ends) starts clips xs ys blocks m) (samplesOf times values marks ends) (reverse (take left (activeOf starts clips))))

@@ -1,4 +1,4 @@
--- `direct::nearest_from` meets its contract. Assumes nothing.
+-- `value::direct::nearest_from` meets its contract. Assumes nothing.
 use mathlib.Core.Path.{_≡_, refl, sym, ap, _∙_}
 use Prim.Native.Nat.{_-_, _≤_}
 use native.Mathlib.Omega.{arith}
@@ -6,11 +6,11 @@ use lib.ListN.{length, drop}
 use Rattle.definitions.specs.declared.Source.the-variants.{Sample as sample}
 use Rattle.definitions.specs.Value.{firstReading}
 use Rattle.laws.specs.cell.Unpacked.{activeOf, setOf, samplesOf}
-use Rattle.direct.specs.Reads.{readingIs}
-use Rattle.direct.proofs.ReadsLaws.{from-found, from-on, from-end}
+use Rattle.value.specs.direct.Reads.{readingIs}
+use Rattle.value.proofs.direct.ReadsLaws.{from-found, from-on, from-end}
 use borrow.Author.Needs.{needs}
-use Rattle.direct.proofs.nearest_from.Statement.{statement}
-use Rattle.direct.proofs.nearest_from.Tie as tie
+use Rattle.value.proofs.direct.nearest_from.Statement.{statement}
+use Rattle.value.proofs.direct.nearest_from.Tie as tie
 
 abbrev Inv-loop : tie.InvT-loop
 Inv-loop starts clips xs ys blocks m times values marks ends p i₀ i = (i ≤ length starts) × (firstReading (setOf (length ends) starts clips xs ys blocks m) (samplesOf times values marks ends) (drop p (activeOf starts clips)) ≡ firstReading (setOf (length ends) starts clips xs ys blocks m) (samplesOf times values marks ends) (drop i (activeOf starts clips)))

@@ -1,13 +1,13 @@
--- `direct::gap_source` meets its contract: the default, then the search back, then the search on. Assumes nothing.
+-- `value::direct::gap_source` meets its contract: the default, then the search back, then the search on. Assumes nothing.
 use native.Mathlib.Omega.{arith}
 use mathlib.Core.Path.{sym, ap, _∙_}
 use borrow.Author.Tests.{not-true, not-false}
 use Rattle.definitions.specs.declared.Source.the-variants.{Sample as sample}
-use Rattle.direct.specs.Reads.{readingIs}
-use Rattle.direct.proofs.Sources.{stands-default, stands-off, stands-before, stands-after, stands-none}
+use Rattle.value.specs.direct.Reads.{readingIs}
+use Rattle.value.proofs.direct.Sources.{stands-default, stands-off, stands-before, stands-after, stands-none}
 use borrow.Author.Needs.{needs}
-use Rattle.direct.proofs.gap_source.Statement.{statement}
-use Rattle.direct.proofs.gap_source.Tie as tie
+use Rattle.value.proofs.direct.gap_source.Statement.{statement}
+use Rattle.value.proofs.direct.gap_source.Tie as tie
 
 abbrev entry : tie.After-default → tie.Start
 entry k = k .before .before .before .before .before .before .before .before .before .before

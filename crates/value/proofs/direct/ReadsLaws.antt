@@ -26,7 +26,7 @@ use Rattle.window.proofs.Parts.{ready-active, ready-start}
 use Rattle.look.specs.Reads.{markedAt, told}
 use Rattle.look.proofs.ReadsLaws.{place-none, place-some}
 use Rattle.look.specs.Reads as look
-use Rattle.direct.specs.Reads.{heldPart, readStart}
+use Rattle.value.specs.direct.Reads.{heldPart, readStart}
 
 -- ---- a reading of the code
 

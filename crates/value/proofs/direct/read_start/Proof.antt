@@ -1,12 +1,12 @@
--- `direct::read_start` meets its contract. Assumes nothing.
+-- `value::direct::read_start` meets its contract. Assumes nothing.
 use mathlib.Core.Path.{sym, ap, _∙_}
 use denote.Ref.{now}
 use Rattle.window.proofs.Parts.{ready-clip, ready-readable}
 use Rattle.look.specs.Reads.{heldIs}
-use Rattle.direct.proofs.ReadsLaws.{start-blocked, start-read, part-read, part-none}
+use Rattle.value.proofs.direct.ReadsLaws.{start-blocked, start-read, part-read, part-none}
 use borrow.Author.Needs.{needs}
-use Rattle.direct.proofs.read_start.Statement.{statement}
-use Rattle.direct.proofs.read_start.Tie as tie
+use Rattle.value.proofs.direct.read_start.Statement.{statement}
+use Rattle.value.proofs.direct.read_start.Tie as tie
 
 abbrev entry : tie.After-blocked-at → tie.Start
 entry c = c .before .before .before .before .before .before .before .before .before .before .before

@@ -15,8 +15,8 @@ use Rattle.definitions.specs.Samples.{Samples, clipBegin, clipEnd}
 use Rattle.definitions.specs.Value.{blockedAt, readClip}
 use Rattle.laws.specs.cell.Unpacked.{start, knotsOf}
 use Rattle.look.specs.Reads.{heldReading}
-use Rattle.direct.specs.declared.Reading.{Reading}
-use Rattle.direct.specs.declared.Reading.the-variants.{Of, Nothing}
+use Rattle.value.specs.declared.direct.Reading.{Reading}
+use Rattle.value.specs.declared.direct.Reading.the-variants.{Of, Nothing}
 
 -- ---- a reading of the code
 

@@ -1,4 +1,4 @@
--- `direct::blocked_at` meets its contract: those counted and what is left of the list answer for the whole. Assumes nothing.
+-- `value::direct::blocked_at` meets its contract: those counted and what is left of the list answer for the whole. Assumes nothing.
 use Prim.Native.Nat.{ℕ, _+_, _-_, _≤_}
 use mathlib.Core.Path.{_≡_, refl, sym, ap, _∙_}
 use mathlib.Core.Bool.{Bool, _||_}
@@ -9,8 +9,8 @@ use lib.ListN.{length, getD, drop}
 use lib.Ieee.{Float, nan, eq}
 use Rattle.definitions.specs.Lists.{any}
 use Rattle.lists.proofs.Fronts.{any-found, at-most-one, counted-all}
-use Rattle.direct.proofs.blocked_at.Statement.{statement}
-use Rattle.direct.proofs.blocked_at.Tie as tie
+use Rattle.value.proofs.direct.blocked_at.Statement.{statement}
+use Rattle.value.proofs.direct.blocked_at.Tie as tie
 
 abbrev same : Float → Float → Bool
 same start b = eq b start

@@ -21,8 +21,8 @@ use Rattle.definitions.specs.Value.{_orElse_, blockedAt, contributes, readClip,
 use Rattle.laws.specs.cell.Unpacked.{start, activeOf, setOf, samplesOf, Ready}
 use Rattle.laws.proofs.cell.Unpacked.{zip-here}
 use Rattle.window.proofs.Parts.{ready-active, ready-position}
-use Rattle.direct.proofs.ReadsLaws.{readPart}
-use Rattle.direct.specs.Sources.{standIn}
+use Rattle.value.proofs.direct.ReadsLaws.{readPart}
+use Rattle.value.specs.direct.Sources.{standIn}
 
 module _ (set : ClipSet) (s : Samples) (p : ℕ) where
   pub gap-default : set .default .mark ≡ 0 → default ≡ (standIn set s p)

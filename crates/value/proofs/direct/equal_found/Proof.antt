@@ -1,8 +1,8 @@
--- `direct::equal_found` meets its contract. Assumes nothing.
+-- `value::direct::equal_found` meets its contract. Assumes nothing.
 use mathlib.Core.Path.{sym, ap}
 use mathlib.Core.Bool.{Bool, cond}
-use Rattle.direct.proofs.equal_found.Statement.{statement}
-use Rattle.direct.proofs.equal_found.Tie as tie
+use Rattle.value.proofs.direct.equal_found.Statement.{statement}
+use Rattle.value.proofs.direct.equal_found.Tie as tie
 
 returns : tie.Need-returns
 returns c = sym (ap (λ (b : Bool). cond b 1 0) (c .if1 .taken))

@@ -1,4 +1,4 @@
--- `direct::read_clip` meets its contract: the look goes over the clip's own part of the lists. Assumes nothing.
+-- `value::direct::read_clip` meets its contract: the look goes over the clip's own part of the lists. Assumes nothing.
 use mathlib.Core.Path.{sym, ap, ap₂, _∙_}
 use Prim.Native.Nat.{ℕ}
 use denote.Ref.{now}
@@ -6,10 +6,10 @@ use Rattle.definitions.specs.Timing.{mapStageToClip}
 use Rattle.laws.specs.cell.Unpacked.{knotsOf}
 use Rattle.look.specs.Reads.{heldReading}
 use Rattle.look.proofs.ReadsLaws.{held-none}
-use Rattle.direct.proofs.ReadsLaws.{part-looked}
+use Rattle.value.proofs.direct.ReadsLaws.{part-looked}
 use borrow.Author.Needs.{needs}
-use Rattle.direct.proofs.read_clip.Statement.{statement}
-use Rattle.direct.proofs.read_clip.Tie as tie
+use Rattle.value.proofs.direct.read_clip.Statement.{statement}
+use Rattle.value.proofs.direct.read_clip.Tie as tie
 
 abbrev entry : tie.After-clip-end → tie.Start
 entry c = c .before .before .before .before .before .before .before .before

@@ -1,7 +1,7 @@
--- `direct::contributes` meets its contract. Assumes nothing.
+-- `value::direct::contributes` meets its contract. Assumes nothing.
 use borrow.Author.Needs.{needs}
-use Rattle.direct.proofs.contributes.Statement.{statement}
-use Rattle.direct.proofs.contributes.Tie as tie
+use Rattle.value.proofs.direct.contributes.Statement.{statement}
+use Rattle.value.proofs.direct.contributes.Tie as tie
 
 blocked-at-requires : tie.Need-blocked-at-requires
 blocked-at-requires c κs = search needs
