@@ -1,11 +1,11 @@
 // The hash of a track that is too long to print: its changes are walked, and none is kept.
 use crate::lines::reply;
 use cell::spot::no_spot;
+use cell::step::entry::Entry;
 use definitions::Manifest;
 use gf::LEAST;
 use gf::MOST;
 use standing::Counts;
-use steps::entry::Entry;
 use track::entry::entry_at;
 use track::fill::Cursor;
 use track::fill::Filled;
@@ -18,7 +18,7 @@ ghost use Rattle.gf.specs.Key as Key;
 ghost use Rattle.laws.specs.cell.Keys.{entryAtKey};
 ghost use Rattle.laws.specs.cell.Unpacked.{setOf, samplesOf, Ready};
 ghost use Rattle.window.specs.neighbours.Tops.{TopsOf};
-ghost use Rattle.steps.specs.Entries.{entryIs};
+ghost use Rattle.cell.specs.step.Entries.{entryIs};
 ghost use Rattle.standing.specs.Standing.{Asked};
 ghost use Rattle.track.specs.Fills.{CursorIs, PageIs};
 

@@ -27,8 +27,8 @@ use Rattle.laws.proofs.cell.Keys.{NonePassed, cellPlaceAt, lastIn, endAt, end-k
 use Rattle.window.specs.declared.Bound.{Bound}
 use Rattle.window.specs.declared.Bound.the-variants.{At, Nothing}
 use Rattle.window.specs.Bounds.{UpperIs}
-use Rattle.steps.specs.declared.line.Line.{Line}
-use Rattle.steps.specs.Lines.{lineIs, placeOn}
+use Rattle.cell.specs.declared.step.line.Line.{Line}
+use Rattle.cell.specs.step.Lines.{lineIs, placeOn}
 use Rattle.cell.specs.EndKeys.{Numbered, endKey}
 
 module _ (set : ClipSet) (s : Samples) (S : SoundSet set) (A : SoundSamples s) (k top : ℕ) (K : Keys k top) (b : Bound) (U : UpperIs (boundaries set s (stage (ofKey k))) (ofKey k) b) where

@@ -34,8 +34,8 @@ use Rattle.window.specs.Bounds.{LowerIs, UpperIs, NeighboursAre}
 use Rattle.window.specs.Parts.{partOf}
 use Rattle.window.proofs.Parts.{ready-clip}
 use Rattle.window.specs.Windows.{ifOwn}
-use Rattle.steps.specs.declared.line.Line.{Line}
-use Rattle.steps.specs.Lines.{lineIs}
+use Rattle.cell.specs.declared.step.line.Line.{Line}
+use Rattle.cell.specs.step.Lines.{lineIs}
 use Rattle.window.specs.declared.neighbours.Window.{Window}
 use Rattle.window.specs.declared.neighbours.Near.{Near}
 use Rattle.window.specs.neighbours.Windowed.{samplesIn, windowTimes, windowSource, boundsOf}

@@ -5,3 +5,4 @@ pub mod Pieces
 pub mod EndKeys
 -- The spot of a walk
 pub mod Spots
+pub mod step

@@ -14,7 +14,7 @@ use Rattle.laws.specs.cell.Cells as Cells
 use Rattle.window.specs.declared.Bound.{Bound}
 use Rattle.window.specs.declared.Bound.the-variants.{At, Nothing}
 use Rattle.window.specs.Bounds.{UpperIs}
-use Rattle.steps.specs.Lines.{lineIs}
+use Rattle.cell.specs.step.Lines.{lineIs}
 use Rattle.cell.specs.declared.Cell.{Cell}
 use Rattle.cell.specs.declared.Cell.the-variants.{Constant, Reading}
 

@@ -4,13 +4,14 @@
 pub mod end;
 // The window that a walk is in.
 pub mod spot;
+pub mod step;
 
+use crate::step::line::Line;
+use crate::step::line::line_of;
 use definitions::Manifest;
 use definitions::Source;
 use definitions::StageTime;
 use spot::Spot;
-use steps::line::Line;
-use steps::line::line_of;
 use value::jump::is_jump;
 use value::windowed::source_in;
 use window::Bound;

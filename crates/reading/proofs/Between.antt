@@ -25,7 +25,7 @@ use Rattle.laws.proofs.cell.Keys.{none-passed}
 use Rattle.laws.specs.cell.Neighbours.{IsLower}
 use Rattle.laws.proofs.cell.Places.{keep-le-same}
 use Rattle.window.specs.Inverses.{onSegment}
-use Rattle.steps.specs.Lines.{placeOn}
+use Rattle.cell.specs.step.Lines.{placeOn}
 use Rattle.reading.specs.Readings.{readingAt}
 use Rattle.reading.specs.Passages.{lineOn, passedBy, passingAt, Passing, spanned, inverseKey, PassedAt}
 use Rattle.reading.proofs.PassagesLaws.{segment-fits, passing-lower}

@@ -18,8 +18,8 @@ use Rattle.laws.proofs.track.Steps.{Through, grows-once, falls-once, level-thro
 use Rattle.laws.specs.cell.Knots as Knots
 use Rattle.laws.proofs.cell.Tracks.{marked-fits, alike-same}
 use Rattle.window.proofs.Parts.{last-short}
-use Rattle.steps.specs.declared.line.Line.{Line}
-use Rattle.steps.specs.Lines.{lineIs, placeOn}
+use Rattle.cell.specs.declared.step.line.Line.{Line}
+use Rattle.cell.specs.step.Lines.{lineIs, placeOn}
 use Rattle.reading.specs.Readings.{Reads, Turns, entryAt, readingAt}
 use Rattle.reading.proofs.Walking.{Reaches}
 

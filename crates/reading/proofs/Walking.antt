@@ -19,8 +19,8 @@ use Rattle.laws.proofs.track.Laws.{changes-none, changes-still, changes-next, c
 use Rattle.laws.specs.track.Steps.{Level}
 use Rattle.laws.proofs.track.Steps.{StopAt, still-level, still-stop, change-stop}
 use Rattle.laws.specs.cell.Tracks.{entry-same}
-use Rattle.steps.specs.declared.entry.Entry as declared
-use Rattle.steps.specs.Entries.{entryIs}
+use Rattle.cell.specs.declared.step.entry.Entry as declared
+use Rattle.cell.specs.step.Entries.{entryIs}
 use Rattle.reading.specs.declared.walk.Went.{Went}
 use Rattle.reading.specs.Walks.{outputs, written, Room, changeFrom, Offered, changesIn, Stands, Walked}
 use Rattle.reading.proofs.Filling.{Long, written-none, written-one, written-long, written-join}

@@ -17,8 +17,8 @@ use Rattle.laws.specs.list.Every.{Every}
 use Rattle.laws.specs.cell.Keys.{Keys}
 use Rattle.window.specs.Inverses.{onSegment}
 use Rattle.window.specs.Near.{SoundSegment}
-use Rattle.steps.specs.declared.line.Line.{Line}
-use Rattle.steps.specs.declared.line.Line.the-variants as lines
+use Rattle.cell.specs.declared.step.line.Line.{Line}
+use Rattle.cell.specs.declared.step.line.Line.the-variants as lines
 use Rattle.reading.specs.declared.passing.Ahead.{Ahead}
 use Rattle.reading.specs.declared.passing.Ahead.the-variants.{At, Nothing}
 use Rattle.reading.specs.Readings.{Reads, readingAt}

@@ -11,8 +11,8 @@ use Rattle.definitions.specs.Track.{Entry, entryOf}
 use Rattle.laws.specs.list.Every.{Every}
 use Rattle.laws.specs.list.Places.{Fits, Ascending}
 use Rattle.laws.specs.track.Steps.{Grows, Falls}
-use Rattle.steps.specs.declared.line.Line.{Line}
-use Rattle.steps.specs.Lines.{placeOn}
+use Rattle.cell.specs.declared.step.line.Line.{Line}
+use Rattle.cell.specs.step.Lines.{placeOn}
 
 -- ---- what is read
 

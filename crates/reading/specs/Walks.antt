@@ -8,7 +8,7 @@ use lib.Ieee.{Float}
 use Rattle.definitions.specs.Track.{Entry, Change, changeTimes, alike, Outputs}
 use Rattle.laws.specs.track.Track as steps
 use Rattle.laws.specs.cell.Tracks.{entry-same, writtenChange}
-use Rattle.steps.specs.Entries.{entryIs}
+use Rattle.cell.specs.step.Entries.{entryIs}
 use Rattle.reading.specs.declared.walk.Went.{Went}
 
 -- ---- the outputs

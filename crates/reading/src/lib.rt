@@ -6,15 +6,15 @@ pub mod passing;
 // One change offered to the outputs, and where a walk stands.
 pub mod walk;
 
+use cell::step::entry::Entry;
+use cell::step::entry::entry_of;
+use cell::step::line::Line;
+use cell::step::line::along;
+use cell::step::line::place_on;
+use cell::step::next_step;
 use definitions::Answer;
 use laws::Next;
 use lists::near::last_at_most_near;
-use steps::entry::Entry;
-use steps::entry::entry_of;
-use steps::line::Line;
-use steps::line::along;
-use steps::line::place_on;
-use steps::next_step;
 use walk::Went;
 use walk::offer;
 ghost use mathlib.Core.Path.{_≡_};
@@ -23,8 +23,8 @@ ghost use lib.ListN.{length};
 ghost use Rattle.gf.specs.Key as Key;
 ghost use Rattle.laws.specs.list.Places.{Ascending};
 ghost use Rattle.laws.specs.cell.Keys.{Keys};
-ghost use Rattle.steps.specs.Lines.{placeOn};
-ghost use Rattle.steps.specs.Entries.{entryIs};
+ghost use Rattle.cell.specs.step.Lines.{placeOn};
+ghost use Rattle.cell.specs.step.Entries.{entryIs};
 ghost use Rattle.reading.specs.Readings.{Reads, Turns, entryAt, readingAt};
 ghost use Rattle.reading.specs.Walks.{outputs, Room, Walked};
 

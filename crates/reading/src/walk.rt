@@ -1,9 +1,9 @@
 // A walk over keys that writes changes while there are slots: one change that is offered, and where the walk stands.
-use steps::entry::Entry;
-use steps::entry::alike;
+use cell::step::entry::Entry;
+use cell::step::entry::alike;
 ghost use Prim.Native.Nat.{_≤_};
 ghost use Rattle.gf.specs.Key as Key;
-ghost use Rattle.steps.specs.Entries.{entryIs};
+ghost use Rattle.cell.specs.step.Entries.{entryIs};
 ghost use Rattle.reading.specs.Walks.{outputs, Room, Offered};
 
 // The key that is reached, the entry there, the slot behind the changes up to there, and whether the keys were all passed; else

@@ -6,8 +6,8 @@ use native.Mathlib.Omega.{arith}
 use lib.ListN.{length, take, drop}
 use lib.Ieee.{Float}
 use Rattle.definitions.specs.Samples.{clipBegin, clipEnd}
-use Rattle.steps.specs.declared.line.Line.{Line}
-use Rattle.steps.specs.Lines.{placeOn}
+use Rattle.cell.specs.declared.step.line.Line.{Line}
+use Rattle.cell.specs.step.Lines.{placeOn}
 use Rattle.reading.specs.Readings.{Turns, Reads}
 use Rattle.stretch.specs.Runs.{part, Run}
 

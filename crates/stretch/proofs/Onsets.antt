@@ -43,8 +43,8 @@ use Rattle.window.specs.Parts.{partOf}
 use Rattle.window.proofs.Parts.{last-short, ready-clip, ready-readable, ready-starts}
 use Rattle.window.specs.Windows.{ifOwn}
 use Rattle.window.proofs.nearest.Beside.{finite-number}
-use Rattle.steps.specs.declared.line.Line.{Line}
-use Rattle.steps.specs.Lines.{lineIs, placeOn}
+use Rattle.cell.specs.declared.step.line.Line.{Line}
+use Rattle.cell.specs.step.Lines.{lineIs, placeOn}
 use Rattle.window.specs.declared.neighbours.Window.{Window}
 use Rattle.window.specs.neighbours.Tops.{segmentOf}
 use Rattle.window.proofs.neighbours.TopsLaws.{segment-here}

@@ -48,8 +48,8 @@ use Rattle.window.specs.nearest.Nearest.{withNear, Searched}
 use Rattle.window.proofs.nearest.Nearest.{searched-none, searched-one, searched-then}
 use Rattle.window.specs.nearest.Beside.{Facing}
 use Rattle.window.proofs.nearest.Beside.{climb, last-reached}
-use Rattle.steps.specs.declared.line.Line.the-variants.{Plain}
-use Rattle.steps.specs.Lines.{placeOn}
+use Rattle.cell.specs.declared.step.line.Line.the-variants.{Plain}
+use Rattle.cell.specs.step.Lines.{placeOn}
 use Rattle.window.specs.declared.neighbours.Window.{Window}
 use Rattle.window.proofs.neighbours.TopsLaws.{no-tops}
 use Rattle.window.specs.neighbours.Windowed.{intervalOf, samplesIn, nextOf, startsOf, windowTimes, windowSource, Nearing}

@@ -33,8 +33,8 @@ use Rattle.laws.proofs.cell.Keys.{NonePassed, cellPlaceAt, sourceAtKey, cell-so
 use Rattle.laws.specs.cell.Unpacked.{Ready, setOf, samplesOf}
 use Rattle.window.proofs.Parts.{ready-readable, last-short}
 use Rattle.window.specs.declared.Bound.{Bound}
-use Rattle.steps.specs.declared.line.Line.{Line}
-use Rattle.steps.specs.Lines.{lineIs, placeOn}
+use Rattle.cell.specs.declared.step.line.Line.{Line}
+use Rattle.cell.specs.step.Lines.{lineIs, placeOn}
 use Rattle.reading.specs.Readings.{Turns, readingAt}
 use Rattle.value.specs.Says.{saysIn, Sayable}
 use Rattle.value.proofs.Says.{says-ready, value-in}

@@ -1,7 +1,7 @@
 -- A window of a set without knots: one cell reads it. Assumes nothing.
 use mathlib.Core.Bool.{cond}
 use lib.Dec.{ltb}
-use Rattle.steps.specs.declared.line.Line.the-variants.{Plain}
+use Rattle.cell.specs.declared.step.line.Line.the-variants.{Plain}
 use Rattle.window.specs.declared.neighbours.Window.{Window}
 use Rattle.cell.specs.declared.Cell.{Cell}
 use Rattle.cell.specs.declared.Cell.the-variants.{Constant, Reading}

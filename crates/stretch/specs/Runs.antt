@@ -14,9 +14,9 @@ use Rattle.definitions.specs.Track.{Entry}
 use Rattle.laws.specs.track.Laws.{Agree}
 use Rattle.laws.specs.cell.Keys.{Keys, entryAtKey}
 use Rattle.laws.specs.cell.Unpacked.{setOf, samplesOf}
-use Rattle.steps.specs.declared.line.Line.{Line}
-use Rattle.steps.specs.Lines.{placeOn}
-use Rattle.steps.specs.Entries.{entryIs}
+use Rattle.cell.specs.declared.step.line.Line.{Line}
+use Rattle.cell.specs.step.Lines.{placeOn}
+use Rattle.cell.specs.step.Entries.{entryIs}
 use Rattle.reading.specs.Readings.{Turns, Reads, readingAt}
 use Rattle.reading.specs.Passages.{passingAt, Passing}
 use Rattle.cell.specs.declared.Cell.{Cell}

@@ -2,14 +2,14 @@
 use crate::Stretch;
 use crate::Way;
 use cell::Cell;
+use cell::step::entry::Entry;
 use reading::fill_changes;
 use reading::passing::fill_passed;
 use reading::walk::Went;
-use steps::entry::Entry;
 use window::part::clip_begin;
 use window::part::clip_end;
 ghost use Rattle.laws.specs.cell.Keys.{Keys};
-ghost use Rattle.steps.specs.Entries.{entryIs};
+ghost use Rattle.cell.specs.step.Entries.{entryIs};
 ghost use Rattle.reading.specs.Walks.{outputs, Room, Walked};
 ghost use Rattle.stretch.specs.Runs.{Runs, Goes, saysOn, saysBy};
 

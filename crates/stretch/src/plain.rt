@@ -1,6 +1,6 @@
 // A window of a set without knots: the value is the direct one, so that one cell reads it up to the next start.
 use cell::Cell;
-use steps::line::Line;
+use cell::step::line::Line;
 use window::neighbours::Window;
 ghost use mathlib.Core.Path.{_≡_};
 ghost use mathlib.Core.Bool.{_&&_};

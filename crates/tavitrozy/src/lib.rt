@@ -1,5 +1,6 @@
 // The resolver for C and Rust callers: structs go by value, a slice as a pointer and a length, an enum
 // as a struct of numbers. Each call's contract is the operation's promise.
+use cell::step::entry::Entry;
 use definitions::Answer;
 use definitions::ClipTime;
 use definitions::Default;
@@ -14,7 +15,6 @@ use resolver::TimeReply;
 use resolver::UntimedReply;
 use resolver::ValueReply;
 use sdf::Counted;
-use steps::entry::Entry;
 use track::bake::Baked;
 use value::untimed::ValueState;
 ghost use mathlib.Core.Path.{_≡_};
@@ -24,7 +24,7 @@ ghost use Rattle.clip.specs.Holding.{manifest};
 ghost use Rattle.explicit.specs.Parsing.{explicitFields};
 ghost use Rattle.template.specs.Expanding.{templateFields};
 ghost use Rattle.normal_form.specs.Normalizes.{Normalizes};
-ghost use Rattle.steps.specs.Entries.{entryIs};
+ghost use Rattle.cell.specs.step.Entries.{entryIs};
 ghost use Rattle.track.specs.Bakes.{outputs, bakedReply};
 ghost use Rattle.track.specs.Held.{trackOfLists};
 ghost use Rattle.resolver.specs.State.{Made};

@@ -9,7 +9,7 @@ use Rattle.definitions.specs.declared.Manifest.{Manifest}
 use Rattle.definitions.specs.Track.{Outputs, slots}
 use Rattle.laws.specs.cell.Keys.{Keys, entryAtKey}
 use Rattle.laws.specs.cell.Unpacked.{setOf, samplesOf}
-use Rattle.steps.specs.Entries.{entryIs}
+use Rattle.cell.specs.step.Entries.{entryIs}
 use Rattle.reading.specs.Walks.{written}
 use Rattle.cell.specs.Spots.{SpotIs}
 use Rattle.stretch.specs.Changes.{changesOf}

@@ -1,15 +1,15 @@
 // The value at a key, as a track holds it.
+use cell::step::entry::Entry;
+use cell::step::entry::entry_of;
 use definitions::Manifest;
 use definitions::StageTime;
-use steps::entry::Entry;
-use steps::entry::entry_of;
 ghost use mathlib.Core.Path.{_≡_};
 ghost use Prim.Native.Nat.{_≤_};
 ghost use lib.ListN.{length};
 ghost use Rattle.gf.specs.Key as Key;
 ghost use Rattle.laws.specs.cell.Keys.{entryAtKey};
 ghost use Rattle.laws.specs.cell.Unpacked.{setOf, samplesOf, Ready};
-ghost use Rattle.steps.specs.Entries.{entryIs};
+ghost use Rattle.cell.specs.step.Entries.{entryIs};
 
 // The entry at the double with the key k.
 pub fn entry_at(

@@ -1,8 +1,8 @@
 // The walk over the changes of the value. It stops when its outputs are full and can go on later.
 use cell::spot::Spot;
+use cell::step::entry::Entry;
 use definitions::Manifest;
 use reading::walk::offer;
-use steps::entry::Entry;
 use stretch::fill::fill_in;
 use stretch::stretch_at;
 ghost use mathlib.Core.Path.{_≡_};

@@ -1,11 +1,11 @@
 // The held reading of a track that is lent as a head and three lists.
 use crate::fill::shortest;
-use steps::entry::Entry;
+use cell::step::entry::Entry;
 ghost use mathlib.Core.Path.{_≡_};
 ghost use mathlib.Core.Bool.{cond};
 ghost use lib.Ieee.{le};
 ghost use Rattle.definitions.specs.Track as Track;
-ghost use Rattle.steps.specs.Entries.{entryIs};
+ghost use Rattle.cell.specs.step.Entries.{entryIs};
 ghost use Rattle.track.specs.Held.{trackOfLists};
 
 // What is held with one change more.

@@ -7,8 +7,8 @@ use Rattle.definitions.specs.Track.{Entry, Outputs}
 use Rattle.laws.specs.track.Steps.{Level, StepAt, FirstStep}
 use Rattle.laws.specs.declared.Next.{Next}
 use Rattle.laws.specs.cell.Keys.{Keys}
-use Rattle.steps.specs.Lines.{placeOn}
-use Rattle.steps.specs.Entries.{entryIs}
+use Rattle.cell.specs.step.Lines.{placeOn}
+use Rattle.cell.specs.step.Entries.{entryIs}
 use Rattle.reading.specs.Readings.{Reads, entryAt, readingAt}
 use Rattle.reading.specs.Walks.{outputs, Room, Stands}
 use Rattle.reading.proofs.Readings.{turns-once, place-inside, place-slots, read-level, read-reaches}

@@ -3,7 +3,7 @@ use mathlib.Core.Path.{ap, _∙_}
 use borrow.Author.Needs.{needs}
 use Rattle.definitions.specs.Timing.{lastAtMost}
 use Rattle.laws.specs.cell.Knots as Knots
-use Rattle.steps.specs.Lines.{lineIs, placeOn}
+use Rattle.cell.specs.step.Lines.{lineIs, placeOn}
 use Rattle.reading.proofs.place_beside.Statement.{statement}
 use Rattle.reading.proofs.place_beside.Tie as tie
 

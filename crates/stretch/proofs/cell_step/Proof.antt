@@ -13,7 +13,7 @@ use Rattle.definitions.specs.Track.{entryOf}
 use Rattle.laws.specs.track.Laws.{Agree}
 use Rattle.laws.specs.cell.Keys.{Keys, entryAtKey}
 use Rattle.laws.specs.cell.Unpacked.{setOf, samplesOf}
-use Rattle.steps.specs.Entries.{entryIs}
+use Rattle.cell.specs.step.Entries.{entryIs}
 use Rattle.value.specs.Says.{saysIn, Sayable}
 use Rattle.value.proofs.Says.{ready-marks}
 use Rattle.cell.specs.Pieces.{PieceIs}

@@ -11,7 +11,7 @@ use Rattle.definitions.specs.Timing.{lastAtMost}
 use Rattle.definitions.specs.Track.{entryOf}
 use Rattle.laws.specs.cell.Keys.{entryAtKey}
 use Rattle.laws.specs.cell.Unpacked.{setOf, samplesOf}
-use Rattle.steps.specs.Entries.{entryIs}
+use Rattle.cell.specs.step.Entries.{entryIs}
 use Rattle.value.specs.Says.{saysIn, Sayable}
 use Rattle.value.proofs.Says.{ready-marks}
 use Rattle.value.specs.Handed.{WindowIs}

@@ -7,7 +7,7 @@ use lib.ListN.{length, take, drop}
 use lib.Ieee.{Float}
 use Rattle.definitions.specs.declared.Source.the-variants.{Sample}
 use Rattle.laws.specs.list.Places.{Ascending}
-use Rattle.steps.specs.Lines.{placeOn}
+use Rattle.cell.specs.step.Lines.{placeOn}
 use Rattle.cell.specs.declared.Cell.{Cell}
 use Rattle.stretch.specs.Runs.{part, Run, Runs, readOn}
 use borrow.Author.Needs.{needs}

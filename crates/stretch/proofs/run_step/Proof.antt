@@ -14,9 +14,9 @@ use Rattle.laws.specs.cell.Keys.{Keys}
 use Rattle.laws.specs.cell.Unpacked.{setOf, samplesOf}
 use Rattle.lists.specs.Segments.{segmentAt}
 use Rattle.window.proofs.Parts.{ready-readable}
-use Rattle.steps.specs.declared.line.Line.the-variants as Line
-use Rattle.steps.specs.Entries.{entryIs}
-use Rattle.steps.specs.Lines.{placeOn}
+use Rattle.cell.specs.declared.step.line.Line.the-variants as Line
+use Rattle.cell.specs.step.Entries.{entryIs}
+use Rattle.cell.specs.step.Lines.{placeOn}
 use Rattle.window.specs.neighbours.Tops.{segmentOf}
 use Rattle.window.specs.neighbours.Windowed.{samplesIn}
 use Rattle.reading.specs.Passages.{lineOn}

@@ -2,7 +2,7 @@
 use mathlib.Core.Path.{_≡_, ap, _∙_}
 use Rattle.definitions.specs.Timing.{lastAtMost}
 use Rattle.laws.specs.cell.Knots as Knots
-use Rattle.steps.specs.Lines.{lineIs, placeOn}
+use Rattle.cell.specs.step.Lines.{lineIs, placeOn}
 use Rattle.reading.specs.Readings.{entryAt}
 use Rattle.reading.proofs.Readings.{place-slots}
 use borrow.Author.Needs.{needs}

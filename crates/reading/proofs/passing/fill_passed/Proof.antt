@@ -7,7 +7,7 @@ use lib.Ieee.{Float}
 use Rattle.definitions.specs.declared.Knot.{Knot}
 use Rattle.definitions.specs.Track.{Entry, Outputs}
 use Rattle.window.specs.nearest.Turns.{isBeyond, Turn}
-use Rattle.steps.specs.Entries.{entryIs}
+use Rattle.cell.specs.step.Entries.{entryIs}
 use Rattle.reading.specs.declared.passing.Ahead.{Ahead}
 use Rattle.reading.specs.declared.passing.Ahead.the-variants.{Nothing}
 use Rattle.reading.specs.Passages.{passingAt, Passing, Passes, left, PassedAt, NextPassed}

@@ -3,7 +3,7 @@ use mathlib.Core.Path.{_≡_, sym, _∙_}
 use mathlib.Core.Bool.{false}
 use native.Mathlib.Omega.{arith}
 use Rattle.definitions.specs.Track.{Outputs, alike}
-use Rattle.steps.specs.Entries.{entryIs}
+use Rattle.cell.specs.step.Entries.{entryIs}
 use Rattle.reading.specs.Walks.{outputs}
 use Rattle.reading.proofs.Walking.{offered-none, offered-full, offered-one}
 use borrow.Author.Needs.{needs}

@@ -7,7 +7,7 @@ use native.Mathlib.Omega.{arith}
 use lib.ListN.{length}
 use lib.Ieee.{Float}
 use Rattle.definitions.specs.Track.{Entry}
-use Rattle.steps.specs.Entries.{entryIs}
+use Rattle.cell.specs.step.Entries.{entryIs}
 use Rattle.reading.specs.Readings.{readingAt}
 use Rattle.reading.specs.Walks.{outputs, Walked}
 use Rattle.reading.proofs.Walking.{stands-first, stands-level, walked-all}

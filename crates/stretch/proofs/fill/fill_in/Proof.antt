@@ -6,7 +6,7 @@ use native.Mathlib.Omega.{arith}
 use lib.ListN.{length}
 use lib.Ieee.{Float}
 use Rattle.definitions.specs.declared.Knot.{Knot}
-use Rattle.steps.specs.Entries.{entryIs}
+use Rattle.cell.specs.step.Entries.{entryIs}
 use Rattle.reading.specs.Walks.{outputs, Walked}
 use Rattle.reading.specs.Passages.{passingAt, Passing}
 use Rattle.stretch.specs.declared.Way.{Way}

@@ -11,7 +11,7 @@ use Rattle.definitions.specs.Samples.{Samples}
 use Rattle.definitions.specs.Track.{slots}
 use Rattle.laws.specs.cell.Keys.{entryAtKey}
 use Rattle.laws.specs.cell.Unpacked.{setOf, samplesOf}
-use Rattle.steps.specs.Entries.{entryIs}
+use Rattle.cell.specs.step.Entries.{entryIs}
 use Rattle.reading.proofs.Filling.{Long}
 use Rattle.stretch.specs.Changes.{changesOf}
 use Rattle.track.specs.declared.bake.Baked.{Baked}

@@ -9,7 +9,7 @@ use Rattle.definitions.specs.Samples.{Samples}
 use Rattle.definitions.specs.Track.{Entry, Outputs, slots}
 use Rattle.laws.specs.cell.Keys.{Keys, entryAtKey}
 use Rattle.laws.specs.cell.Unpacked.{setOf, samplesOf}
-use Rattle.steps.specs.Entries.{entryIs}
+use Rattle.cell.specs.step.Entries.{entryIs}
 use Rattle.reading.specs.Walks.{outputs, Room, Stands, Walked}
 use Rattle.reading.proofs.Filling.{Long}
 use Rattle.reading.proofs.Walking.{Reaches, stands-first, stands-long, stands-room, stands-next, stands-full, full, walked-all, walked-full, walked-agree, walked-wider, walked-join}

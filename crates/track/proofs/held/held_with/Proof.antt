@@ -1,7 +1,7 @@
 -- `held::held_with` meets its contract. Assumes nothing.
 use mathlib.Core.Path.{sym, ap}
 use mathlib.Core.Bool.{Bool, cond}
-use Rattle.steps.specs.Entries.{entryIs}
+use Rattle.cell.specs.step.Entries.{entryIs}
 use Rattle.track.proofs.held.held_with.Statement.{statement}
 use Rattle.track.proofs.held.held_with.Tie as tie
 

@@ -6,7 +6,7 @@ use native.Mathlib.Omega.{arith}
 use borrow.Author.Needs.{needs}
 use lib.ListN.{length, drop}
 use Rattle.definitions.specs.Track.{Entry, Change, readFrom, readTrack}
-use Rattle.steps.specs.Entries.{entryIs}
+use Rattle.cell.specs.step.Entries.{entryIs}
 use Rattle.track.specs.Held.{entry, changesOfLists}
 use Rattle.track.proofs.Fronts.{read-front, read-end}
 use Rattle.track.proofs.held.read_held.Statement.{statement}

@@ -1,0 +1,27 @@
+-- `line::place_on` meets its contract. Assumes nothing.
+use mathlib.Core.Path.{ap, _∙_}
+use borrow.Author.Needs.{needs}
+use Rattle.definitions.specs.Timing.{lastAtMost}
+use Rattle.laws.specs.cell.Knots as Knots
+use Rattle.cell.specs.step.Lines.{lineIs, placeOn}
+use Rattle.cell.proofs.step.line.place_on.Statement.{statement}
+use Rattle.cell.proofs.step.line.place_on.Tie as tie
+
+of-key-requires : tie.Need-of-key-requires
+of-key-requires c κs = search needs
+
+along-requires : tie.Need-along-requires
+along-requires c κs = search needs
+
+last-at-most-requires : tie.Need-last-at-most-requires
+last-at-most-requires c κs = search needs
+
+returns : tie.Need-returns
+unfolding placeOn
+returns c =
+    let a = c .before .before .before .before .args in
+    c .last-at-most .ensures
+    ∙ ap (lastAtMost (a .times .now)) (c .before .along .ensures ∙ ap (Knots.along (lineIs (a .line))) (c .before .before .of-key .ensures))
+
+pub place-on-spec : {M : Type 1} → statement M
+place-on-spec = tie.close (tie.spec of-key-requires along-requires last-at-most-requires returns)
