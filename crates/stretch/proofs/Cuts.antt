@@ -8,7 +8,7 @@ use lib.Ieee.{Float}
 use Rattle.definitions.specs.Samples.{clipBegin, clipEnd}
 use Rattle.cell.specs.declared.step.line.Line.{Line}
 use Rattle.cell.specs.step.Lines.{placeOn}
-use Rattle.reading.specs.Readings.{Turns, Reads}
+use Rattle.run.specs.Readings.{Turns, Reads}
 use Rattle.stretch.specs.Runs.{part, Run}
 
 -- what is cut out from b to e

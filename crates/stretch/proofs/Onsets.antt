@@ -49,9 +49,9 @@ use Rattle.window.specs.declared.neighbours.Window.{Window}
 use Rattle.window.specs.neighbours.Tops.{segmentOf}
 use Rattle.window.proofs.neighbours.TopsLaws.{segment-here}
 use Rattle.window.specs.neighbours.Windowed.{samplesIn, windowTimes, windowSource}
-use Rattle.reading.specs.Readings.{Reads, readingAt}
-use Rattle.reading.specs.Passages.{lineOn, passedBy, passingAt, Passing}
-use Rattle.reading.proofs.PassagesLaws.{passing-lower}
+use Rattle.run.specs.Readings.{Reads, readingAt}
+use Rattle.run.specs.Passages.{lineOn, passedBy, passingAt, Passing}
+use Rattle.run.proofs.PassagesLaws.{passing-lower}
 use Rattle.value.specs.ClipTimes.{OnSegment}
 use Rattle.value.proofs.ClipTimes.{on-segment}
 use Rattle.value.specs.Handed.{WindowIs}

@@ -35,7 +35,7 @@ use Rattle.window.proofs.Parts.{ready-readable, last-short}
 use Rattle.window.specs.declared.Bound.{Bound}
 use Rattle.cell.specs.declared.step.line.Line.{Line}
 use Rattle.cell.specs.step.Lines.{lineIs, placeOn}
-use Rattle.reading.specs.Readings.{Turns, readingAt}
+use Rattle.run.specs.Readings.{Turns, readingAt}
 use Rattle.value.specs.Says.{saysIn, Sayable}
 use Rattle.value.proofs.Says.{says-ready, value-in}
 use Rattle.cell.specs.declared.Cell.{Cell}

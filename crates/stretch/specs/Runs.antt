@@ -17,8 +17,8 @@ use Rattle.laws.specs.cell.Unpacked.{setOf, samplesOf}
 use Rattle.cell.specs.declared.step.line.Line.{Line}
 use Rattle.cell.specs.step.Lines.{placeOn}
 use Rattle.cell.specs.step.Entries.{entryIs}
-use Rattle.reading.specs.Readings.{Turns, Reads, readingAt}
-use Rattle.reading.specs.Passages.{passingAt, Passing}
+use Rattle.run.specs.Readings.{Turns, Reads, readingAt}
+use Rattle.run.specs.Passages.{passingAt, Passing}
 use Rattle.cell.specs.declared.Cell.{Cell}
 use Rattle.cell.specs.declared.Cell.the-variants.{Constant, Reading}
 use Rattle.cell.specs.Spots.{SpotIs}

@@ -3,14 +3,14 @@ use crate::Stretch;
 use crate::Way;
 use cell::Cell;
 use cell::step::entry::Entry;
-use reading::fill_changes;
-use reading::passing::fill_passed;
-use reading::walk::Went;
+use run::fill_changes;
+use run::passing::fill_passed;
+use run::walk::Went;
 use window::part::clip_begin;
 use window::part::clip_end;
 ghost use Rattle.laws.specs.cell.Keys.{Keys};
 ghost use Rattle.cell.specs.step.Entries.{entryIs};
-ghost use Rattle.reading.specs.Walks.{outputs, Room, Walked};
+ghost use Rattle.run.specs.Walks.{outputs, Room, Walked};
 ghost use Rattle.stretch.specs.Runs.{Runs, Goes, saysOn, saysBy};
 
 // Writes the changes above the key k and up to hi in a cell that says `here` at k, from slot n on.

@@ -16,7 +16,7 @@ use Rattle.definitions.specs.Track.{Entry, Change, changeTimes, Outputs, slots,
 use Rattle.laws.specs.track.Track as steps
 use Rattle.laws.specs.cell.Keys.{entryAtKey}
 use Rattle.laws.specs.cell.Tracks.{writtenChange}
-use Rattle.reading.specs.Walks.{writtenFrom, written}
+use Rattle.run.specs.Walks.{writtenFrom, written}
 use Rattle.stretch.specs.Changes.{changesOf}
 use Rattle.track.specs.Bakes.{outputs, trackOf, BakeIs}
 use Rattle.track.specs.Fills.{copied}

@@ -18,10 +18,10 @@ use Rattle.laws.specs.cell.Keys.{Keys, entryAtKey}
 use Rattle.laws.proofs.cell.Tracks.{SoundValues, entries-alike}
 use Rattle.laws.specs.cell.Tracks.{entry-same}
 use Rattle.laws.specs.cell.Unpacked.{setOf, samplesOf}
-use Rattle.reading.specs.declared.walk.Went.{Went}
-use Rattle.reading.specs.Walks.{outputs, written, Room, Walked}
-use Rattle.reading.proofs.Filling.{Long}
-use Rattle.reading.proofs.Walking.{Reaches}
+use Rattle.run.specs.declared.walk.Went.{Went}
+use Rattle.run.specs.Walks.{outputs, written, Room, Walked}
+use Rattle.run.proofs.Filling.{Long}
+use Rattle.run.proofs.Walking.{Reaches}
 use Rattle.cell.specs.declared.spot.Spot.{Spot}
 use Rattle.cell.specs.Spots.{SpotIs}
 use Rattle.stretch.specs.Changes.{changesOf}

@@ -10,7 +10,7 @@ use Rattle.definitions.specs.Track.{Outputs, slots}
 use Rattle.laws.specs.cell.Keys.{Keys, entryAtKey}
 use Rattle.laws.specs.cell.Unpacked.{setOf, samplesOf}
 use Rattle.cell.specs.step.Entries.{entryIs}
-use Rattle.reading.specs.Walks.{written}
+use Rattle.run.specs.Walks.{written}
 use Rattle.cell.specs.Spots.{SpotIs}
 use Rattle.stretch.specs.Changes.{changesOf}
 use Rattle.track.specs.declared.fill.Cursor.{Cursor}

@@ -19,7 +19,7 @@ ghost use Rattle.gf.specs.Key as Key;
 ghost use Rattle.definitions.specs.Track.{slots};
 ghost use Rattle.laws.specs.cell.Unpacked.{setOf, samplesOf, Ready};
 ghost use Rattle.window.specs.neighbours.Tops.{TopsOf};
-ghost use Rattle.reading.specs.Walks.{Room};
+ghost use Rattle.run.specs.Walks.{Room};
 ghost use Rattle.track.specs.Bakes.{outputs, BakeIs};
 ghost use Rattle.track.specs.Fills.{CursorIs, copied};
 

@@ -2,14 +2,14 @@
 use cell::spot::Spot;
 use cell::step::entry::Entry;
 use definitions::Manifest;
-use reading::walk::offer;
+use run::walk::offer;
 use stretch::fill::fill_in;
 use stretch::stretch_at;
 ghost use mathlib.Core.Path.{_≡_};
 ghost use Prim.Native.Nat.{min};
 ghost use Rattle.laws.specs.cell.Unpacked.{Ready};
 ghost use Rattle.window.specs.neighbours.Tops.{TopsOf};
-ghost use Rattle.reading.specs.Walks.{outputs};
+ghost use Rattle.run.specs.Walks.{outputs};
 ghost use Rattle.track.specs.Fills.{CursorIs, FillIs};
 
 // The key that a walk has reached, the entry there, and where its last search ended.

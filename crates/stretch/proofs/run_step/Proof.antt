@@ -19,8 +19,8 @@ use Rattle.cell.specs.step.Entries.{entryIs}
 use Rattle.cell.specs.step.Lines.{placeOn}
 use Rattle.window.specs.neighbours.Tops.{segmentOf}
 use Rattle.window.specs.neighbours.Windowed.{samplesIn}
-use Rattle.reading.specs.Passages.{lineOn}
-use Rattle.reading.specs.Readings.{Reads, entryAt, readingAt}
+use Rattle.run.specs.Passages.{lineOn}
+use Rattle.run.specs.Readings.{Reads, entryAt, readingAt}
 use Rattle.value.specs.Handed.{WindowIs}
 use Rattle.value.specs.Passes.{Onset}
 use Rattle.value.proofs.Passes.{nh}

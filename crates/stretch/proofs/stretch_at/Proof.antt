@@ -14,7 +14,7 @@ use Rattle.laws.proofs.cell.Every.{both-l, both-r}
 use Rattle.value.proofs.Handed.{window-lent, window-nears}
 use Rattle.cell.specs.Spots.{SpotAt}
 use Rattle.cell.proofs.Lent.{spot-window}
-use Rattle.onset.specs.Begins.{OnsetIs}
+use Rattle.run.specs.begin.Begins.{OnsetIs}
 use Rattle.stretch.proofs.Onsets.{window-least}
 use borrow.Author.Needs.{needs}
 use Rattle.stretch.proofs.stretch_at.Statement.{statement}

@@ -8,9 +8,9 @@ use lib.ListN.{length}
 use lib.Ieee.{Float}
 use Rattle.definitions.specs.Track.{Entry}
 use Rattle.cell.specs.step.Entries.{entryIs}
-use Rattle.reading.specs.Readings.{readingAt}
-use Rattle.reading.specs.Walks.{outputs, Walked}
-use Rattle.reading.proofs.Walking.{stands-first, stands-level, walked-all}
+use Rattle.run.specs.Readings.{readingAt}
+use Rattle.run.specs.Walks.{outputs, Walked}
+use Rattle.run.proofs.Walking.{stands-first, stands-level, walked-all}
 use Rattle.cell.specs.declared.Cell.{Cell}
 use Rattle.stretch.specs.Runs.{Run, Runs, saysOn}
 use Rattle.stretch.proofs.Cuts.{uncut, cut-reads, cut-turns, cut-inside}

@@ -7,8 +7,8 @@ use lib.ListN.{length}
 use lib.Ieee.{Float}
 use Rattle.definitions.specs.declared.Knot.{Knot}
 use Rattle.cell.specs.step.Entries.{entryIs}
-use Rattle.reading.specs.Walks.{outputs, Walked}
-use Rattle.reading.specs.Passages.{passingAt, Passing}
+use Rattle.run.specs.Walks.{outputs, Walked}
+use Rattle.run.specs.Passages.{passingAt, Passing}
 use Rattle.stretch.specs.declared.Way.{Way}
 use Rattle.stretch.specs.Runs.{PastRun, Goes, saysBy}
 use Rattle.stretch.proofs.Cuts.{uncut, recut}

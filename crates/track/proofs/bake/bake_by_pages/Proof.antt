@@ -12,7 +12,7 @@ use Rattle.definitions.specs.Track.{slots}
 use Rattle.laws.specs.cell.Keys.{entryAtKey}
 use Rattle.laws.specs.cell.Unpacked.{setOf, samplesOf}
 use Rattle.cell.specs.step.Entries.{entryIs}
-use Rattle.reading.proofs.Filling.{Long}
+use Rattle.run.proofs.Filling.{Long}
 use Rattle.stretch.specs.Changes.{changesOf}
 use Rattle.track.specs.declared.bake.Baked.{Baked}
 use Rattle.track.specs.Bakes.{outputs, BakeIs}

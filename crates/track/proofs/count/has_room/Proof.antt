@@ -13,7 +13,7 @@ use Rattle.laws.specs.cell.Tracks.{entry-same}
 use Rattle.laws.specs.cell.Unpacked.{setOf, samplesOf}
 use Rattle.stretch.specs.Changes.{changesOf}
 use Rattle.track.specs.Fills.{CursorIs, PageIs}
-use Rattle.reading.proofs.Filling.{Long}
+use Rattle.run.proofs.Filling.{Long}
 use Rattle.track.specs.Bakes.{outputs}
 use Rattle.track.proofs.Walks.{split-length, paged, slots-long}
 use Rattle.track.proofs.count.has_room.Statement.{statement}

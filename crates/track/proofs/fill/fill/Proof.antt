@@ -10,9 +10,9 @@ use Rattle.definitions.specs.Track.{Entry, Outputs, slots}
 use Rattle.laws.specs.cell.Keys.{Keys, entryAtKey}
 use Rattle.laws.specs.cell.Unpacked.{setOf, samplesOf}
 use Rattle.cell.specs.step.Entries.{entryIs}
-use Rattle.reading.specs.Walks.{outputs, Room, Stands, Walked}
-use Rattle.reading.proofs.Filling.{Long}
-use Rattle.reading.proofs.Walking.{Reaches, stands-first, stands-long, stands-room, stands-next, stands-full, full, walked-all, walked-full, walked-agree, walked-wider, walked-join}
+use Rattle.run.specs.Walks.{outputs, Room, Stands, Walked}
+use Rattle.run.proofs.Filling.{Long}
+use Rattle.run.proofs.Walking.{Reaches, stands-first, stands-long, stands-room, stands-next, stands-full, full, walked-all, walked-full, walked-agree, walked-wider, walked-join}
 use Rattle.cell.specs.Spots.{SpotIs}
 use Rattle.cell.proofs.Lent.{sound, samples, numbers}
 use Rattle.track.proofs.Walks.{next-key, slots-room, slots-is, filled}

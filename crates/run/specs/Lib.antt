@@ -1,0 +1,8 @@
+-- What the contracts of this crate cite, and the laws that its proofs share.
+-- A clip's samples read along a line
+pub mod Readings
+-- A run of samples passed in one segment
+pub mod Passages
+-- A walk that writes changes while there are slots
+pub mod Walks
+pub mod begin

@@ -1,0 +1,36 @@
+-- Where a run of samples in one segment begins, as the program holds it. Assumes nothing.
+use mathlib.Core.List.{List}
+use Prim.Native.Nat.{ℕ, _+_, _-_, _<_}
+use lib.Dec.{T}
+use lib.ListN.{length, getD}
+use lib.Ieee.{Float, nan, lt, le}
+use Rattle.definitions.specs.declared.Knot.{Knot}
+use Rattle.window.specs.declared.Bound.{Bound}
+use Rattle.window.specs.declared.Bound.the-variants as Bounds
+use Rattle.window.specs.Bounds.{In}
+use Rattle.window.specs.Inverses.{onSegment}
+use Rattle.window.specs.declared.neighbours.Window.{Window}
+use Rattle.window.specs.neighbours.Tops.{segmentOf}
+use Rattle.window.specs.neighbours.Windowed.{samplesIn}
+use Rattle.value.specs.Passes as Passes
+use Rattle.run.specs.declared.begin.Onset.{Onset}
+use Rattle.run.specs.declared.begin.Onset.the-variants.{At, Nothing}
+
+-- an inverse time of the segment below a time, if one is said
+abbrev pub BeforeIs : List Float → Knot × Knot → Float → Bound → Type 0
+BeforeIs cs q ceil (Bounds.At h) = In h (onSegment cs q) × T (lt h ceil)
+BeforeIs cs q ceil Bounds.Nothing = Unit {0}
+
+-- and one of the segment from the knot at i on, below `max` and below the next knot
+abbrev pub LastIs : List Float → List Float → List Float → ℕ → Float → Bound → Type 0
+LastIs xs ys cs i max (Bounds.At h) = In h (onSegment cs (segmentOf xs ys i)) × T (lt h max) × T (lt h (getD xs (i + 1) nan))
+LastIs xs ys cs i max Bounds.Nothing = Unit {0}
+
+-- no inverse time of the segments before the knot at i is above l
+abbrev pub PastTops : List Float → ℕ → Float → Type 0
+PastTops tops i l = 0 < i → (i - 1 < length tops) × T (le (getD tops (i - 1) nan) l)
+
+-- the run that begins at t, if one is said
+abbrev pub OnsetIs : List Float → List Float → List Float → List Float → Window → Float → Onset → Type 0
+OnsetIs xs ys tops times w t (At i l h n) = (w .begin < w .end) × Passes.Onset xs ys tops (samplesIn times w) w t i l h
+OnsetIs xs ys tops times w t Nothing = Unit {0}
