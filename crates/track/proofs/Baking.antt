@@ -17,7 +17,7 @@ use Rattle.laws.specs.track.Track as steps
 use Rattle.laws.specs.cell.Keys.{entryAtKey}
 use Rattle.laws.specs.cell.Tracks.{writtenChange}
 use Rattle.run.specs.Walks.{writtenFrom, written}
-use Rattle.stretch.specs.Changes.{changesOf}
+use Rattle.track.specs.span.Changes.{changesOf}
 use Rattle.track.specs.Bakes.{outputs, trackOf, BakeIs}
 use Rattle.track.specs.Fills.{copied}
 

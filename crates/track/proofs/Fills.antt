@@ -9,7 +9,7 @@ use Rattle.laws.proofs.track.Laws.{changes-split}
 use Rattle.laws.specs.cell.Keys.{entryAtKey}
 use Rattle.laws.specs.cell.Tracks.{entry-same}
 use Rattle.laws.specs.cell.Unpacked.{setOf, samplesOf}
-use Rattle.stretch.specs.Changes.{changesOf}
+use Rattle.track.specs.span.Changes.{changesOf}
 use Rattle.track.specs.declared.fill.Filled.{Filled}
 use Rattle.track.specs.Fills.{PassedTo}
 

@@ -24,7 +24,7 @@ use Rattle.run.proofs.Filling.{Long}
 use Rattle.run.proofs.Walking.{Reaches}
 use Rattle.cell.specs.declared.spot.Spot.{Spot}
 use Rattle.cell.specs.Spots.{SpotIs}
-use Rattle.stretch.specs.Changes.{changesOf}
+use Rattle.track.specs.span.Changes.{changesOf}
 use Rattle.track.specs.declared.fill.Filled.{Filled}
 use Rattle.track.specs.Fills.{PageIs, FillIs}
 use Rattle.track.proofs.Fills.{passed-length}

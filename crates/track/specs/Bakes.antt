@@ -12,7 +12,7 @@ use Rattle.definitions.specs.Track.{Track, Outputs, slots}
 use Rattle.definitions.specs.Calls as Calls
 use Rattle.laws.specs.cell.Keys.{entryAtKey}
 use Rattle.laws.specs.cell.Tracks.{writtenTrack}
-use Rattle.stretch.specs.Changes.{changesOf}
+use Rattle.track.specs.span.Changes.{changesOf}
 use Rattle.track.specs.declared.bake.Baked.{Baked}
 
 -- ---- the bake

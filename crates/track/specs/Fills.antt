@@ -12,7 +12,7 @@ use Rattle.laws.specs.cell.Unpacked.{setOf, samplesOf}
 use Rattle.cell.specs.step.Entries.{entryIs}
 use Rattle.run.specs.Walks.{written}
 use Rattle.cell.specs.Spots.{SpotIs}
-use Rattle.stretch.specs.Changes.{changesOf}
+use Rattle.track.specs.span.Changes.{changesOf}
 use Rattle.track.specs.declared.fill.Cursor.{Cursor}
 use Rattle.track.specs.declared.fill.Filled.{Filled}
 

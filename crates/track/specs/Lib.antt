@@ -5,3 +5,4 @@ pub mod Bakes
 pub mod Fills
 -- A track as three lists
 pub mod Held
+pub mod span

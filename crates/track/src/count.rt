@@ -9,7 +9,7 @@ ghost use lib.ListN.{length};
 ghost use Rattle.definitions.specs.Track.{slots};
 ghost use Rattle.laws.specs.cell.Unpacked.{setOf, samplesOf, Ready};
 ghost use Rattle.window.specs.neighbours.Tops.{TopsOf};
-ghost use Rattle.stretch.specs.Changes.{changesOf};
+ghost use Rattle.track.specs.span.Changes.{changesOf};
 ghost use Rattle.track.specs.Bakes.{outputs};
 ghost use Rattle.track.specs.Fills.{CursorIs};
 

@@ -1,10 +1,10 @@
 // The walk over the changes of the value. It stops when its outputs are full and can go on later.
+use crate::span::fill::fill_in;
+use crate::span::stretch_at;
 use cell::spot::Spot;
 use cell::step::entry::Entry;
 use definitions::Manifest;
 use run::walk::offer;
-use stretch::fill::fill_in;
-use stretch::stretch_at;
 ghost use mathlib.Core.Path.{_≡_};
 ghost use Prim.Native.Nat.{min};
 ghost use Rattle.laws.specs.cell.Unpacked.{Ready};

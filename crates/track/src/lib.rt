@@ -12,3 +12,4 @@ mod copying;
 pub mod bake;
 // The held reading.
 pub mod held;
+pub mod span;

@@ -13,7 +13,7 @@ use Rattle.laws.specs.cell.Keys.{entryAtKey}
 use Rattle.laws.specs.cell.Unpacked.{setOf, samplesOf}
 use Rattle.cell.specs.step.Entries.{entryIs}
 use Rattle.run.proofs.Filling.{Long}
-use Rattle.stretch.specs.Changes.{changesOf}
+use Rattle.track.specs.span.Changes.{changesOf}
 use Rattle.track.specs.declared.bake.Baked.{Baked}
 use Rattle.track.specs.Bakes.{outputs, BakeIs}
 use Rattle.track.proofs.Walks.{slots-is, slots-long, room-of, filled-total, filled-done, filled-all}

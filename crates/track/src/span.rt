@@ -1,0 +1,329 @@
+// The stretch of keys from a key on that lie in its cell or in a run of samples, and what is said at its beginning.
+
+// The changes of one stretch, written while there is room.
+pub mod fill;
+// The cell of a window without knots.
+pub mod plain;
+
+use cell::Cell;
+use cell::end::end_key;
+use cell::end::lesser;
+use cell::piece_at;
+use cell::spot::Spot;
+use cell::spot::spot_at;
+use cell::step::entry::Entry;
+use cell::step::entry::entry_of;
+use cell::step::line::Line;
+use cell::step::line::place_on;
+use definitions::Manifest;
+use definitions::Segment;
+use definitions::Source;
+use lists::segment::segment_at;
+use plain::is_plain;
+use plain::plain_cell;
+use run::begin::Onset;
+use run::begin::onset_at;
+use run::entry_of_sample;
+use value::value::says;
+use window::part::clip_begin;
+use window::part::clip_end;
+ghost use mathlib.Core.Path.{_≡_};
+ghost use Prim.Native.Nat.{_<_};
+ghost use lib.ListN.{length};
+ghost use Rattle.gf.specs.Key.{ofKey};
+ghost use Rattle.laws.specs.cell.Keys.{Keys};
+ghost use Rattle.laws.specs.cell.Unpacked.{Ready};
+ghost use Rattle.window.specs.neighbours.Tops.{TopsOf};
+ghost use Rattle.window.specs.neighbours.Windowed.{samplesIn};
+ghost use Rattle.value.specs.Passes as Passes;
+ghost use Rattle.cell.specs.Spots.{SpotIs, SpotAt};
+ghost use Rattle.track.specs.span.Runs.{Runs, readOn, StepIs};
+
+// How the value goes on: within a cell, or past the samples of a clip from the lower neighbour on where the run begins, in
+// one segment and near a sample's place.
+pub enum Way {
+    Within(Cell),
+    Past(u64, f64, Segment, usize),
+}
+
+// The way from a key on, what it says there, and its last key up to a top.
+pub struct Stretch {
+    pub way: Way,
+    pub here: Entry,
+    pub hi: u64,
+}
+
+// A stretch, and the spot of the walk in it.
+pub struct Step {
+    pub stretch: Stretch,
+    pub spot: Spot,
+}
+
+// What the cell reads at the key k.
+fn read_on(
+    times: &[f64],
+    values: &[f64],
+    marks: &[u8],
+    ends: &[u64],
+    cell: Cell,
+    k: u64,
+    hi: u64,
+) -> Source
+    requires { ⌜ Keys k hi ⌝ }
+    requires { ⌜ Runs (now times) (now values) (now marks) (now ends) cell k hi ⌝ }
+    ensures { λ r. ⌜ r ≡ readOn (now (times .entry)) (now (ends .entry)) cell k ⌝ }
+{
+    match cell {
+        Cell::Constant(source) => source,
+        Cell::Reading(clip, line) => {
+            let a = clip_begin(ends, clip);
+            let b = clip_end(ends, clip);
+            Source::Sample(clip, place_on(&times[a..b], line, k) as u64)
+        }
+    }
+}
+
+// The stretch from the key k on in its cell. The spot is that of k.
+fn cell_step(
+    starts: &[f64],
+    clips: &[u64],
+    xs: &[f64],
+    ys: &[f64],
+    blocks: &[f64],
+    m: Manifest,
+    times: &[f64],
+    values: &[f64],
+    marks: &[u8],
+    ends: &[u64],
+    tops: &[f64],
+    at: Spot,
+    k: u64,
+    top: u64,
+) -> Step
+    requires { ⌜ Ready (now starts) (now clips) (now xs) (now ys) (now blocks) m (now times) (now values) (now marks) (now ends) ⌝ }
+    requires { ⌜ TopsOf (now xs) (now ys) (now tops) ⌝ }
+    requires { ⌜ SpotAt (now starts) (now clips) (now xs) (now ys) (now blocks) m (now times) (now values) (now marks) (now ends) (ofKey k) (at .p) (at .w) ⌝ }
+    requires { ⌜ Keys k top ⌝ }
+    ensures { λ r. ⌜ StepIs (now (starts .entry)) (now (clips .entry)) (now (xs .entry)) (now (ys .entry)) (now (blocks .entry)) m (now (times .entry)) (now (values .entry)) (now (marks .entry)) (now (ends .entry)) k top r ⌝ }
+{
+    let t = gf::of_key(k);
+    let piece = piece_at(
+        starts,
+        clips,
+        xs,
+        ys,
+        blocks,
+        m,
+        times,
+        values,
+        marks,
+        ends,
+        tops,
+        at,
+        t,
+    );
+    let cell = piece.cell;
+    let end = piece.end;
+    let e = end_key(end);
+    let hi = lesser(top, e - 1);
+    let source = read_on(times, values, marks, ends, cell, k, hi);
+    let here = entry_of(says(m, times, values, marks, ends, source));
+    let way = Way::Within(cell);
+    let stretch = Stretch { way, here, hi };
+    let w = at.w;
+    let reached = Spot {
+        p: at.p,
+        w,
+        knot: piece.knot,
+        sample: piece.sample,
+    };
+    Step {
+        stretch,
+        spot: reached,
+    }
+}
+
+// The stretch from the key k on in a window of a set without knots: to the next start.
+fn plain_step(
+    starts: &[f64],
+    clips: &[u64],
+    xs: &[f64],
+    ys: &[f64],
+    blocks: &[f64],
+    m: Manifest,
+    times: &[f64],
+    values: &[f64],
+    marks: &[u8],
+    ends: &[u64],
+    at: Spot,
+    k: u64,
+    top: u64,
+) -> Step
+    requires { ⌜ Ready (now starts) (now clips) (now xs) (now ys) (now blocks) m (now times) (now values) (now marks) (now ends) ⌝ }
+    requires { ⌜ SpotAt (now starts) (now clips) (now xs) (now ys) (now blocks) m (now times) (now values) (now marks) (now ends) (ofKey k) (at .p) (at .w) ⌝ }
+    requires { ⌜ Keys k top ⌝ }
+    requires { ⌜ length (now xs) ≡ 0 ⌝ }
+    requires { ⌜ 1 < length (now starts) ⌝ }
+    ensures { λ r. ⌜ StepIs (now (starts .entry)) (now (clips .entry)) (now (xs .entry)) (now (ys .entry)) (now (blocks .entry)) m (now (times .entry)) (now (values .entry)) (now (marks .entry)) (now (ends .entry)) k top r ⌝ }
+{
+    let w = at.w;
+    let cell = plain_cell(w);
+    let next = gf::key(w.max);
+    let hi = lesser(top, next - 1);
+    let read = read_on(times, values, marks, ends, cell, k, hi);
+    let here = entry_of(says(m, times, values, marks, ends, read));
+    let way = Way::Within(cell);
+    let stretch = Stretch { way, here, hi };
+    Step { stretch, spot: at }
+}
+
+// The stretch from the key k on past the samples of the segment from the knot at i on, up to the inverse time h. The lower
+// neighbour is l, and n is near the first sample.
+fn run_step(
+    starts: &[f64],
+    clips: &[u64],
+    xs: &[f64],
+    ys: &[f64],
+    blocks: &[f64],
+    m: Manifest,
+    times: &[f64],
+    values: &[f64],
+    marks: &[u8],
+    ends: &[u64],
+    tops: &[f64],
+    at: Spot,
+    i: usize,
+    l: f64,
+    h: f64,
+    n: usize,
+    k: u64,
+    top: u64,
+) -> Step
+    requires { ⌜ Ready (now starts) (now clips) (now xs) (now ys) (now blocks) m (now times) (now values) (now marks) (now ends) ⌝ }
+    requires { ⌜ SpotAt (now starts) (now clips) (now xs) (now ys) (now blocks) m (now times) (now values) (now marks) (now ends) (ofKey k) (at .p) (at .w) ⌝ }
+    requires { ⌜ 1 < length (now starts) ⌝ }
+    requires { ⌜ at .w .begin < at .w .end ⌝ ∗ ⌜ Passes.Onset (now xs) (now ys) (now tops) (samplesIn (now times) (at .w)) (at .w) (ofKey k) i l h ⌝ }
+    requires { ⌜ Keys k top ⌝ }
+    ensures { λ r. ⌜ StepIs (now (starts .entry)) (now (clips .entry)) (now (xs .entry)) (now (ys .entry)) (now (blocks .entry)) m (now (times .entry)) (now (values .entry)) (now (marks .entry)) (now (ends .entry)) k top r ⌝ }
+{
+    let w = at.w;
+    let s = segment_at(xs, ys, i);
+    let past = gf::key(h);
+    let hi = lesser(top, past - 1);
+    let a = clip_begin(ends, w.clip);
+    let b = clip_end(ends, w.clip);
+    let line = Line::Segment(s);
+    let place = place_on(&times[a..b], line, gf::key(l));
+    let here = entry_of_sample(&values[a..b], &marks[a..b], place);
+    let way = Way::Past(w.clip, l, s, n);
+    let stretch = Stretch { way, here, hi };
+    let reached = Spot {
+        p: at.p,
+        w,
+        knot: i,
+        sample: n,
+    };
+    Step {
+        stretch,
+        spot: reached,
+    }
+}
+
+// The stretch from the key k on, and the spot of the walk there: with several starts a run of samples, if one begins at k.
+pub fn stretch_at(
+    starts: &[f64],
+    clips: &[u64],
+    xs: &[f64],
+    ys: &[f64],
+    blocks: &[f64],
+    m: Manifest,
+    times: &[f64],
+    values: &[f64],
+    marks: &[u8],
+    ends: &[u64],
+    tops: &[f64],
+    spot: Spot,
+    k: u64,
+    top: u64,
+) -> Step
+    requires { ⌜ Ready (now starts) (now clips) (now xs) (now ys) (now blocks) m (now times) (now values) (now marks) (now ends) ⌝ }
+    requires { ⌜ TopsOf (now xs) (now ys) (now tops) ⌝ }
+    requires { ⌜ SpotIs (now starts) (now clips) (now xs) (now ys) (now blocks) m (now times) (now values) (now marks) (now ends) (spot .p) (spot .w) ⌝ }
+    requires { ⌜ Keys k top ⌝ }
+    ensures { λ r. ⌜ StepIs (now (starts .entry)) (now (clips .entry)) (now (xs .entry)) (now (ys .entry)) (now (blocks .entry)) m (now (times .entry)) (now (values .entry)) (now (marks .entry)) (now (ends .entry)) k top r ⌝ }
+{
+    let t = gf::of_key(k);
+    let at = spot_at(
+        starts,
+        clips,
+        xs,
+        ys,
+        blocks,
+        m,
+        times,
+        values,
+        marks,
+        ends,
+        spot,
+        t,
+    );
+    if is_plain(starts, xs) {
+        return plain_step(
+            starts,
+            clips,
+            xs,
+            ys,
+            blocks,
+            m,
+            times,
+            values,
+            marks,
+            ends,
+            at,
+            k,
+            top,
+        );
+    }
+    if 1 < starts.len() {
+        let w = at.w;
+        let found = onset_at(xs, ys, tops, times, w, t, at.knot, at.sample);
+        if let Onset::At(i, l, h, n) = found {
+            return run_step(
+                starts,
+                clips,
+                xs,
+                ys,
+                blocks,
+                m,
+                times,
+                values,
+                marks,
+                ends,
+                tops,
+                at,
+                i,
+                l,
+                h,
+                n,
+                k,
+                top,
+            );
+        }
+    }
+    cell_step(
+        starts,
+        clips,
+        xs,
+        ys,
+        blocks,
+        m,
+        times,
+        values,
+        marks,
+        ends,
+        tops,
+        at,
+        k,
+        top,
+    )
+}

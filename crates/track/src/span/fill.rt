@@ -1,0 +1,121 @@
+// The changes of one stretch, written while there is room.
+use crate::span::Stretch;
+use crate::span::Way;
+use cell::Cell;
+use cell::step::entry::Entry;
+use run::fill_changes;
+use run::passing::fill_passed;
+use run::walk::Went;
+use window::part::clip_begin;
+use window::part::clip_end;
+ghost use Rattle.laws.specs.cell.Keys.{Keys};
+ghost use Rattle.cell.specs.step.Entries.{entryIs};
+ghost use Rattle.run.specs.Walks.{outputs, Room, Walked};
+ghost use Rattle.track.specs.span.Runs.{Runs, Goes, saysOn, saysBy};
+
+// Writes the changes above the key k and up to hi in a cell that says `here` at k, from slot n on.
+fn fill_cell(
+    times: &[f64],
+    values: &[f64],
+    marks: &[u8],
+    ends: &[u64],
+    cell: Cell,
+    here: Entry,
+    k: u64,
+    hi: u64,
+    room: usize,
+    n: usize,
+    outtimes: &mut [f64],
+    outvalues: &mut [f64],
+    outmarks: &mut [u8],
+) -> Went
+    requires { ⌜ Keys k hi ⌝ }
+    requires { ⌜ Runs (now times) (now values) (now marks) (now ends) cell k hi ⌝ }
+    requires { ⌜ Room room n (outputs (now outtimes) (now outvalues) (now outmarks)) ⌝ }
+    ensures { λ r. ⌜ Walked (saysOn (now (times .entry)) (now (values .entry)) (now (marks .entry)) (now (ends .entry)) cell (entryIs here)) k hi room n (outputs (now (outtimes .entry)) (now (outvalues .entry)) (now (outmarks .entry))) (outputs (now (outtimes .exit)) (now (outvalues .exit)) (now (outmarks .exit))) r ⌝ }
+{
+    let Cell::Reading(clip, line) = cell else {
+        return Went {
+            key: hi,
+            last: here,
+            count: n,
+            done: true,
+        };
+    };
+    let a = clip_begin(ends, clip);
+    let b = clip_end(ends, clip);
+    fill_changes(
+        &times[a..b],
+        &values[a..b],
+        &marks[a..b],
+        line,
+        k,
+        hi,
+        room,
+        n,
+        outtimes,
+        outvalues,
+        outmarks,
+    )
+}
+
+// Writes the changes above the key k in its stretch from slot n on.
+pub fn fill_in(
+    times: &[f64],
+    values: &[f64],
+    marks: &[u8],
+    ends: &[u64],
+    s: Stretch,
+    k: u64,
+    room: usize,
+    n: usize,
+    outtimes: &mut [f64],
+    outvalues: &mut [f64],
+    outmarks: &mut [u8],
+) -> Went
+    requires { ⌜ Keys k (s .hi) ⌝ }
+    requires { ⌜ Goes (now times) (now values) (now marks) (now ends) (s .way) (entryIs (s .here)) k (s .hi) ⌝ }
+    requires { ⌜ Room room n (outputs (now outtimes) (now outvalues) (now outmarks)) ⌝ }
+    ensures { λ r. ⌜ Walked (saysBy (now (times .entry)) (now (values .entry)) (now (marks .entry)) (now (ends .entry)) (s .way) (entryIs (s .here))) k (s .hi) room n (outputs (now (outtimes .entry)) (now (outvalues .entry)) (now (outmarks .entry))) (outputs (now (outtimes .exit)) (now (outvalues .exit)) (now (outmarks .exit))) r ⌝ }
+{
+    let way = s.way;
+    let here = s.here;
+    let hi = s.hi;
+    match way {
+        Way::Within(cell) => fill_cell(
+            times,
+            values,
+            marks,
+            ends,
+            cell,
+            here,
+            k,
+            hi,
+            room,
+            n,
+            outtimes,
+            outvalues,
+            outmarks,
+        ),
+        Way::Past(clip, floor, segment, near) => {
+            let a = clip_begin(ends, clip);
+            let b = clip_end(ends, clip);
+            fill_passed(
+                &times[a..b],
+                &values[a..b],
+                &marks[a..b],
+                floor,
+                segment,
+                here,
+                near,
+                k,
+                hi,
+                room,
+                n,
+                outtimes,
+                outvalues,
+                outmarks,
+            )
+        }
+    }
+}
