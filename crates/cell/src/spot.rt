@@ -2,11 +2,11 @@
 use definitions::Manifest;
 use definitions::Source;
 use lists::near::last_at_most_near;
+use sdf::part::clip_begin;
+use sdf::part::clip_end;
 use value::direct::contributes;
 use value::windowed::window_of;
 use window::neighbours::Window;
-use window::part::clip_begin;
-use window::part::clip_end;
 use window::window_max;
 use window::window_min;
 ghost use mathlib.Core.Path.{_≡_};

@@ -1,6 +1,8 @@
 // Time samples as they are lent: when they are refused.
 ghost use Rattle.sdf.specs.Judged.{Judged};
 
+pub mod look;
+pub mod part;
 pub mod scans;
 
 // A reply with a count: where the number is not 0 the lists are refused by it, and the count is 0.

@@ -23,7 +23,7 @@ use Rattle.laws.proofs.cell.Unpacked.{zip-here}
 use Rattle.lists.proofs.Fronts.{front, no-front}
 use Rattle.window.specs.Parts.{partOf}
 use Rattle.window.proofs.Parts.{ready-active, ready-position}
-use Rattle.look.specs.Reads.{markedAt, told}
+use Rattle.sdf.specs.look.Reads.{markedAt, told}
 use Rattle.value.specs.direct.Reads.{heldPart}
 use Rattle.stage.specs.Marks.{gapMarkOf, marksAt, sampleTimes, sampleMarks}
 

@@ -3,7 +3,7 @@
 use definitions::Answer;
 use definitions::Manifest;
 use definitions::StageTime;
-use look::Held;
+use sdf::look::Held;
 use value::direct::read_clip;
 ghost use mathlib.Core.Path.{_≡_};
 ghost use Prim.Native.Nat.{_≤_};

@@ -3,12 +3,12 @@
 use super::zero::with_zero;
 use definitions::Manifest;
 use definitions::Source;
+use sdf::part::clip_begin;
+use sdf::part::clip_end;
 use window::Bound;
 use window::neighbours::Near;
 use window::neighbours::Window;
 use window::neighbours::near_in;
-use window::part::clip_begin;
-use window::part::clip_end;
 use window::window_max;
 use window::window_min;
 ghost use mathlib.Core.Path.{_≡_};

@@ -1,8 +1,8 @@
 // How the stage sample time zero is written: of equal times the first in the order of `total_cmp` stays, so it is -0.0 if that is gathered anywhere.
 
+use sdf::part::clip_begin;
+use sdf::part::clip_end;
 use window::Bound;
-use window::part::clip_begin;
-use window::part::clip_end;
 ghost use mathlib.Core.Path.{_≡_};
 ghost use Rattle.stage.specs.First.{zeroOf, withZero};
 ghost use Rattle.stage.specs.Zeros.{anyMinusZero, samplesAtZero, minusGathered, Sampled};

@@ -24,7 +24,7 @@ use Rattle.laws.specs.list.Every.{Every}
 use Rattle.laws.proofs.list.Every.{every-drop, every-take}
 use Rattle.laws.specs.cell.Unpacked.{setOf, samplesOf, Ready}
 use Rattle.window.proofs.Parts.{last-short}
-use Rattle.look.specs.Reads.{markedAt}
+use Rattle.sdf.specs.look.Reads.{markedAt}
 use Rattle.value.specs.Says.{saysIn, Sayable}
 
 -- ---- the cases of the program

@@ -3,9 +3,9 @@
 use definitions::Manifest;
 use definitions::Source;
 use definitions::StageTime;
-use look::Held;
-use window::part::clip_begin;
-use window::part::clip_end;
+use sdf::look::Held;
+use sdf::part::clip_begin;
+use sdf::part::clip_end;
 ghost use mathlib.Core.Path.{_≡_};
 ghost use mathlib.Core.Bool.{not, _&&_, cond};
 ghost use mathlib.Core.List.{reverse};
@@ -16,7 +16,7 @@ ghost use Rattle.definitions.specs.Lists.{any};
 ghost use Rattle.definitions.specs.Value.{_orElse_, firstReading, manifestDefault, gapSource};
 ghost use Rattle.laws.specs.cell.Unpacked.{start, activeOf, setOf, samplesOf, Ready};
 ghost use Rattle.window.specs.Parts.{Readable};
-ghost use Rattle.look.specs.Reads.{heldIs};
+ghost use Rattle.sdf.specs.look.Reads.{heldIs};
 ghost use Rattle.value.specs.direct.Reads.{readingIs, heldPart, readStart};
 
 // A sample that is read: its clip, and its place counted from the clip's first.
@@ -79,7 +79,7 @@ pub fn read_clip(
         return Held::Nothing;
     }
     let c = lists::map_time(xs, ys, t);
-    look::read_clip(times, values, marks, begin, end, c)
+    sdf::look::read_clip(times, values, marks, begin, end, c)
 }
 
 // What a start gives to the search: the reading of its clip at its own clip time, unless a block equals the start.

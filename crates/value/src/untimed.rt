@@ -1,8 +1,8 @@
 // The answer without a time. It heeds neither the missing flag nor the manifest blocks.
 
 use definitions::Manifest;
-use window::part::clip_begin;
-use window::part::clip_end;
+use sdf::part::clip_begin;
+use sdf::part::clip_end;
 ghost use mathlib.Core.Path.{_≡_};
 ghost use Prim.Native.Nat.{ℕ, _<_};
 ghost use lib.ListN.{length};

@@ -7,11 +7,11 @@ use definitions::Answer;
 use definitions::Manifest;
 use definitions::Source;
 use definitions::StageTime;
+use sdf::part::clip_begin;
+use sdf::part::clip_end;
 use window::Bound;
 use window::neighbours::Window;
 use window::neighbours::near_in;
-use window::part::clip_begin;
-use window::part::clip_end;
 ghost use mathlib.Core.Path.{_≡_};
 ghost use lib.Dec.{T};
 ghost use lib.ListN.{length};
@@ -102,7 +102,7 @@ pub fn says(
         Source::Sample(clip, place) => {
             let begin = clip_begin(ends, clip);
             let end = clip_end(ends, clip);
-            look::answer_in(times, values, marks, begin, end, place as usize)
+            sdf::look::answer_in(times, values, marks, begin, end, place as usize)
         }
         Source::Default => {
             let default = m.default;

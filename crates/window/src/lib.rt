@@ -3,7 +3,6 @@
 pub mod crossing;
 pub mod nearest;
 pub mod neighbours;
-pub mod part;
 
 ghost use mathlib.Core.Path.{_≡_};
 ghost use Prim.Native.Nat.{_<_};

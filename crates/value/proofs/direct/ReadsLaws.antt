@@ -23,9 +23,9 @@ use Rattle.laws.specs.cell.Unpacked.{start, activeOf, knotsOf, setOf, samplesOf
 use Rattle.lists.proofs.Fronts.{front, no-front}
 use Rattle.window.specs.Parts.{partOf, Readable}
 use Rattle.window.proofs.Parts.{ready-active, ready-start}
-use Rattle.look.specs.Reads.{markedAt, told}
-use Rattle.look.proofs.ReadsLaws.{place-none, place-some}
-use Rattle.look.specs.Reads as look
+use Rattle.sdf.specs.look.Reads.{markedAt, told}
+use Rattle.sdf.proofs.look.ReadsLaws.{place-none, place-some}
+use Rattle.sdf.specs.look.Reads as look
 use Rattle.value.specs.direct.Reads.{heldPart, readStart}
 
 -- ---- a reading of the code

@@ -14,7 +14,7 @@ use Rattle.definitions.specs.Timing.{mapStageToClip}
 use Rattle.definitions.specs.Samples.{Samples, clipBegin, clipEnd}
 use Rattle.definitions.specs.Value.{blockedAt, readClip}
 use Rattle.laws.specs.cell.Unpacked.{start, knotsOf}
-use Rattle.look.specs.Reads.{heldReading}
+use Rattle.sdf.specs.look.Reads.{heldReading}
 use Rattle.value.specs.declared.direct.Reading.{Reading}
 use Rattle.value.specs.declared.direct.Reading.the-variants.{Of, Nothing}
 

@@ -5,7 +5,7 @@ use native.Mathlib.Omega.{arith}
 use lib.ListN.{length}
 use denote.Ref.{now}
 use Rattle.window.proofs.Parts.{last-short, ready-starts, ready-clip, ready-readable}
-use Rattle.look.specs.Reads.{heldIs}
+use Rattle.sdf.specs.look.Reads.{heldIs}
 use Rattle.stage.proofs.Marks.{mark-none, mark-read, mark-gap}
 use borrow.Author.Needs.{needs}
 use Rattle.stage.proofs.mark.supplied_at.Statement.{statement}

@@ -4,8 +4,8 @@ use Prim.Native.Nat.{ℕ}
 use denote.Ref.{now}
 use Rattle.definitions.specs.Timing.{mapStageToClip}
 use Rattle.laws.specs.cell.Unpacked.{knotsOf}
-use Rattle.look.specs.Reads.{heldReading}
-use Rattle.look.proofs.ReadsLaws.{held-none}
+use Rattle.sdf.specs.look.Reads.{heldReading}
+use Rattle.sdf.proofs.look.ReadsLaws.{held-none}
 use Rattle.value.proofs.direct.ReadsLaws.{part-looked}
 use borrow.Author.Needs.{needs}
 use Rattle.value.proofs.direct.read_clip.Statement.{statement}

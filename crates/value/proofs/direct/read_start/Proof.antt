@@ -2,7 +2,7 @@
 use mathlib.Core.Path.{sym, ap, _∙_}
 use denote.Ref.{now}
 use Rattle.window.proofs.Parts.{ready-clip, ready-readable}
-use Rattle.look.specs.Reads.{heldIs}
+use Rattle.sdf.specs.look.Reads.{heldIs}
 use Rattle.value.proofs.direct.ReadsLaws.{start-blocked, start-read, part-read, part-none}
 use borrow.Author.Needs.{needs}
 use Rattle.value.proofs.direct.read_start.Statement.{statement}
