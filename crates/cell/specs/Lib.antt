@@ -1,4 +1,4 @@
--- What the contracts of this crate cite, and the laws that its proofs share.
+-- What contracts cite.
 -- A cell and its end
 pub mod Pieces
 -- The end of a cell by its key

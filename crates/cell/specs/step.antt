@@ -1,4 +1,4 @@
--- What the contracts of this crate cite, and the laws that its proofs share.
+-- What contracts cite.
 -- A line as the program holds it
 pub mod Lines
 -- A value and its mark

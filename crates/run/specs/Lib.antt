@@ -1,4 +1,4 @@
--- What the contracts of this crate cite, and the laws that its proofs share.
+-- What contracts cite.
 -- A clip's samples read along a line
 pub mod Readings
 -- A run of samples passed in one segment

@@ -1,3 +1,3 @@
--- What the contracts of this crate cite, and the laws that its proofs share.
+-- What contracts cite.
 -- Where a run of samples begins
 pub mod Begins

@@ -1,4 +1,4 @@
--- What the contracts of this crate cite, and the laws that its proofs share.
+-- What contracts cite.
 -- Times in order, equals dropped, one after the other
 pub mod Ordered
 -- The window of a start with all samples of its clip

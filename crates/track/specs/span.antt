@@ -1,4 +1,4 @@
--- What the contracts of this crate cite, and the laws that its proofs share.
+-- What contracts cite.
 -- The stretch of keys in one cell
 pub mod Runs
 -- The cell of a window without knots

@@ -1,4 +1,4 @@
--- What the contracts of this crate cite, and the laws that its proofs share.
+-- What contracts cite.
 -- The value by the neighbours that were found
 pub mod Values
 -- What a source says, and that a sample that is read lies in the lists

@@ -1,4 +1,4 @@
--- What the contracts of this crate cite, and the laws that its proofs share.
+-- What contracts cite.
 -- A clip's held reading over the lent lists, and the search for a missing value
 pub mod Reads
 -- The direct value case by case

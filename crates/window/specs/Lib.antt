@@ -1,4 +1,4 @@
--- What the contracts of this crate cite, and the laws that its proofs share.
+-- What contracts cite.
 -- The neighbours of a time among times in any order
 pub mod Bounds
 -- The inverse times of a clip's samples, segment by segment

@@ -1,4 +1,4 @@
--- What the contracts of this crate cite, and the laws that its proofs share.
+-- What contracts cite.
 -- The neighbours of a time by candidates
 pub mod Nearest
 -- The times of an ascending list on either side of a time

@@ -1,4 +1,4 @@
--- What the contracts of this crate cite, and the laws that its proofs share.
+-- What contracts cite.
 -- How far the inverse times of the segments reach
 pub mod Tops
 -- The inverse times of all segments by those near a time
