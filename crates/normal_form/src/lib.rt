@@ -26,8 +26,8 @@ fn listed_number(times: &[f64], values: &[f64], marks: &[u8]) -> u8
     0
 }
 
-// The samples sorted stably by time, and of equal times the first time with the last value and mark: the Rust's
-// `normalize_time_samples`. Nothing is written before the merged count is known to fit.
+// The samples sorted stably by time, and of equal times the first time with the last value and mark.
+// Nothing is written before the merged count is known to fit.
 pub fn normalize(
     times: &[f64],
     values: &[f64],
