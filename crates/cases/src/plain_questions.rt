@@ -63,7 +63,7 @@ fn normalized(
         count,
         least(outtimes.len(), least(outvalues.len(), outmarks.len())),
     );
-    let counted = normal_form::normalize(
+    let counted = normal_form::normalize_time_samples(
         times,
         values,
         marks,

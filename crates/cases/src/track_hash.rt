@@ -1,8 +1,8 @@
 // The hash of a track that is too long to print: its changes are walked, and none is kept.
 use crate::lines::reply;
-use cell::spot::no_spot;
+use cell::place::no_place;
 use cell::step::entry::Entry;
-use definitions::Manifest;
+use definitions::Missing;
 use gf::LEAST;
 use gf::MOST;
 use standing::Counts;
@@ -10,14 +10,14 @@ use track::entry::entry_at;
 use track::fill::Cursor;
 use track::fill::Filled;
 use track::fill::fill;
-use window::neighbours::tops::tops_of;
+use window::neighbours::latest::latest_inverses;
 ghost use mathlib.Core.Path.{_≡_};
 ghost use Prim.Native.Nat.{_≤_};
 ghost use lib.ListN.{length};
 ghost use Rattle.gf.specs.Key as Key;
 ghost use Rattle.laws.specs.cell.Keys.{entryAtKey};
-ghost use Rattle.laws.specs.cell.Unpacked.{setOf, samplesOf, Ready};
-ghost use Rattle.window.specs.neighbours.Tops.{TopsOf};
+ghost use Rattle.laws.specs.cell.Lent.{setOf, samplesOf, AcceptedLists};
+ghost use Rattle.window.specs.neighbours.Latest.{LatestOf};
 ghost use Rattle.cell.specs.step.Entries.{entryIs};
 ghost use Rattle.standing.specs.Standing.{Asked};
 ghost use Rattle.track.specs.Fills.{CursorIs, PageIs};
@@ -89,7 +89,7 @@ fn walk_page(
     xs: &[f64],
     ys: &[f64],
     blocks: &[f64],
-    m: Manifest,
+    m: Missing,
     times: &[f64],
     values: &[f64],
     marks: &[u8],
@@ -98,8 +98,8 @@ fn walk_page(
     from: Cursor,
     hash: u64,
 ) -> Page
-    requires { ⌜ Ready (now starts) (now clips) (now xs) (now ys) (now blocks) m (now times) (now values) (now marks) (now ends) ⌝ }
-    requires { ⌜ TopsOf (now xs) (now ys) (now tops) ⌝ }
+    requires { ⌜ AcceptedLists (now starts) (now clips) (now xs) (now ys) (now blocks) m (now times) (now values) (now marks) (now ends) ⌝ }
+    requires { ⌜ LatestOf (now xs) (now ys) (now tops) ⌝ }
     requires { ⌜ CursorIs (now starts) (now clips) (now xs) (now ys) (now blocks) m (now times) (now values) (now marks) (now ends) Key.most from ⌝ }
     ensures { λ r. ⌜ PageIs (now (starts .entry)) (now (clips .entry)) (now (xs .entry)) (now (ys .entry)) (now (blocks .entry)) m (now (times .entry)) (now (values .entry)) (now (marks .entry)) (now (ends .entry)) (from .key) Key.most (r .filled) ⌝ }
 {
@@ -135,18 +135,18 @@ fn walk(
     xs: &[f64],
     ys: &[f64],
     blocks: &[f64],
-    m: Manifest,
+    m: Missing,
     times: &[f64],
     values: &[f64],
     marks: &[u8],
     ends: &[u64],
     head: Entry,
 ) -> Walked
-    requires { ⌜ Ready (now starts) (now clips) (now xs) (now ys) (now blocks) m (now times) (now values) (now marks) (now ends) ⌝ }
+    requires { ⌜ AcceptedLists (now starts) (now clips) (now xs) (now ys) (now blocks) m (now times) (now values) (now marks) (now ends) ⌝ }
     requires { ⌜ entryIs head ≡ entryAtKey (setOf (length (now ends)) (now starts) (now clips) (now xs) (now ys) (now blocks) m) (samplesOf (now times) (now values) (now marks) (now ends)) Key.least ⌝ }
 {
-    let tops = tops_of(xs, ys);
-    let spot = no_spot(starts);
+    let tops = latest_inverses(xs, ys);
+    let spot = no_place(starts);
     let mut at = Cursor {
         key: LEAST,
         last: head,
@@ -194,13 +194,13 @@ fn hash_lists(
     xs: &[f64],
     ys: &[f64],
     blocks: &[f64],
-    m: Manifest,
+    m: Missing,
     times: &[f64],
     values: &[f64],
     marks: &[u8],
     ends: &[u64],
 ) -> Hashed
-    requires { ⌜ Ready (now starts) (now clips) (now xs) (now ys) (now blocks) m (now times) (now values) (now marks) (now ends) ⌝ }
+    requires { ⌜ AcceptedLists (now starts) (now clips) (now xs) (now ys) (now blocks) m (now times) (now values) (now marks) (now ends) ⌝ }
 {
     let head = entry_at(
         starts,
@@ -244,7 +244,7 @@ pub fn hash_of<'a>(
     ys: &'a [f64],
     blocks: &'a [f64],
     counts: Counts,
-    m: Manifest,
+    m: Missing,
     times: &[f64],
     values: &[f64],
     marks: &[u8],

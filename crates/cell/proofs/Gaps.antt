@@ -10,14 +10,14 @@ use lib.ListN.{length, getD, take, drop, length-drop}
 use lib.Seq.{length-take-le}
 use lib.Ieee.{Float, nan, eq}
 use borrow.Author.Tests.{ltb-true, ltb-false}
-use Rattle.definitions.specs.declared.Manifest.{Manifest}
+use Rattle.definitions.specs.declared.Missing.{Missing}
 use Rattle.definitions.specs.declared.Source.{Source}
 use Rattle.definitions.specs.declared.Source.the-variants.{Blocked}
 use Rattle.definitions.specs.Lists.{any}
 use Rattle.definitions.specs.ClipSet.{ClipSet, stage}
 use Rattle.definitions.specs.Samples.{Samples, clipBegin, clipEnd}
 use Rattle.definitions.specs.Value.{firstReading, interpolateMissingValue, manifestDefault, _orElse_}
-use Rattle.laws.specs.cell.Unpacked.{Ready, setOf, samplesOf, start, activeOf}
+use Rattle.laws.specs.cell.Lent.{AcceptedLists, setOf, samplesOf, start, activeOf}
 use Rattle.window.specs.Parts.{partOf}
 use Rattle.window.proofs.Parts.{ready-clip, ready-readable}
 use Rattle.window.specs.Windows.{minOf, maxOf, ifOwn}
@@ -26,10 +26,10 @@ use Rattle.value.proofs.direct.ReadsLaws.{read-none, start-blocked, start-read,
 use Rattle.value.specs.direct.Sources.{standIn}
 use Rattle.window.specs.declared.neighbours.Window.{Window}
 use Rattle.window.specs.neighbours.Windowed.{samplesIn}
-use Rattle.value.specs.Handed.{WindowIs}
+use Rattle.value.specs.WindowOf.{WindowIs}
 use Rattle.value.proofs.Handed.{window-gap}
 
-module _ {starts : List Float} {clips : List ℕ} {xs ys blocks : List Float} {m : Manifest} {times values : List Float} {marks ends : List ℕ} (R : Ready starts clips xs ys blocks m times values marks ends) where
+module _ {starts : List Float} {clips : List ℕ} {xs ys blocks : List Float} {m : Missing} {times values : List Float} {marks ends : List ℕ} (R : AcceptedLists starts clips xs ys blocks m times values marks ends) where
   abbrev set : ClipSet
   set = setOf (length ends) starts clips xs ys blocks m
 

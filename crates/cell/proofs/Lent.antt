@@ -7,7 +7,7 @@ use native.Mathlib.Omega.{arith}
 use lib.Dec.{ltb}
 use lib.ListN.{length, getD, getElem?}
 use lib.Ieee.{Float, nan}
-use Rattle.definitions.specs.declared.Manifest.{Manifest}
+use Rattle.definitions.specs.declared.Missing.{Missing}
 use Rattle.definitions.specs.Doubles.{FiniteDouble}
 use Rattle.definitions.specs.Explicit.{knot}
 use Rattle.definitions.specs.ClipSet.{ClipSet, maxKnots, stage}
@@ -17,14 +17,14 @@ use Rattle.laws.proofs.list.Places.{last-inside}
 use Rattle.laws.proofs.cell.Direct.{SoundSet, SoundSamples}
 use Rattle.laws.specs.cell.Stretches.{severalStarts}
 use Rattle.laws.proofs.cell.Tracks.{SoundValues}
-use Rattle.laws.specs.cell.Unpacked.{Ready, setOf, samplesOf, start}
+use Rattle.laws.specs.cell.Lent.{AcceptedLists, setOf, samplesOf, start}
 use Rattle.laws.proofs.cell.Unpacked.{active-times, zip-length, zip-here, sound-set, sound-samples}
 use Rattle.window.proofs.Parts.{ready-starts}
 use Rattle.window.specs.declared.neighbours.Window.{Window}
-use Rattle.value.specs.Handed.{WindowIs}
-use Rattle.cell.specs.Spots.{SpotIs, SpotAt}
+use Rattle.value.specs.WindowOf.{WindowIs}
+use Rattle.cell.specs.WindowPlaces.{PlaceIs, PlaceAt}
 
-module _ {starts : List Float} {clips : List ℕ} {xs ys blocks : List Float} {m : Manifest} {times values : List Float} {marks ends : List ℕ} (R : Ready starts clips xs ys blocks m times values marks ends) where
+module _ {starts : List Float} {clips : List ℕ} {xs ys blocks : List Float} {m : Missing} {times values : List Float} {marks ends : List ℕ} (R : AcceptedLists starts clips xs ys blocks m times values marks ends) where
   abbrev set : ClipSet
   set = setOf (length ends) starts clips xs ys blocks m
 
@@ -58,11 +58,11 @@ module _ {starts : List Float} {clips : List ℕ} {xs ys blocks : List Float} {m
 
   -- ---- the window of the active start
 
-  pub spot-window : (t : Float) → FiniteDouble t → (p : ℕ) (w : Window) → SpotAt starts clips xs ys blocks m times values marks ends t p w → 0 < length starts → WindowIs starts clips xs ys blocks m times values marks ends p w
+  pub spot-window : (t : Float) → FiniteDouble t → (p : ℕ) (w : Window) → PlaceAt starts clips xs ys blocks m times values marks ends t p w → 0 < length starts → WindowIs starts clips xs ys blocks m times values marks ends p w
   spot-window t ft p w A h = A .spot .window (let e = A .place h in let l = last-inside t (ft .fitting) starts (ready-starts R) h in omega arith)
 
   -- a walk that has not begun is in no window
-  pub no-spot-is : (p : ℕ) (w : Window) → p ≡ length starts → SpotIs starts clips xs ys blocks m times values marks ends p w
+  pub no-spot-is : (p : ℕ) (w : Window) → p ≡ length starts → PlaceIs starts clips xs ys blocks m times values marks ends p w
   no-spot-is p w e = record { window = λ h. absurd (omega arith); gap = λ h. absurd (omega arith) }
 
   pub few-knots : length xs ≤ maxKnots

@@ -10,7 +10,7 @@ use lib.Seq.{length-take-le}
 use lib.Ieee.{Float, nan, eq}
 use borrow.Author.Tests.{lt-ltb, le-ltb}
 use Rattle.definitions.specs.declared.Start.{Start}
-use Rattle.definitions.specs.declared.Manifest.{Manifest}
+use Rattle.definitions.specs.declared.Missing.{Missing}
 use Rattle.definitions.specs.declared.Source.{Source}
 use Rattle.definitions.specs.declared.Source.the-variants.{Absent}
 use Rattle.definitions.specs.Lists.{any}
@@ -25,7 +25,7 @@ use Rattle.laws.specs.cell.Cells as Cells
 use Rattle.laws.proofs.cell.Cells as Cells-laws
 use Rattle.laws.specs.cell.Neighbours.{IsLower, IsUpper}
 use Rattle.laws.proofs.cell.Neighbours.{cell-held, cell-jump, cell-below, cell-last, cell-few}
-use Rattle.laws.specs.cell.Unpacked.{Ready, setOf, samplesOf, knotsOf, start}
+use Rattle.laws.specs.cell.Lent.{AcceptedLists, setOf, samplesOf, knotsOf, start}
 use Rattle.laws.proofs.cell.Unpacked.{knot-times}
 use Rattle.window.specs.declared.Bound.{Bound}
 use Rattle.window.specs.declared.Bounds.{Bounds}
@@ -39,11 +39,11 @@ use Rattle.cell.specs.step.Lines.{lineIs}
 use Rattle.window.specs.declared.neighbours.Window.{Window}
 use Rattle.window.specs.declared.neighbours.Near.{Near}
 use Rattle.window.specs.neighbours.Windowed.{samplesIn, windowTimes, windowSource, boundsOf}
-use Rattle.value.specs.Handed.{WindowIs}
+use Rattle.value.specs.WindowOf.{WindowIs}
 use Rattle.value.proofs.Handed.{window-gathered, window-held}
 use Rattle.cell.specs.declared.Cell.{Cell}
 use Rattle.cell.specs.declared.Cell.the-variants.{Constant, Reading}
-use Rattle.cell.specs.Pieces.{heldOf, DirectIs, PieceIs}
+use Rattle.cell.specs.CellAndEnd.{heldOf, DirectIs, CellAndEndIs}
 use Rattle.cell.proofs.Lent.{sound, samples, several, position, start-at}
 
 -- ---- the cell of the direct reading
@@ -66,7 +66,7 @@ module _ (set : ClipSet) (s : Samples) (t : Float) (p : ℕ) (at : activePositio
     unfolding Cells.directCell
     empty f g = rw (at, e, f, g)
 
-module _ {starts : List Float} {clips : List ℕ} {xs ys blocks : List Float} {m : Manifest} {times values : List Float} {marks ends : List ℕ} (R : Ready starts clips xs ys blocks m times values marks ends) (t : Float) where
+module _ {starts : List Float} {clips : List ℕ} {xs ys blocks : List Float} {m : Missing} {times values : List Float} {marks ends : List ℕ} (R : AcceptedLists starts clips xs ys blocks m times values marks ends) (t : Float) where
   abbrev ready : ClipSet
   ready = setOf (length ends) starts clips xs ys blocks m
 
@@ -159,7 +159,7 @@ module _ {starts : List Float} {clips : List ℕ} {xs ys blocks : List Float} {m
   -- ---- the ways out of `piece_at`
 
   pub piece-few : (c : Cell) (e : Bound) → length starts < 2 → DirectIs (setOf (length ends) starts clips xs ys blocks m) (samplesOf times values marks ends) t c → UpperIs xs t e
-      → PieceIs (setOf (length ends) starts clips xs ys blocks m) (samplesOf times values marks ends) t c e
+      → CellAndEndIs (setOf (length ends) starts clips xs ys blocks m) (samplesOf times values marks ends) t c e
   piece-few c e h d u = record { is = d .is ∙ sym (cell-few ready lent one t); clip = d .clip; ends = subst (λ (l : List Float). UpperIs l t e) (sym knots-only) u }
     where
       one : severalStarts ready ≡ false
@@ -190,7 +190,7 @@ module _ {starts : List Float} {clips : List ℕ} {xs ys blocks : List Float} {m
 
     piece-last : (c : Cell) → DirectIs (setOf (length ends) starts clips xs ys blocks m) (samplesOf times values marks ends) t c
         → UpperIs (gathered (setOf (length ends) starts clips xs ys blocks m) (samplesOf times values marks ends) p) t Nothing
-        → PieceIs (setOf (length ends) starts clips xs ys blocks m) (samplesOf times values marks ends) t c Nothing
+        → CellAndEndIs (setOf (length ends) starts clips xs ys blocks m) (samplesOf times values marks ends) t c Nothing
     piece-last c d u = record {
       is = d .is ∙ sym (cell-last ready lent (sound R) (samples R) two t (ft .fitting) (subst (λ (l : List Float). UpperIs l t Nothing) window u));
       clip = d .clip;
@@ -200,7 +200,7 @@ module _ {starts : List Float} {clips : List ℕ} {xs ys blocks : List Float} {m
     module _ (h : Float) (u : UpperIs (gathered (setOf (length ends) starts clips xs ys blocks m) (samplesOf times values marks ends) p) t (At h)) where
       piece-below : (c : Cell) → DirectIs (setOf (length ends) starts clips xs ys blocks m) (samplesOf times values marks ends) t c
           → LowerIs (gathered (setOf (length ends) starts clips xs ys blocks m) (samplesOf times values marks ends) p) t Nothing
-          → PieceIs (setOf (length ends) starts clips xs ys blocks m) (samplesOf times values marks ends) t c (At h)
+          → CellAndEndIs (setOf (length ends) starts clips xs ys blocks m) (samplesOf times values marks ends) t c (At h)
       piece-below c d n = record {
         is = d .is ∙ sym (cell-below ready lent (sound R) (samples R) two t (ft .fitting) (subst (λ (l : List Float). LowerIs l t Nothing) window n));
         clip = d .clip;
@@ -220,7 +220,7 @@ module _ {starts : List Float} {clips : List ℕ} {xs ys blocks : List Float} {m
 
         piece-jump : (c : Cell) → DirectIs (setOf (length ends) starts clips xs ys blocks m) (samplesOf times values marks ends) t c
             → jump (knotsOf xs ys) l h ≡ true
-            → PieceIs (setOf (length ends) starts clips xs ys blocks m) (samplesOf times values marks ends) t c (At h)
+            → CellAndEndIs (setOf (length ends) starts clips xs ys blocks m) (samplesOf times values marks ends) t c (At h)
         piece-jump c d j = record {
           is = d .is ∙ sym (cell-jump ready lent (sound R) (samples R) two t (ft .fitting) l h L U (jumping true j));
           clip = d .clip;
@@ -229,7 +229,7 @@ module _ {starts : List Float} {clips : List ℕ} {xs ys blocks : List Float} {m
 
         piece-held : (r : Source) → r ≡ directSource (setOf (length ends) starts clips xs ys blocks m) (samplesOf times values marks ends) (stage l)
             → jump (knotsOf xs ys) l h ≡ false
-            → PieceIs (setOf (length ends) starts clips xs ys blocks m) (samplesOf times values marks ends) t (Constant r) (At h)
+            → CellAndEndIs (setOf (length ends) starts clips xs ys blocks m) (samplesOf times values marks ends) t (Constant r) (At h)
         piece-held r e j = record {
           is = ap Cells.constant e ∙ sym (cell-held ready lent (sound R) (samples R) two t (ft .fitting) l h L U (jumping false j));
           clip = tt;
@@ -240,10 +240,10 @@ module _ {starts : List Float} {clips : List ℕ} {xs ys blocks : List Float} {m
 
     module _ (n : Bounds) (N : NeighboursAre (gathered (setOf (length ends) starts clips xs ys blocks m) (samplesOf times values marks ends) p) t n) where
       pub piece-direct : (c : Cell) → heldOf (knotsOf xs ys) (n .lower) (n .upper) ≡ Nothing → DirectIs (setOf (length ends) starts clips xs ys blocks m) (samplesOf times values marks ends) t c
-          → PieceIs (setOf (length ends) starts clips xs ys blocks m) (samplesOf times values marks ends) t c (n .upper)
+          → CellAndEndIs (setOf (length ends) starts clips xs ys blocks m) (samplesOf times values marks ends) t c (n .upper)
       piece-direct c e d = go (n .lower) (n .upper) (N .lower) (N .upper) e
         where
-          go : (l h : Bound) → LowerIs (gathered ready lent p) t l → UpperIs (gathered ready lent p) t h → heldOf (knotsOf xs ys) l h ≡ Nothing → PieceIs ready lent t c h
+          go : (l h : Bound) → LowerIs (gathered ready lent p) t l → UpperIs (gathered ready lent p) t h → heldOf (knotsOf xs ys) l h ≡ Nothing → CellAndEndIs ready lent t c h
           go Nothing Nothing w u q = piece-last c d u
           go Nothing (At h) w u q = piece-below h u c d w
           go (At l) Nothing w u q = piece-last c d u
@@ -254,13 +254,13 @@ module _ {starts : List Float} {clips : List ℕ} {xs ys blocks : List Float} {m
               jumped false q = let z : _≡_ {A = ℕ} 0 1 = cc in absurd (omega arith)
 
       pub piece-constant : (f : Float) (r : Source) → heldOf (knotsOf xs ys) (n .lower) (n .upper) ≡ At f → r ≡ directSource (setOf (length ends) starts clips xs ys blocks m) (samplesOf times values marks ends) (stage f)
-          → PieceIs (setOf (length ends) starts clips xs ys blocks m) (samplesOf times values marks ends) t (Constant r) (n .upper)
+          → CellAndEndIs (setOf (length ends) starts clips xs ys blocks m) (samplesOf times values marks ends) t (Constant r) (n .upper)
       piece-constant f r e d = go (n .lower) (n .upper) (N .lower) (N .upper) e
         where
           none-held : Nothing ≡ At f → ⊥
           none-held q = let z : _≡_ {A = ℕ} 0 1 = cc in absurd (omega arith)
 
-          go : (l h : Bound) → LowerIs (gathered ready lent p) t l → UpperIs (gathered ready lent p) t h → heldOf (knotsOf xs ys) l h ≡ At f → PieceIs ready lent t (Constant r) h
+          go : (l h : Bound) → LowerIs (gathered ready lent p) t l → UpperIs (gathered ready lent p) t h → heldOf (knotsOf xs ys) l h ≡ At f → CellAndEndIs ready lent t (Constant r) h
           go Nothing h w u q = absurd (none-held q)
           go (At l) Nothing w u q = absurd (none-held q)
           go (At l) (At h) w u q = let k = held (jump (knotsOf xs ys) l h) q in piece-held h u l w r (d ∙ ap (λ (x : Float). directSource ready lent (stage x)) (sym (k .1))) (k .0)
@@ -276,11 +276,11 @@ module _ {starts : List Float} {clips : List ℕ} {xs ys blocks : List Float} {m
       among = subst (λ (l : List Float). NeighboursAre l t (boundsOf n)) (sym (window-gathered R p w W)) N
 
       pub near-direct : (c : Cell) → heldOf (knotsOf xs ys) (n .lower) (n .upper) ≡ Nothing → DirectIs (setOf (length ends) starts clips xs ys blocks m) (samplesOf times values marks ends) t c
-          → PieceIs (setOf (length ends) starts clips xs ys blocks m) (samplesOf times values marks ends) t c (n .upper)
+          → CellAndEndIs (setOf (length ends) starts clips xs ys blocks m) (samplesOf times values marks ends) t c (n .upper)
       near-direct c e d = piece-direct (boundsOf n) among c e d
 
       pub near-held : (f : Float) (r : Source) → heldOf (knotsOf xs ys) (n .lower) (n .upper) ≡ At f → r ≡ windowSource xs ys times w f
-          → PieceIs (setOf (length ends) starts clips xs ys blocks m) (samplesOf times values marks ends) t (Constant r) (n .upper)
+          → CellAndEndIs (setOf (length ends) starts clips xs ys blocks m) (samplesOf times values marks ends) t (Constant r) (n .upper)
       near-held f r e q = piece-constant (boundsOf n) among f r e (q ∙ sym (window-held R p w W t at (ft .fitting) f (lower (n .lower) (n .upper) e (among .lower))))
         where
           differ : {B : Type 0} → Nothing ≡ At f → B

@@ -1,8 +1,8 @@
 -- What contracts cite.
 -- A cell and its end
-pub mod Pieces
+pub mod CellAndEnd
 -- The end of a cell by its key
 pub mod EndKeys
 -- The spot of a walk
-pub mod Spots
+pub mod WindowPlaces
 pub mod step

@@ -3,15 +3,15 @@
 // The end of a cell by its key.
 pub mod end;
 // The window that a walk is in.
-pub mod spot;
+pub mod place;
 pub mod step;
 
 use crate::step::line::Line;
 use crate::step::line::line_of;
-use definitions::Manifest;
+use definitions::Missing;
 use definitions::Source;
 use definitions::StageTime;
-use spot::Spot;
+use place::WindowPlace;
 use value::jump::is_jump;
 use value::windowed::source_in;
 use window::Bound;
@@ -22,11 +22,11 @@ ghost use Prim.Native.Nat.{_-_};
 ghost use lib.ListN.{length};
 ghost use Rattle.definitions.specs.Doubles.{FiniteDouble};
 ghost use Rattle.laws.specs.list.Places.{Ascending};
-ghost use Rattle.laws.specs.cell.Unpacked.{knotsOf, setOf, samplesOf, Ready};
+ghost use Rattle.laws.specs.cell.Lent.{knotsOf, setOf, samplesOf, AcceptedLists};
 ghost use Rattle.window.specs.Bounds.{UpperIs};
-ghost use Rattle.window.specs.neighbours.Tops.{TopsOf};
-ghost use Rattle.cell.specs.Pieces.{heldOf, DirectIs, PieceIs};
-ghost use Rattle.cell.specs.Spots.{SpotAt};
+ghost use Rattle.window.specs.neighbours.Latest.{LatestOf};
+ghost use Rattle.cell.specs.CellAndEnd.{heldOf, DirectIs, CellAndEndIs};
+ghost use Rattle.cell.specs.WindowPlaces.{PlaceAt};
 
 // What is read from a stage time on: one source, or a clip's samples held along a line.
 pub enum Cell {
@@ -36,7 +36,7 @@ pub enum Cell {
 
 // The cell of a stage time, and the least boundary above it, up to which the cell says the value; and a
 // knot and a sample near it.
-pub struct Piece {
+pub struct CellAndEnd {
     pub cell: Cell,
     pub end: Bound,
     pub knot: usize,
@@ -69,16 +69,16 @@ fn direct_cell(
     xs: &[f64],
     ys: &[f64],
     blocks: &[f64],
-    m: Manifest,
+    m: Missing,
     times: &[f64],
     values: &[f64],
     marks: &[u8],
     ends: &[u64],
-    spot: Spot,
+    spot: WindowPlace,
     t: f64,
 ) -> Cell
-    requires { ⌜ Ready (now starts) (now clips) (now xs) (now ys) (now blocks) m (now times) (now values) (now marks) (now ends) ⌝ }
-    requires { ⌜ SpotAt (now starts) (now clips) (now xs) (now ys) (now blocks) m (now times) (now values) (now marks) (now ends) t (spot .p) (spot .w) ⌝ }
+    requires { ⌜ AcceptedLists (now starts) (now clips) (now xs) (now ys) (now blocks) m (now times) (now values) (now marks) (now ends) ⌝ }
+    requires { ⌜ PlaceAt (now starts) (now clips) (now xs) (now ys) (now blocks) m (now times) (now values) (now marks) (now ends) t (spot .p) (spot .w) ⌝ }
     requires { ⌜ FiniteDouble t ⌝ }
     ensures { λ r. ⌜ DirectIs (setOf (length (now (ends .entry))) (now (starts .entry)) (now (clips .entry)) (now (xs .entry)) (now (ys .entry)) (now (blocks .entry)) m) (samplesOf (now (times .entry)) (now (values .entry)) (now (marks .entry)) (now (ends .entry))) t r ⌝ }
 {
@@ -126,26 +126,26 @@ fn place_before(n: usize) -> usize
 
 // The cell of t and its end. One start: direct, up to the next knot. Several: held from the lower
 // neighbour or direct, up to the upper one.
-pub fn piece_at(
+pub fn cell_at(
     starts: &[f64],
     clips: &[u64],
     xs: &[f64],
     ys: &[f64],
     blocks: &[f64],
-    m: Manifest,
+    m: Missing,
     times: &[f64],
     values: &[f64],
     marks: &[u8],
     ends: &[u64],
     tops: &[f64],
-    spot: Spot,
+    spot: WindowPlace,
     t: f64,
-) -> Piece
-    requires { ⌜ Ready (now starts) (now clips) (now xs) (now ys) (now blocks) m (now times) (now values) (now marks) (now ends) ⌝ }
-    requires { ⌜ TopsOf (now xs) (now ys) (now tops) ⌝ }
-    requires { ⌜ SpotAt (now starts) (now clips) (now xs) (now ys) (now blocks) m (now times) (now values) (now marks) (now ends) t (spot .p) (spot .w) ⌝ }
+) -> CellAndEnd
+    requires { ⌜ AcceptedLists (now starts) (now clips) (now xs) (now ys) (now blocks) m (now times) (now values) (now marks) (now ends) ⌝ }
+    requires { ⌜ LatestOf (now xs) (now ys) (now tops) ⌝ }
+    requires { ⌜ PlaceAt (now starts) (now clips) (now xs) (now ys) (now blocks) m (now times) (now values) (now marks) (now ends) t (spot .p) (spot .w) ⌝ }
     requires { ⌜ FiniteDouble t ⌝ }
-    ensures { λ r. ⌜ PieceIs (setOf (length (now (ends .entry))) (now (starts .entry)) (now (clips .entry)) (now (xs .entry)) (now (ys .entry)) (now (blocks .entry)) m) (samplesOf (now (times .entry)) (now (values .entry)) (now (marks .entry)) (now (ends .entry))) t (r .cell) (r .end) ⌝ }
+    ensures { λ r. ⌜ CellAndEndIs (setOf (length (now (ends .entry))) (now (starts .entry)) (now (clips .entry)) (now (xs .entry)) (now (ys .entry)) (now (blocks .entry)) m) (samplesOf (now (times .entry)) (now (values .entry)) (now (marks .entry)) (now (ends .entry))) t (r .cell) (r .end) ⌝ }
 {
     if starts.len() < 2 {
         let cell = direct_cell(
@@ -162,7 +162,7 @@ pub fn piece_at(
             spot,
             t,
         );
-        return Piece {
+        return CellAndEnd {
             cell,
             end: first_above(xs, t),
             knot: spot.knot,
@@ -198,7 +198,7 @@ pub fn piece_at(
             spot,
             t,
         );
-        return Piece {
+        return CellAndEnd {
             cell,
             end: upper,
             knot: found.knot,
@@ -208,7 +208,7 @@ pub fn piece_at(
     // the lower neighbour is the inverse time of a sample before the turn or at it
     let hint = place_before(found.sample);
     let held = source_in(xs, ys, times, w, StageTime(l), found.knot, hint);
-    Piece {
+    CellAndEnd {
         cell: Cell::Constant(held),
         end: upper,
         knot: found.knot,

@@ -12,11 +12,11 @@ use Rattle.definitions.specs.ClipSet as Definitions
 use Rattle.definitions.specs.ClipSet.{activeTimes, knotTimes}
 use Rattle.definitions.specs.Retime.{apply, moveActivation, moveKnot, moved, sorted}
 use Rattle.laws.specs.set.Sound.{knotValues}
-use Rattle.laws.specs.cell.Unpacked.{activeOf, knotsOf, setOf}
+use Rattle.laws.specs.cell.Lent.{activeOf, knotsOf, setOf}
 use Rattle.clip.specs.declared.ClipSet.{ClipSet}
 use Rattle.clip.specs.declared.Parsed.{Parsed}
 use Rattle.clip.specs.Holding.{activeIn, activeClips, knotsIn, blocksIn, clipSetOf, manifestOf}
-use Rattle.clip.specs.Settling.{Settles}
+use Rattle.clip.specs.Storing.{Stores}
 use Rattle.clip.specs.Retiming.{movedAndSorted}
 
 module _ (o : LayerOffset) where
@@ -36,10 +36,10 @@ module _ (o : LayerOffset) where
   moved-is set times times′ numbers xs xs′ ys blocks blocks′ t n x y b t′ x′ b′ =
       rw (t′, x′, b′, t, n, x, y, b, active-moved (activeIn (set .active)), knots-moved (knotsIn (set .knots)))
 
-pub settles-sorted : (o : LayerOffset) (set w : Definitions.ClipSet) (r : Parsed) → lt (o .scale) 0·0 ≡ true → w ≡ moved o set → Settles (sorted w) r → Settles (movedAndSorted o set) r
+pub settles-sorted : (o : LayerOffset) (set w : Definitions.ClipSet) (r : Parsed) → lt (o .scale) 0·0 ≡ true → w ≡ moved o set → Stores (sorted w) r → Stores (movedAndSorted o set) r
 unfolding movedAndSorted
-settles-sorted o set w r e f s = rw e (subst (λ (x : Definitions.ClipSet). Settles (sorted x) r) f s)
+settles-sorted o set w r e f s = rw e (subst (λ (x : Definitions.ClipSet). Stores (sorted x) r) f s)
 
-pub settles-unsorted : (o : LayerOffset) (set w : Definitions.ClipSet) (r : Parsed) → lt (o .scale) 0·0 ≡ false → w ≡ moved o set → Settles w r → Settles (movedAndSorted o set) r
+pub settles-unsorted : (o : LayerOffset) (set w : Definitions.ClipSet) (r : Parsed) → lt (o .scale) 0·0 ≡ false → w ≡ moved o set → Stores w r → Stores (movedAndSorted o set) r
 unfolding movedAndSorted
-settles-unsorted o set w r e f s = rw e (subst (λ (x : Definitions.ClipSet). Settles x r) f s)
+settles-unsorted o set w r e f s = rw e (subst (λ (x : Definitions.ClipSet). Stores x r) f s)

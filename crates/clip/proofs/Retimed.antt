@@ -12,8 +12,8 @@ use Rattle.laws.specs.set.Sound.{Sound}
 use Rattle.laws.proofs.set.SoundRetime.{retime-sound}
 use Rattle.clip.specs.declared.ClipSet.{ClipSet}
 use Rattle.clip.specs.declared.Parsed.{Parsed}
-use Rattle.clip.specs.Holding.{Held, clipSetOf}
-use Rattle.clip.specs.Settling.{settleNumber, Refuses, Settles}
+use Rattle.clip.specs.Holding.{ArraysWhole, clipSetOf}
+use Rattle.clip.specs.Storing.{settleNumber, Refuses, Stores}
 use Rattle.clip.specs.Retiming.{movedAndSorted, Retimes}
 use Rattle.clip.proofs.Standing.{sound-mark, sound-settles}
 
@@ -54,7 +54,7 @@ module _ (set : ClipSet) (o : LayerOffset) where
     unfolding movedNumber settleNumber
     number-is = rw (p, q, default-kept, sound-mark (clipSetOf set) s)
 
-    pub retime-identity : Held set → isIdentity o ≡ true → Retimes set o (record { number = 0; set = set })
+    pub retime-identity : ArraysWhole set → isIdentity o ≡ true → Retimes set o (record { number = 0; set = set })
     retime-identity h e = record {
       number = sym (sound-settles (clipSetOf set) s) ∙ ap settleNumber (sym (unmoved e)) ∙ number-is;
       moved = λ z. sym (unmoved e);
@@ -62,7 +62,7 @@ module _ (set : ClipSet) (o : LayerOffset) where
       held = h;
     }
 
-    pub retime-settles : (r : Parsed) → Fits (o .scale) → isIdentity o ≡ false → Settles (movedAndSorted o (clipSetOf set)) r → Retimes set o r
+    pub retime-settles : (r : Parsed) → Fits (o .scale) → isIdentity o ≡ false → Stores (movedAndSorted o (clipSetOf set)) r → Retimes set o r
     retime-settles r f e t = record {
       number = n;
       moved = λ z. t .made z ∙ sym (is-moved e);

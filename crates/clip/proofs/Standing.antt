@@ -20,7 +20,7 @@ use Rattle.laws.proofs.list.Every.{every-map}
 use Rattle.laws.specs.set.Stored.{Stored, Lt}
 use Rattle.laws.proofs.set.Stored.{stored-number}
 use Rattle.laws.specs.set.Sound.{Sound}
-use Rattle.clip.specs.Settling.{settleNumber}
+use Rattle.clip.specs.Storing.{settleNumber}
 use Rattle.clip.proofs.Laws.{every-storable}
 
 pub stored-passes : (xs : List Float) → Every Stored xs → anyUnstorable xs ≡ false

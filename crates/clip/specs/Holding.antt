@@ -9,7 +9,7 @@ use Rattle.gf.specs.Doubles.{0·0}
 use Rattle.definitions.specs.declared.Knot.{Knot}
 use Rattle.definitions.specs.declared.Start.{Start}
 use Rattle.definitions.specs.declared.Default.{Default}
-use Rattle.definitions.specs.declared.Manifest.{Manifest}
+use Rattle.definitions.specs.declared.Missing.{Missing}
 use Rattle.definitions.specs.ClipSet as Definitions
 use Rattle.definitions.specs.ClipSet.{maxActive, maxKnots, maxBlocks}
 use Rattle.clip.specs.declared.storage.Active.{Active}
@@ -50,13 +50,13 @@ clipSetOf s = record {
   interpolateMissing = s .interpolate;
 }
 
-abbrev pub manifest : Default → Bool → Manifest
+abbrev pub manifest : Default → Bool → Missing
 manifest default interpolate = record { default = default; interpolate = interpolate }
 
-abbrev pub manifestOf : ClipSet → Manifest
+abbrev pub manifestOf : ClipSet → Missing
 manifestOf s = record { default = s .default; interpolate = s .interpolate }
 
-pub record Held (s : ClipSet) : Type 0 where
+pub record ArraysWhole (s : ClipSet) : Type 0 where
   pub active : Room maxActive (s .active .items) (s .active .count)
   pub knots : Room maxKnots (s .knots .items) (s .knots .count)
   pub blocks : Room maxBlocks (s .blocks .items) (s .blocks .count)
@@ -73,4 +73,4 @@ emptySet = record { clips = 0; active = []; knots = []; blocks = []; default = r
 
 pub record EmptySet (r : ClipSet) : Type 0 where
   pub is : clipSetOf r ≡ emptySet
-  pub held : Held r
+  pub held : ArraysWhole r

@@ -1,4 +1,4 @@
 -- What the contracts on sets by value cite, and what a crate that accepts one cites.
 pub mod Holding
-pub mod Settling
+pub mod Storing
 pub mod Retiming

@@ -12,10 +12,10 @@ use Rattle.definitions.specs.Retime.{moved, sorted, retimeStageTimes, movedNumb
 use Rattle.laws.specs.set.Sound.{Sound}
 use Rattle.clip.specs.declared.ClipSet.{ClipSet}
 use Rattle.clip.specs.declared.Parsed.{Parsed}
-use Rattle.clip.specs.Holding.{Held, clipSetOf}
+use Rattle.clip.specs.Holding.{ArraysWhole, clipSetOf}
 
 -- lists as long as the set's
-pub record Spacious (set : ClipSet) (ts : List Float) (ns : List ℕ) (us vs bs : List Float) : Type 0 where
+pub record RoomForAll (set : ClipSet) (ts : List Float) (ns : List ℕ) (us vs bs : List Float) : Type 0 where
   pub times : length ts ≡ set .active .count
   pub numbers : length ns ≡ set .active .count
   pub xs : length us ≡ set .knots .count
@@ -30,4 +30,4 @@ pub record Retimes (set : ClipSet) (o : LayerOffset) (r : Parsed) : Type 0 where
   pub number : r .number ≡ movedNumber (clipSetOf set) o
   pub moved : r .number ≡ 0 → clipSetOf (r .set) ≡ retimeStageTimes o (clipSetOf set)
   pub sound : r .number ≡ 0 → Sound (clipSetOf (r .set))
-  pub held : Held (r .set)
+  pub held : ArraysWhole (r .set)

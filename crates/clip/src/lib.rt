@@ -1,7 +1,7 @@
 // Clip sets by value: how they are stored, what every way to one ends with, and their retiming.
 mod retiming;
-pub mod settling;
 pub mod storage;
+pub mod storing;
 
 use definitions::Default;
 use definitions::LayerOffset;
@@ -9,7 +9,7 @@ use storage::Active;
 use storage::Blocks;
 use storage::Knots;
 ghost use Rattle.laws.specs.set.Sound.{Sound};
-ghost use Rattle.clip.specs.Holding.{Held, clipSetOf, EmptySet};
+ghost use Rattle.clip.specs.Holding.{ArraysWhole, clipSetOf, EmptySet};
 ghost use Rattle.clip.specs.Retiming.{Retimes};
 
 #[repr(C)]
@@ -53,14 +53,14 @@ pub fn empty() -> ClipSet
 impl ClipSet {
     // The set with its stage times moved, unless 2, 4 or 5 refuses that.
     pub fn retime_stage_times(self, o: LayerOffset) -> Parsed
-        requires { ⌜ Held self ⌝ ∗ ⌜ Sound (clipSetOf self) ⌝ }
+        requires { ⌜ ArraysWhole self ⌝ ∗ ⌜ Sound (clipSetOf self) ⌝ }
         ensures { λ r. ⌜ Retimes self o r ⌝ }
     {
         if !gf::is_finite(o.offset) {
-            return settling::refused(2);
+            return storing::refused(2);
         }
         if !gf::is_finite(o.scale) {
-            return settling::refused(2);
+            return storing::refused(2);
         }
         if retiming::is_identity(o) {
             return Parsed {

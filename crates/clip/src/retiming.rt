@@ -1,16 +1,16 @@
 // Retiming: the Rust's `retime_stage_times`. The lists of a set are moved in lists that are lent for it, and settle as any others.
 use crate::ClipSet;
 use crate::Parsed;
-use crate::settling;
 use crate::storage;
+use crate::storing;
 use definitions::LayerOffset;
-use definitions::Manifest;
+use definitions::Missing;
 ghost use mathlib.Core.Path.{_≡_};
 ghost use Rattle.definitions.specs.Retime.{isIdentity, moved};
-ghost use Rattle.laws.specs.cell.Unpacked.{setOf};
-ghost use Rattle.clip.specs.Holding.{Held, clipSetOf, manifestOf};
-ghost use Rattle.clip.specs.Settling.{Settles};
-ghost use Rattle.clip.specs.Retiming.{Spacious, movedAndSorted};
+ghost use Rattle.laws.specs.cell.Lent.{setOf};
+ghost use Rattle.clip.specs.Holding.{ArraysWhole, clipSetOf, manifestOf};
+ghost use Rattle.clip.specs.Storing.{Stores};
+ghost use Rattle.clip.specs.Retiming.{RoomForAll, movedAndSorted};
 
 // Tested, since to apply it would make 0.0 of -0.0.
 pub fn is_identity(o: LayerOffset) -> bool
@@ -32,7 +32,7 @@ fn unpack_moved(
     ys: &mut [f64],
     blocks: &mut [f64],
 )
-    requires { ⌜ Held set ⌝ ∗ ⌜ Spacious set (now times) (now numbers) (now xs) (now ys) (now blocks) ⌝ }
+    requires { ⌜ ArraysWhole set ⌝ ∗ ⌜ RoomForAll set (now times) (now numbers) (now xs) (now ys) (now blocks) ⌝ }
     ensures { λ _. ⌜ setOf (set .clips) (now (times .exit)) (now (numbers .exit)) (now (xs .exit)) (now (ys .exit)) (now (blocks .exit)) (manifestOf set) ≡ moved o (clipSetOf set) ⌝ }
 {
     let active = set.active;
@@ -56,18 +56,18 @@ pub fn retime_lists(
     ys: &mut [f64],
     blocks: &mut [f64],
 ) -> Parsed
-    requires { ⌜ Held set ⌝ ∗ ⌜ Spacious set (now times) (now numbers) (now xs) (now ys) (now blocks) ⌝ }
-    ensures { λ r. ⌜ Settles (movedAndSorted o (clipSetOf set)) r ⌝ }
+    requires { ⌜ ArraysWhole set ⌝ ∗ ⌜ RoomForAll set (now times) (now numbers) (now xs) (now ys) (now blocks) ⌝ }
+    ensures { λ r. ⌜ Stores (movedAndSorted o (clipSetOf set)) r ⌝ }
 {
     unpack_moved(set, o, times, numbers, xs, ys, blocks);
     let clips = set.clips;
     let default = set.default;
-    let manifest = Manifest {
+    let manifest = Missing {
         default,
         interpolate: set.interpolate,
     };
     if o.scale < 0.0 {
-        return settling::sort_and_settle(clips, times, numbers, xs, ys, blocks, manifest);
+        return storing::sort_check_and_store(clips, times, numbers, xs, ys, blocks, manifest);
     }
-    settling::settle(clips, times, numbers, xs, ys, blocks, manifest)
+    storing::check_and_store(clips, times, numbers, xs, ys, blocks, manifest)
 }

@@ -7,7 +7,7 @@ ghost use Prim.Native.Nat.{_≤_};
 ghost use lib.ListN.{length};
 ghost use Rattle.definitions.specs.ClipSet.{maxActive, maxKnots, maxBlocks, activeTimes, knotTimes};
 ghost use Rattle.laws.specs.set.Sound.{knotValues};
-ghost use Rattle.laws.specs.cell.Unpacked.{activeOf, knotsOf};
+ghost use Rattle.laws.specs.cell.Lent.{activeOf, knotsOf};
 ghost use Rattle.clip.specs.Holding.{Room, Holds, AllRoom, activeIn, activeClips, knotsIn, blocksIn};
 
 #[repr(C)]

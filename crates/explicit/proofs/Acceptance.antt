@@ -8,7 +8,7 @@ use lib.Ieee.{Float}
 use Rattle.gf.specs.Doubles.{truncated, storable}
 use Rattle.definitions.specs.declared.Start.{Start}
 use Rattle.definitions.specs.declared.Knot.{Knot}
-use Rattle.definitions.specs.declared.Manifest.{Manifest}
+use Rattle.definitions.specs.declared.Missing.{Missing}
 use Rattle.definitions.specs.Lists.{zipWith}
 use Rattle.definitions.specs.ClipSet.{activeTimes, knotTimes, anyUnstorable, nanDefault, beyondLimits}
 use Rattle.definitions.specs.Explicit.{ExplicitFields, activation, knot, explicitSet, explicit1, explicit2, explicit3, explicitNumber}
@@ -19,9 +19,9 @@ use Rattle.laws.proofs.list.Every.{any-not-every, every-to-map, every-zip-left}
 use Rattle.laws.specs.set.Sound.{Sound}
 use Rattle.laws.proofs.set.Sound.{sorted-times, sorted-xs}
 use Rattle.laws.proofs.set.SoundExplicit.{ExplicitFits, ExplicitLimits, explicit-limits, explicit-sound}
-use Rattle.laws.specs.cell.Unpacked.{start, setOf}
+use Rattle.laws.specs.cell.Lent.{start, setOf}
 use Rattle.clip.specs.declared.Parsed.{Parsed}
-use Rattle.clip.specs.Settling.{settleNumber, Refuses, Settles}
+use Rattle.clip.specs.Storing.{settleNumber, Refuses, Stores}
 use Rattle.explicit.specs.Parsing.{explicitFields, anyNotClip, fieldsNumber, Parses}
 use Rattle.clip.proofs.Laws.{same-number, every-storable}
 
@@ -54,7 +54,7 @@ indexed [] cs = refl
 indexed (t ∷ ts) [] = refl
 indexed (t ∷ ts) (c ∷ cs) = ap (λ (l : List Start). activation t c ∷ l) (indexed ts cs)
 
-pub explicit-is : (clips : ℕ) (starts times numbers : List Float) (indices : List ℕ) (xs us ys vs blocks : List Float) (m : Manifest) → times ≡ starts → indices ≡ map truncated numbers → us ≡ xs → vs ≡ ys
+pub explicit-is : (clips : ℕ) (starts times numbers : List Float) (indices : List ℕ) (xs us ys vs blocks : List Float) (m : Missing) → times ≡ starts → indices ≡ map truncated numbers → us ≡ xs → vs ≡ ys
     → sorted (setOf clips times indices us vs blocks m) ≡ explicitSet (explicitFields clips starts numbers xs ys blocks m)
 unfolding sorted setOf explicitSet
 explicit-is clips starts times numbers indices xs us ys vs blocks m t i x y = rw (t, i, x, y, indexed starts numbers)
@@ -93,7 +93,7 @@ parse-refuses f n r e h q = record {
   held = q .held;
 }
 
-pub parse-settles : (f : ExplicitFields) (r : Parsed) → ExplicitFits f → fieldsNumber f ≡ 0 → Settles (explicitSet f) r → Parses f r
+pub parse-settles : (f : ExplicitFields) (r : Parsed) → ExplicitFits f → fieldsNumber f ≡ 0 → Stores (explicitSet f) r → Parses f r
 parse-settles f r h z s = record {
   number = n;
   made = s .made;

@@ -7,15 +7,15 @@ use lib.Dec.{ltb, eqb}
 use lib.ListN.{length}
 use lib.Ieee.{Float}
 use Rattle.gf.specs.Doubles.{isClipNumber}
-use Rattle.definitions.specs.declared.Manifest.{Manifest}
+use Rattle.definitions.specs.declared.Missing.{Missing}
 use Rattle.definitions.specs.Lists.{_if_else_, any}
 use Rattle.definitions.specs.ClipSet.{maxClips, maxActive, maxKnots, maxBlocks}
 use Rattle.definitions.specs.Explicit.{ExplicitFields, explicitSet, explicit1, explicit2, explicit3, explicitNumber}
 use Rattle.laws.specs.set.Sound.{Sound}
 use Rattle.clip.specs.declared.Parsed.{Parsed}
-use Rattle.clip.specs.Holding.{Held, clipSetOf}
+use Rattle.clip.specs.Holding.{ArraysWhole, clipSetOf}
 
-abbrev pub explicitFields : ℕ → List Float → List Float → List Float → List Float → List Float → Manifest → ExplicitFields
+abbrev pub explicitFields : ℕ → List Float → List Float → List Float → List Float → List Float → Missing → ExplicitFields
 explicitFields clips starts numbers xs ys blocks m = record {
   clips = clips;
   startTimes = starts;
@@ -61,4 +61,4 @@ pub record Parses (f : ExplicitFields) (r : Parsed) : Type 0 where
   pub number : r .number ≡ explicitNumber f
   pub made : r .number ≡ 0 → clipSetOf (r .set) ≡ explicitSet f
   pub sound : r .number ≡ 0 → Sound (clipSetOf (r .set))
-  pub held : Held (r .set)
+  pub held : ArraysWhole (r .set)

@@ -1,6 +1,6 @@
 // An explicit set's fields: the numbers that they alone give.
-use clip::settling;
-use definitions::Manifest;
+use clip::storing;
+use definitions::Missing;
 ghost use mathlib.Core.Path.{_≡_};
 ghost use Rattle.explicit.specs.Parsing.{explicitFields, misshapen, anyNotClip, fieldsNumber};
 
@@ -61,7 +61,7 @@ pub fn fields_number(
     xs: &[f64],
     ys: &[f64],
     blocks: &[f64],
-    manifest: Manifest,
+    manifest: Missing,
 ) -> u8
     ensures { λ r. ⌜ r ≡ fieldsNumber (explicitFields clips (now (starts .entry)) (now (numbers .entry)) (now (xs .entry)) (now (ys .entry)) (now (blocks .entry)) manifest) ⌝ }
 {
@@ -87,7 +87,7 @@ pub fn fields_number(
     if lists::any_unstorable(blocks) {
         return 2;
     }
-    if settling::is_nan_default(manifest.default) {
+    if storing::is_nan_default(manifest.default) {
         return 2;
     }
     if any_not_clip(numbers, clips) {

@@ -3,10 +3,10 @@ mod fields;
 mod parsing;
 
 use clip::Parsed;
-use clip::settling;
 use clip::storage;
+use clip::storing;
 use definitions::Default;
-use definitions::Manifest;
+use definitions::Missing;
 ghost use Rattle.clip.specs.Holding.{manifest};
 ghost use Rattle.explicit.specs.Parsing.{explicitFields, Parses};
 
@@ -23,13 +23,13 @@ pub fn parse_set(
 ) -> Parsed
     ensures { λ r. ⌜ Parses (explicitFields clips (now (starts .entry)) (now (numbers .entry)) (now (xs .entry)) (now (ys .entry)) (now (blocks .entry)) (manifest default interpolate)) r ⌝ }
 {
-    let manifest = Manifest {
+    let manifest = Missing {
         default,
         interpolate,
     };
     let number = fields::fields_number(clips, starts, numbers, xs, ys, blocks, manifest);
     if number != 0 {
-        return settling::refused(number);
+        return storing::refused(number);
     }
     let n = starts.len();
     let m = xs.len();

@@ -1,14 +1,14 @@
 // An explicit set's lists: the fields copied, sorted and settled.
 use clip::Parsed;
-use clip::settling;
-use definitions::Manifest;
+use clip::storing;
+use definitions::Missing;
 ghost use mathlib.Core.Path.{_≡_};
 ghost use mathlib.Core.Bool.{false};
 ghost use mathlib.Core.List.{map};
 ghost use lib.ListN.{length};
 ghost use Rattle.gf.specs.Doubles.{truncated};
 ghost use Rattle.definitions.specs.Explicit.{explicitSet};
-ghost use Rattle.clip.specs.Settling.{Settles};
+ghost use Rattle.clip.specs.Storing.{Stores};
 ghost use Rattle.explicit.specs.Parsing.{Lent, explicitFields, anyNotClip, fieldsNumber};
 
 // The clip numbers as indices. -0.0 is 0.
@@ -31,18 +31,18 @@ pub fn parse_lists(
     xs: &[f64],
     ys: &[f64],
     blocks: &[f64],
-    manifest: Manifest,
+    manifest: Missing,
     times: &mut [f64],
     indices: &mut [u64],
     us: &mut [f64],
     vs: &mut [f64],
 ) -> Parsed
     requires { ⌜ fieldsNumber (explicitFields clips (now starts) (now numbers) (now xs) (now ys) (now blocks) manifest) ≡ 0 ⌝ ∗ ⌜ Lent (now starts) (now xs) (now times) (now indices) (now us) (now vs) ⌝ }
-    ensures { λ r. ⌜ Settles (explicitSet (explicitFields clips (now (starts .entry)) (now (numbers .entry)) (now (xs .entry)) (now (ys .entry)) (now (blocks .entry)) manifest)) r ⌝ }
+    ensures { λ r. ⌜ Stores (explicitSet (explicitFields clips (now (starts .entry)) (now (numbers .entry)) (now (xs .entry)) (now (ys .entry)) (now (blocks .entry)) manifest)) r ⌝ }
 {
     lists::writing::copy(starts, times);
     copy_clips(numbers, clips, indices);
     lists::writing::copy(xs, us);
     lists::writing::copy(ys, vs);
-    settling::sort_and_settle(clips, times, indices, us, vs, blocks, manifest)
+    storing::sort_check_and_store(clips, times, indices, us, vs, blocks, manifest)
 }

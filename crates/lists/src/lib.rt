@@ -19,7 +19,7 @@ ghost use Rattle.definitions.specs.Doubles.{twoEqual, threeEqual};
 ghost use Rattle.definitions.specs.ClipSet.{anyUnstorable};
 ghost use Rattle.definitions.specs.Timing.{lastAtMost, mapTime, mapStageToClip};
 ghost use Rattle.laws.specs.list.Places.{Ascending};
-ghost use Rattle.laws.specs.cell.Unpacked.{knotsOf};
+ghost use Rattle.laws.specs.cell.Lent.{knotsOf};
 
 // 1 for a time that may not be stored, else 0.
 fn unstorable(time: f64) -> u64

@@ -28,7 +28,7 @@ fn listed_number(times: &[f64], values: &[f64], marks: &[u8]) -> u8
 
 // The samples sorted stably by time, and of equal times the first time with the last value and mark.
 // Nothing is written before the merged count is known to fit.
-pub fn normalize(
+pub fn normalize_time_samples(
     times: &[f64],
     values: &[f64],
     marks: &[u8],

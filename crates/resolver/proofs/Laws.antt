@@ -25,7 +25,7 @@ use Rattle.definitions.specs.declared.StageTime.{StageTime}
 use Rattle.definitions.specs.Questions.{Reply, refused, replied, reply, ofSet, stageTimeNumber, roomNumber, askStageSampleTimes, askStageSamples}
 use Rattle.gf.specs.Doubles.{0·0}
 use Rattle.definitions.specs.Track.{Track, Outputs, slots, bakeNumber}
-use Rattle.laws.specs.cell.Unpacked.{setOf, samplesOf}
+use Rattle.laws.specs.cell.Lent.{setOf, samplesOf}
 use Rattle.laws.proofs.cell.Unpacked.{active-times, knot-times, sound-set, sound-samples}
 use Rattle.track.specs.declared.bake.Baked.{Baked}
 use Rattle.track.specs.Bakes.{BakeIs, bakedIs, bakedReply}

@@ -24,7 +24,7 @@ use Rattle.definitions.specs.Calls as calls
 use Rattle.definitions.specs.Calls.{explicit, template, retime, step, accepted}
 use Rattle.laws.specs.set.Sound.{Sound}
 use Rattle.clip.specs.declared.Parsed.{Parsed}
-use Rattle.clip.specs.Holding.{clipSetOf, Held}
+use Rattle.clip.specs.Holding.{clipSetOf, ArraysWhole}
 use Rattle.resolver.specs.declared.Resolver.{Resolver}
 use Rattle.resolver.specs.declared.Accepted.{Accepted}
 use Rattle.resolver.specs.declared.ClipReply.{ClipReply}
@@ -112,7 +112,7 @@ BakesTrack d s before r now = calls.Bakes (model d) s before r now
 
 -- its arrays are whole, and if no number refuses it, it is well-formed
 pub record Installable (p : Parsed) : Type 0 where
-  pub held : Held (p .set)
+  pub held : ArraysWhole (p .set)
   pub sound : p .number ≡ 0 → Sound (clipSetOf (p .set))
 
 pub record Installs (d : Resolver) (p : Parsed) (retimed : Bool) (r : Accepted) : Type 0 where

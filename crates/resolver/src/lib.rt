@@ -13,7 +13,7 @@ use standing::questions::ActiveClip;
 use track::bake::Baked;
 use value::untimed::ValueState;
 ghost use mathlib.Core.Path.{_≡_};
-ghost use Rattle.laws.specs.cell.Unpacked.{samplesOf};
+ghost use Rattle.laws.specs.cell.Lent.{samplesOf};
 ghost use Rattle.clip.specs.Holding.{manifest};
 ghost use Rattle.explicit.specs.Parsing.{explicitFields};
 ghost use Rattle.template.specs.Expanding.{templateFields};

@@ -27,7 +27,7 @@ use Rattle.laws.proofs.cell.Places.{keep-le-same}
 use Rattle.window.specs.Inverses.{onSegment}
 use Rattle.cell.specs.step.Lines.{placeOn}
 use Rattle.run.specs.Readings.{readingAt}
-use Rattle.run.specs.Passages.{lineOn, passedBy, passingAt, Passing, spanned, inverseKey, PassedAt}
+use Rattle.run.specs.Runs.{lineOn, passedBy, passingAt, Passing, spanned, inverseKey, InRunAt}
 use Rattle.run.proofs.PassagesLaws.{segment-fits, passing-lower}
 use Rattle.run.proofs.Passages.{span-number}
 use Rattle.run.proofs.Readings.{entry-alike}
@@ -100,7 +100,7 @@ module _ {cs vs : List Float} {ms : List ℕ} {q : Knot × Knot} {floor : Float}
 
   -- ---- the next one
 
-  module _ {n at m i p : ℕ} (l : k ≤ at) (S : PassedAt cs q n at hi m i p) where
+  module _ {n at m i p : ℕ} (l : k ≤ at) (S : InRunAt cs q n at hi m i p) where
     pub passed-reads : passingAt cs vs ms q floor m ≡ readingAt cs vs ms (lineOn q) m
     passed-reads = reached m i (omega (arith, S .from)) (S .within) (S .inside) (S .between) (S .here)
 

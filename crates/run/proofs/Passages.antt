@@ -27,10 +27,10 @@ use Rattle.window.proofs.Inverses.{every-of}
 use Rattle.window.specs.Near.{SoundSegment}
 use Rattle.window.proofs.Near.{inverse-fits}
 use Rattle.window.proofs.nearest.Beside.{number-at, climb}
-use Rattle.window.specs.nearest.Turns.{isBeyond, Turn}
-use Rattle.run.specs.declared.passing.Ahead.{Ahead}
-use Rattle.run.specs.declared.passing.Ahead.the-variants.{At, Nothing}
-use Rattle.run.specs.Passages.{spanned, inverseKey, Passes, SampleIs, PassedAt, NextPassed}
+use Rattle.window.specs.nearest.Crossings.{isBeyond, Crossing}
+use Rattle.run.specs.declared.passing.NextInRun.{NextInRun}
+use Rattle.run.specs.declared.passing.NextInRun.the-variants.{At, Nothing}
+use Rattle.run.specs.Runs.{spanned, inverseKey, InRun, SampleIs, InRunAt, NextInRunIs}
 
 differ : {A : Type 0} → true ≡ false → A
 differ q = let z : _≡_ {A = ℕ} 0 1 = cc in absurd (omega arith)
@@ -137,7 +137,7 @@ module _ (cs : List Float) (a : Ascending cs) (q : Knot × Knot) (s : SoundSegme
 
   -- ---- the place where the walk begins
 
-  module _ (k n : ℕ) (low : least ≤ k) (high : k ≤ most) (U : Turn (isBeyond (ofKey k) q) cs n) where
+  module _ (k n : ℕ) (low : least ≤ k) (high : k ≤ most) (U : Crossing (isBeyond (ofKey k) q) cs n) where
     abbrev t : Float
     t = ofKey k
 
@@ -218,7 +218,7 @@ module _ (cs : List Float) (a : Ascending cs) (q : Knot × Knot) (s : SoundSegme
 
     -- ---- so the walk begins there
 
-    pub begins : Passes cs q n k
+    pub begins : InRun cs q n k
     begins = record {
       upto = U .upto;
       rising = λ u. (
@@ -283,18 +283,18 @@ module _ (cs : List Float) (a : Ascending cs) (q : Knot × Knot) (s : SoundSegme
 
   -- ---- the next one
 
-  module _ (n k top : ℕ) (P : Passes cs q n k) where
-    moved : (m j p i b : ℕ) → m ≡ f i → j ≡ i → p ≡ b → PassedAt cs q n k top (f i) i b → PassedAt cs q n k top m j p
-    moved m j p i b x y z h = subst (λ (o : ℕ). PassedAt cs q n k top o j p) (sym x) (subst (λ (o : ℕ). PassedAt cs q n k top (f i) o p) (sym y) (subst (λ (o : ℕ). PassedAt cs q n k top (f i) i o) (sym z) h))
+  module _ (n k top : ℕ) (P : InRun cs q n k) where
+    moved : (m j p i b : ℕ) → m ≡ f i → j ≡ i → p ≡ b → InRunAt cs q n k top (f i) i b → InRunAt cs q n k top m j p
+    moved m j p i b x y z h = subst (λ (o : ℕ). InRunAt cs q n k top o j p) (sym x) (subst (λ (o : ℕ). InRunAt cs q n k top (f i) o p) (sym y) (subst (λ (o : ℕ). InRunAt cs q n k top (f i) i o) (sym z) h))
 
     module _ (u : T (lt lo hi)) where
       -- all samples are passed
-      pub end-up : length cs ≤ n → NextPassed cs q n k top Nothing
+      pub end-up : length cs ≤ n → NextInRunIs cs q n k top Nothing
       end-up l = each-time (λ (x : Float). key x ≤ top → key x ≤ k) (λ i h p _. P .rising u .0 i (omega arith) p)
 
       module _ (l : n < length cs) where
         -- those that come lie beyond the segment
-        pub over-end : le (c n) hi ≡ false → NextPassed cs q n k top Nothing
+        pub over-end : le (c n) hi ≡ false → NextInRunIs cs q n k top Nothing
         over-end e = each-time (λ (x : Float). key x ≤ top → key x ≤ k) each
           where
             each : (i : ℕ) → i < length cs → spanned cs q i → f i ≤ top → f i ≤ k
@@ -311,7 +311,7 @@ module _ (cs : List Float) (a : Ascending cs) (q : Knot × Knot) (s : SoundSegme
           pub span-up : spanned cs q n
           span-up = spans-up n u (P .rising u .1 n (omega arith) l .0) h
 
-          pub step-up : (r : Ahead) → SampleIs cs q n (n + 1) top r → NextPassed cs q n k top r
+          pub step-up : (r : NextInRun) → SampleIs cs q n (n + 1) top r → NextInRunIs cs q n k top r
           step-up (At m j p) S = moved m j p n (n + 1) (S .0) (S .2) (S .3) (record {
             from = P .rising u .1 n (omega arith) l .1 span-up;
             within = omega (arith, S .0, S .1);
@@ -329,14 +329,14 @@ module _ (cs : List Float) (a : Ascending cs) (q : Knot × Knot) (s : SoundSegme
           step-up Nothing S = each-time (λ (x : Float). key x ≤ top → key x ≤ k) (λ i g o v. elim (decLe n i) [ yes w ↦ absurd (let z = climbs u n i w g span-up o in omega arith) | no w ↦ P .rising u .0 i (omega arith) o ])
 
     module _ (d : T (lt hi lo)) where
-      pub end-down : n ≡ 0 → NextPassed cs q n k top Nothing
+      pub end-down : n ≡ 0 → NextInRunIs cs q n k top Nothing
       end-down z = each-time (λ (x : Float). key x ≤ top → key x ≤ k) (λ i h p _. P .falling d .0 i (omega arith) h p)
 
       module _ (b : ℕ) (e : suc b ≡ n) where
         low : b < length cs
         low = omega (arith, P .upto)
 
-        pub under-end : le hi (c b) ≡ false → NextPassed cs q n k top Nothing
+        pub under-end : le hi (c b) ≡ false → NextInRunIs cs q n k top Nothing
         under-end w = each-time (λ (x : Float). key x ≤ top → key x ≤ k) each
           where
             each : (i : ℕ) → i < length cs → spanned cs q i → f i ≤ top → f i ≤ k
@@ -352,7 +352,7 @@ module _ (cs : List Float) (a : Ascending cs) (q : Knot × Knot) (s : SoundSegme
           pub span-down : spanned cs q b
           span-down = spans-down b d h (P .falling d .1 b (omega arith) .0)
 
-          pub step-down : (r : Ahead) → SampleIs cs q b b top r → NextPassed cs q n k top r
+          pub step-down : (r : NextInRun) → SampleIs cs q b b top r → NextInRunIs cs q n k top r
           step-down (At m j p) S = moved m j p b b (S .0) (S .2) (S .3) (record {
             from = P .falling d .1 b (omega arith) .1 span-down;
             within = omega (arith, S .0, S .1);
@@ -370,7 +370,7 @@ module _ (cs : List Float) (a : Ascending cs) (q : Knot × Knot) (s : SoundSegme
           step-down Nothing S = each-time (λ (x : Float). key x ≤ top → key x ≤ k) (λ i g o v. elim (decLe n i) [ yes w ↦ P .falling d .0 i w g o | no w ↦ absurd (let z = sinks d i b (omega arith) low o span-down in omega arith) ])
 
     -- a flat segment spans nothing
-    pub end-flat : lt lo hi ≡ false → lt hi lo ≡ false → NextPassed cs q n k top Nothing
+    pub end-flat : lt lo hi ≡ false → lt hi lo ≡ false → NextInRunIs cs q n k top Nothing
     end-flat x y = each-time (λ (z : Float). key z ≤ top → key z ≤ k) each
       where
         each : (i : ℕ) → i < length cs → spanned cs q i → f i ≤ top → f i ≤ k

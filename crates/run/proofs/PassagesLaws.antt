@@ -22,7 +22,7 @@ use Rattle.laws.proofs.cell.Neighbours.{lower-found}
 use Rattle.laws.specs.cell.Places.{Fits}
 use Rattle.window.specs.Inverses.{onSegment}
 use Rattle.window.proofs.Near.{inverse-fits}
-use Rattle.run.specs.Passages.{passedBy}
+use Rattle.run.specs.Runs.{passedBy}
 
 -- ---- the time passed last as a lower neighbour
 

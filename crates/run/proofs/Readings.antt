@@ -20,7 +20,7 @@ use Rattle.laws.proofs.cell.Tracks.{marked-fits, alike-same}
 use Rattle.window.proofs.Parts.{last-short}
 use Rattle.cell.specs.declared.step.line.Line.{Line}
 use Rattle.cell.specs.step.Lines.{lineIs, placeOn}
-use Rattle.run.specs.Readings.{Reads, Turns, entryAt, readingAt}
+use Rattle.run.specs.Readings.{Reads, LeftOnce, entryAt, readingAt}
 use Rattle.run.proofs.Walking.{Reaches}
 
 -- ---- the entry at a place
@@ -45,7 +45,7 @@ entry-alike {vs = vs} {ms} R p r h =
 
 -- ---- the place
 
-pub turns-once : {f : ℕ → ℕ} {k hi : ℕ} (at : ℕ) → k ≤ at → Turns f k hi → Once f at hi
+pub turns-once : {f : ℕ → ℕ} {k hi : ℕ} (at : ℕ) → k ≤ at → LeftOnce f k hi → Once f at hi
 turns-once {f} at h (inl g) = grows-once {f = f} (λ i j p q r. g i j (omega arith) q r)
 turns-once {f} at h (inr g) = falls-once {f = f} (λ i j p q r. g i j (omega arith) q r)
 

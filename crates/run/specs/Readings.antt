@@ -33,5 +33,5 @@ abbrev pub readingAt : List Float → List Float → List ℕ → Line → ℕ �
 readingAt ts vs ms line k = entryAt vs ms (placeOn ts line k)
 
 -- f grows or falls on the keys from lo to hi
-abbrev pub Turns : (ℕ → ℕ) → ℕ → ℕ → Type 0
-Turns f lo hi = Grows f lo hi ⊎ Falls f lo hi
+abbrev pub LeftOnce : (ℕ → ℕ) → ℕ → ℕ → Type 0
+LeftOnce f lo hi = Grows f lo hi ⊎ Falls f lo hi

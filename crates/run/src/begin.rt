@@ -7,7 +7,7 @@ use lists::segment::spans;
 use lists::segment::stage_time;
 use value::windowed::is_between;
 use window::Bound;
-use window::crossing::turn;
+use window::crossing::crossing;
 use window::neighbours::Window;
 use window::neighbours::near_in;
 ghost use mathlib.Core.Path.{_≡_};
@@ -19,11 +19,11 @@ ghost use lib.ListN.{length};
 ghost use lib.Ieee.{inf, isNan, lt, le};
 ghost use Rattle.laws.specs.list.Places.{Ascending};
 ghost use Rattle.window.specs.neighbours.Windowed.{samplesIn, Lent, Nearing};
-ghost use Rattle.run.specs.begin.Begins.{BeforeIs, LastIs, PastTops, OnsetIs};
+ghost use Rattle.run.specs.begin.Begins.{BeforeIs, LastIs, PastLatest, RunBeginIs};
 
 // The place of the segment's first knot, the lower neighbour, the inverse time up to which the run goes,
 // and the place of a sample near its beginning; or no run begins.
-pub enum Onset {
+pub enum RunBegin {
     At(usize, f64, f64, usize),
     Nothing,
 }
@@ -62,7 +62,7 @@ fn last_before(cs: &[f64], s: Segment, ceil: f64) -> Bound
     if MOST < k {
         return Bound::Nothing;
     }
-    let n = turn(cs, s, gf::of_key(k - 1), 0);
+    let n = crossing(cs, s, gf::of_key(k - 1), 0);
     let i = place_passed(s, n);
     if i < cs.len() {
         let c = cs[i];
@@ -88,7 +88,7 @@ fn last_in(xs: &[f64], ys: &[f64], cs: &[f64], i: usize, max: f64) -> Bound
 }
 
 // Whether the run begins at t: from the start on, and below h.
-fn is_ahead(start: f64, t: f64, h: f64) -> bool
+fn is_below(start: f64, t: f64, h: f64) -> bool
     ensures { λ r. ⌜ ((r ≡ true) → T (le start t) × T (lt t h)) ⌝ }
 {
     if start <= t {
@@ -99,7 +99,7 @@ fn is_ahead(start: f64, t: f64, h: f64) -> bool
 
 // Whether no inverse time of the segments before the knot at i is above l.
 fn is_past(tops: &[f64], i: usize, l: f64) -> bool
-    ensures { λ r. ⌜ ((r ≡ true) → PastTops (now (tops .entry)) i l) ⌝ }
+    ensures { λ r. ⌜ ((r ≡ true) → PastLatest (now (tops .entry)) i l) ⌝ }
 {
     if i == 0 {
         return true;
@@ -113,7 +113,7 @@ fn is_past(tops: &[f64], i: usize, l: f64) -> bool
 
 // The run that begins at t, if t lies in a segment and below the last of its inverse times before the next
 // knot and the next start. The hints are a knot and a sample.
-pub fn onset_at(
+pub fn run_begin(
     xs: &[f64],
     ys: &[f64],
     tops: &[f64],
@@ -122,33 +122,33 @@ pub fn onset_at(
     t: f64,
     knot: usize,
     sample: usize,
-) -> Onset
+) -> RunBegin
     requires { ⌜ Nearing (now xs) (now ys) (now tops) (samplesIn (now times) w) w t ⌝ ∗ ⌜ Lent (now times) w ⌝ }
     requires { ⌜ (w .min ≡ inf true) ⊎ (w .min ≡ w .start) ⌝ }
-    ensures { λ r. ⌜ OnsetIs (now (xs .entry)) (now (ys .entry)) (now (tops .entry)) (now (times .entry)) w t r ⌝ }
+    ensures { λ r. ⌜ RunBeginIs (now (xs .entry)) (now (ys .entry)) (now (tops .entry)) (now (times .entry)) w t r ⌝ }
 {
     let begin = w.begin;
     let end = w.end;
     if end <= begin {
-        return Onset::Nothing;
+        return RunBegin::Nothing;
     }
     let i = lists::near::last_at_most_near(xs, t, knot);
     if !is_between(xs, t, i) {
-        return Onset::Nothing;
+        return RunBegin::Nothing;
     }
     let Bound::At(h) = last_in(xs, ys, &times[begin..end], i, w.max) else {
-        return Onset::Nothing;
+        return RunBegin::Nothing;
     };
-    if !is_ahead(w.start, t, h) {
-        return Onset::Nothing;
+    if !is_below(w.start, t, h) {
+        return RunBegin::Nothing;
     }
     let near = near_in(xs, ys, tops, &times[begin..end], w, t, i, sample);
     let lower = near.lower;
     let Bound::At(l) = lower else {
-        return Onset::Nothing;
+        return RunBegin::Nothing;
     };
     if !is_past(tops, i, l) {
-        return Onset::Nothing;
+        return RunBegin::Nothing;
     }
-    Onset::At(i, l, h, near.sample)
+    RunBegin::At(i, l, h, near.sample)
 }

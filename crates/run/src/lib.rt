@@ -26,7 +26,7 @@ ghost use Rattle.laws.specs.list.Places.{Ascending};
 ghost use Rattle.laws.specs.cell.Keys.{Keys};
 ghost use Rattle.cell.specs.step.Lines.{placeOn};
 ghost use Rattle.cell.specs.step.Entries.{entryIs};
-ghost use Rattle.run.specs.Readings.{Reads, Turns, entryAt, readingAt};
+ghost use Rattle.run.specs.Readings.{Reads, LeftOnce, entryAt, readingAt};
 ghost use Rattle.run.specs.Walks.{outputs, Room, Walked};
 
 // The entry of the sample at a place.
@@ -66,7 +66,7 @@ pub fn fill_changes(
 ) -> Went
     requires { ⌜ Reads (now ts) (now vs) (now ms) ⌝ }
     requires { ⌜ Keys k hi ⌝ }
-    requires { ⌜ Turns (placeOn (now ts) line) k hi ⌝ }
+    requires { ⌜ LeftOnce (placeOn (now ts) line) k hi ⌝ }
     requires { ⌜ Room room n (outputs (now outtimes) (now outvalues) (now outmarks)) ⌝ }
     ensures { λ r. ⌜ Walked (readingAt (now (ts .entry)) (now (vs .entry)) (now (ms .entry)) line) k hi room n (outputs (now (outtimes .entry)) (now (outvalues .entry)) (now (outmarks .entry))) (outputs (now (outtimes .exit)) (now (outvalues .exit)) (now (outmarks .exit))) r ⌝ }
 {

@@ -9,7 +9,7 @@ use cell::step::line::along;
 use definitions::Segment;
 use lists::near::last_at_most_near;
 use lists::segment::stage_time;
-use window::crossing::turn;
+use window::crossing::crossing;
 ghost use mathlib.Core.Path.{_≡_};
 ghost use Prim.Native.Nat.{_≤_, _<_};
 ghost use lib.ListN.{length};
@@ -18,11 +18,11 @@ ghost use Rattle.laws.specs.list.Places.{Ascending};
 ghost use Rattle.window.specs.Near.{SoundSegment};
 ghost use Rattle.cell.specs.step.Entries.{entryIs};
 ghost use Rattle.run.specs.Readings.{Reads, readingAt};
-ghost use Rattle.run.specs.Passages.{spanned, passingAt, Passing, Passes, SampleIs, NextPassed};
+ghost use Rattle.run.specs.Runs.{spanned, passingAt, Passing, InRun, SampleIs, NextInRunIs};
 ghost use Rattle.run.specs.Walks.{outputs, Room, Walked};
 
 // The key of the next inverse time, the place of its sample, and the place behind it; or none.
-pub enum Ahead {
+pub enum NextInRun {
     At(u64, usize, usize),
     Nothing,
 }
@@ -38,47 +38,47 @@ fn entry_along(cs: &[f64], vs: &[f64], ms: &[u8], line: Line, k: u64, hint: usiz
 }
 
 // The inverse time of the sample at i, where it is not above hi; p is the place behind it.
-fn sample_ahead(cs: &[f64], s: Segment, i: usize, p: usize, hi: u64) -> Ahead
+fn sample_in_run(cs: &[f64], s: Segment, i: usize, p: usize, hi: u64) -> NextInRun
     requires { ⌜ SoundSegment (s .a, s .b) ⌝ ∗ ⌜ Ascending (now cs) ⌝ }
     requires { ⌜ i < length (now cs) ⌝ ∗ ⌜ spanned (now cs) (s .a, s .b) i ⌝ }
     ensures { λ r. ⌜ SampleIs (now (cs .entry)) (s .a, s .b) i p hi r ⌝ }
 {
     let m = gf::key(stage_time(s, cs[i]));
     if hi < m {
-        return Ahead::Nothing;
+        return NextInRun::Nothing;
     }
-    Ahead::At(m, i, p)
+    NextInRun::At(m, i, p)
 }
 
 // The next inverse time from the key k on, whose place among the samples is n: they are passed upwards where the segment rises, downwards where it falls.
-fn next_passed(cs: &[f64], s: Segment, n: usize, k: u64, hi: u64) -> Ahead
+fn next_in_run(cs: &[f64], s: Segment, n: usize, k: u64, hi: u64) -> NextInRun
     requires { ⌜ SoundSegment (s .a, s .b) ⌝ ∗ ⌜ Ascending (now cs) ⌝ }
-    requires { ⌜ Passes (now cs) (s .a, s .b) n k ⌝ }
-    ensures { λ r. ⌜ NextPassed (now (cs .entry)) (s .a, s .b) n k hi r ⌝ }
+    requires { ⌜ InRun (now cs) (s .a, s .b) n k ⌝ }
+    ensures { λ r. ⌜ NextInRunIs (now (cs .entry)) (s .a, s .b) n k hi r ⌝ }
 {
     let ca = s.a.y;
     let cb = s.b.y;
     if ca < cb {
         if n < cs.len() {
             if cs[n] <= cb {
-                return sample_ahead(cs, s, n, n + 1, hi);
+                return sample_in_run(cs, s, n, n + 1, hi);
             }
         }
-        return Ahead::Nothing;
+        return NextInRun::Nothing;
     }
     if cb < ca {
         if 0 < n {
             let before = n - 1;
             if cb <= cs[before] {
-                return sample_ahead(cs, s, before, before, hi);
+                return sample_in_run(cs, s, before, before, hi);
             }
         }
     }
-    Ahead::Nothing
+    NextInRun::Nothing
 }
 
 // Writes the changes above k and up to hi from slot `slot` on, while there is room, where `last` is read at k. The hint n is for the place of k.
-pub fn fill_passed(
+pub fn fill_run(
     cs: &[f64],
     vs: &[f64],
     ms: &[u8],
@@ -100,11 +100,11 @@ pub fn fill_passed(
 {
     let line = Line::Segment(s);
     let mut at = k;
-    let mut place = turn(cs, s, gf::of_key(k), n);
+    let mut place = crossing(cs, s, gf::of_key(k), n);
     let mut held = last;
     let mut count = slot;
     loop {
-        let Ahead::At(m, i, next) = next_passed(cs, s, place, at, hi) else {
+        let NextInRun::At(m, i, next) = next_in_run(cs, s, place, at, hi) else {
             return Went {
                 key: hi,
                 last: held,

@@ -6,7 +6,7 @@ use lib.Ieee.{Float}
 use Rattle.definitions.specs.ClipSet.{ClipSet}
 use Rattle.laws.specs.set.Accepted.{Accepted}
 use Rattle.laws.proofs.set.Accepted.{accepted}
-use Rattle.laws.specs.cell.Unpacked.{samplesOf}
+use Rattle.laws.specs.cell.Lent.{samplesOf}
 use Rattle.sdf.specs.Judged.{Judged}
 
 pub judged-accepted : {clips : ℕ} {times values : List Float} {marks ends : List ℕ} {r : ℕ} → Judged clips times values marks ends r → r ≡ 0

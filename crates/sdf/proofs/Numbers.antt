@@ -9,7 +9,7 @@ use borrow.Author.Tests.{eq-eqb, ne-eqb}
 use Rattle.definitions.specs.Lists.{any, zipWith}
 use Rattle.definitions.specs.ClipSet.{ClipSet, anyUnstorable}
 use Rattle.definitions.specs.Samples.{unlikeLengths, samples1, nanValue, samples2, badMarks, closes, samples9, samplesNumber, clipTimes}
-use Rattle.laws.specs.cell.Unpacked.{samplesOf}
+use Rattle.laws.specs.cell.Lent.{samplesOf}
 use Rattle.sdf.specs.Parts.{partsAscend}
 
 module _ (times values : List Float) (marks ends : List ℕ) (set : ClipSet) where

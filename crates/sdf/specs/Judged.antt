@@ -7,7 +7,7 @@ use Rattle.definitions.specs.ClipSet.{ClipSet}
 use Rattle.definitions.specs.Samples.{samplesNumber}
 use Rattle.laws.specs.list.Every.{Every}
 use Rattle.laws.specs.cell.Places.{Fits}
-use Rattle.laws.specs.cell.Unpacked.{samplesOf}
+use Rattle.laws.specs.cell.Lent.{samplesOf}
 
 -- r is the samples' number for every set with that many clips, and the doubles are ones that a program can hold
 pub record Judged (clips : ℕ) (times values : List Float) (marks ends : List ℕ) (r : ℕ) : Type 0 where

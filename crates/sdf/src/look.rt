@@ -16,7 +16,7 @@ pub struct Look<'t, 'v, 'm> {
 }
 
 // A held reading: the place of its sample, counted from the clip's first, and what the sample says; nothing in a clip without samples.
-pub enum Held {
+pub enum HeldPlace {
     At(usize, Answer),
     Nothing,
 }
@@ -41,16 +41,16 @@ fn held_reading(
     begin: usize,
     end: usize,
     t: ClipTime,
-) -> Held
+) -> HeldPlace
     requires { ⌜ Readable (now times) (now values) (now marks) begin end ⌝ }
     ensures { λ r. ⌜ heldIs r ≡ heldReading (now (times .entry)) (now (values .entry)) (now (marks .entry)) begin end t ⌝ }
 {
     if begin == end {
-        return Held::Nothing;
+        return HeldPlace::Nothing;
     }
     let place = lists::last_at_most(&times[begin..end], t.0);
     let answer = marked_at(values, marks, begin, place);
-    Held::At(place, answer)
+    HeldPlace::At(place, answer)
 }
 
 // A look at the samples from `begin` to `end`.
@@ -74,7 +74,7 @@ pub fn over<'t, 'v, 'm>(
 
 impl<'t, 'v, 'm> Look<'t, 'v, 'm> {
     // The held reading at the clip time `t`.
-    pub fn read(self, t: ClipTime) -> Held
+    pub fn read(self, t: ClipTime) -> HeldPlace
         requires { ⌜ Readable (now (self .times)) (now (self .values)) (now (self .marks)) (self .begin) (self .end) ⌝ }
         ensures { λ r. ⌜ heldIs r ≡ heldReading (now (self .entry .times)) (now (self .entry .values)) (now (self .entry .marks)) (self .entry .begin) (self .entry .end) t ⌝ }
     {
@@ -98,7 +98,7 @@ pub fn read_clip(
     begin: usize,
     end: usize,
     t: ClipTime,
-) -> Held
+) -> HeldPlace
     requires { ⌜ Readable (now times) (now values) (now marks) begin end ⌝ }
     ensures { λ r. ⌜ heldIs r ≡ heldReading (now (times .entry)) (now (values .entry)) (now (marks .entry)) begin end t ⌝ }
 {

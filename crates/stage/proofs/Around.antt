@@ -13,7 +13,7 @@ use lib.Ieee.{Float, nan, inf, lt, le}
 use borrow.Author.Tests.{ltb-true, lt-ltb, ne-eqb}
 use Rattle.gf.specs.Key.{key}
 use Rattle.gf.proofs.KeyLaws.{le→key, lt→key, lt→le, le-no-nan, le-or-lt, finite-no-nan}
-use Rattle.definitions.specs.declared.Manifest.{Manifest}
+use Rattle.definitions.specs.declared.Missing.{Missing}
 use Rattle.definitions.specs.Lists.{gather, below}
 use Rattle.definitions.specs.Doubles.{FiniteDouble}
 use Rattle.definitions.specs.ClipSet.{ClipSet, maxKnots}
@@ -26,7 +26,7 @@ use Rattle.laws.proofs.list.Every.{every-at}
 use Rattle.laws.proofs.list.Places.{atMost, at-most-is, last-is, last-later}
 use Rattle.laws.proofs.cell.Every.{every-map, every-zip, every-append, every-left, every-right, every-gather, both-l, both-r}
 use Rattle.laws.specs.cell.Places.{Fits}
-use Rattle.laws.specs.cell.Unpacked.{setOf, samplesOf, Ready}
+use Rattle.laws.specs.cell.Lent.{setOf, samplesOf, AcceptedLists}
 use Rattle.laws.proofs.cell.Unpacked.{zip-length}
 use Rattle.window.specs.declared.Bound.{Bound}
 use Rattle.window.specs.declared.Bound.the-variants.{At, Nothing}
@@ -43,7 +43,7 @@ use Rattle.stage.specs.First.{zeroOf, withZero}
 use Rattle.stage.specs.Zeros.{minusGathered}
 use Rattle.stage.proofs.Zeros.{minus-found, minus-listed}
 
-module _ {starts : List Float} {clips : List ℕ} {xs ys blocks : List Float} {m : Manifest} {times values : List Float} {marks ends : List ℕ} (R : Ready starts clips xs ys blocks m times values marks ends) where
+module _ {starts : List Float} {clips : List ℕ} {xs ys blocks : List Float} {m : Missing} {times values : List Float} {marks ends : List ℕ} (R : AcceptedLists starts clips xs ys blocks m times values marks ends) where
   abbrev set : ClipSet
   set = setOf (length ends) starts clips xs ys blocks m
 

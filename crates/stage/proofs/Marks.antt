@@ -6,7 +6,7 @@ use Prim.Native.Nat.{ℕ, zero, suc, _+_, _≤_, _<_}
 use native.Mathlib.Omega.{arith}
 use lib.ListN.{length, getD, getElem?, drop}
 use lib.Ieee.{Float, nan}
-use Rattle.definitions.specs.declared.Manifest.{Manifest}
+use Rattle.definitions.specs.declared.Missing.{Missing}
 use Rattle.definitions.specs.declared.Start.{Start}
 use Rattle.definitions.specs.declared.StageTime.{StageTime}
 use Rattle.definitions.specs.declared.Answer.{Answer}
@@ -18,7 +18,7 @@ use Rattle.definitions.specs.Value.{marked}
 use Rattle.definitions.specs.Track.{markOf}
 use Rattle.definitions.specs.StageSamples.{StageSample, readMark, markIn, suppliedAt, stageSampleTimes, stageSamples}
 use Rattle.laws.proofs.cell.Every.{every-getD}
-use Rattle.laws.specs.cell.Unpacked.{start, activeOf, knotsOf, setOf, samplesOf, Ready}
+use Rattle.laws.specs.cell.Lent.{start, activeOf, knotsOf, setOf, samplesOf, AcceptedLists}
 use Rattle.laws.proofs.cell.Unpacked.{zip-here}
 use Rattle.lists.proofs.Fronts.{front, no-front}
 use Rattle.window.specs.Parts.{partOf}
@@ -58,7 +58,7 @@ mark-back zero v h = refl
 mark-back (suc zero) v h = refl
 mark-back (suc (suc k)) v h = absurd (omega arith)
 
-module _ {starts : List Float} {clips : List ℕ} {xs ys blocks : List Float} {m : Manifest} {times values : List Float} {marks ends : List ℕ} (R : Ready starts clips xs ys blocks m times values marks ends) (t : StageTime) where
+module _ {starts : List Float} {clips : List ℕ} {xs ys blocks : List Float} {m : Missing} {times values : List Float} {marks ends : List ℕ} (R : AcceptedLists starts clips xs ys blocks m times values marks ends) (t : StageTime) where
   abbrev set : ClipSet
   set = setOf (length ends) starts clips xs ys blocks m
 

@@ -14,7 +14,7 @@ use lib.Ieee.Scale.{finite}
 use Rattle.gf.proofs.KeyLaws.{le-trans, lt-le-trans}
 use Rattle.gf.specs.Exactly.{power}
 use Rattle.gf.proofs.Exactly.{within-lo}
-use Rattle.definitions.specs.declared.Manifest.{Manifest}
+use Rattle.definitions.specs.declared.Missing.{Missing}
 use Rattle.definitions.specs.declared.Knot.{Knot}
 use Rattle.definitions.specs.declared.Start.{Start}
 use Rattle.definitions.specs.Lists.{keep, pairs, gather, below}
@@ -30,7 +30,7 @@ use Rattle.laws.proofs.set.Stored.{stored-finite}
 use Rattle.laws.proofs.cell.Every.{every-map, every-append, every-left, every-right, every-gather, every-take, every-drop, both-l, both-r, or-split}
 use Rattle.laws.specs.cell.Places.{Fits}
 use Rattle.laws.proofs.cell.Inverse.{inverse-fin-up, inverse-fin-down}
-use Rattle.laws.specs.cell.Unpacked.{start, activeOf, knotsOf, setOf, samplesOf, Ready}
+use Rattle.laws.specs.cell.Lent.{start, activeOf, knotsOf, setOf, samplesOf, AcceptedLists}
 use Rattle.laws.proofs.cell.Unpacked.{zip-here, zip-length, active-times, knot-times}
 use Rattle.window.specs.declared.Bound.{Bound}
 use Rattle.window.specs.declared.Bound.the-variants.{At, Nothing}
@@ -145,7 +145,7 @@ timely-behind x f = lt-le-trans beforeAll (power true 40) x (before-finite .fitt
 
 -- ---- of lists that are ready
 
-module _ {starts : List Float} {clips : List ℕ} {xs ys blocks : List Float} {m : Manifest} {times values : List Float} {marks ends : List ℕ} (R : Ready starts clips xs ys blocks m times values marks ends) where
+module _ {starts : List Float} {clips : List ℕ} {xs ys blocks : List Float} {m : Missing} {times values : List Float} {marks ends : List ℕ} (R : AcceptedLists starts clips xs ys blocks m times values marks ends) where
   abbrev set : ClipSet
   set = setOf (length ends) starts clips xs ys blocks m
 

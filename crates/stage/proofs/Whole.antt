@@ -10,7 +10,7 @@ use lib.Ieee.{Float, nan, inf, lt, le}
 use borrow.Author.Tests.{ltb-true, eqb-false}
 use Rattle.gf.proofs.KeyLaws.{key→le, key→lt, finite-no-nan}
 use Rattle.gf.specs.declared.interval.Interval.{Interval}
-use Rattle.definitions.specs.declared.Manifest.{Manifest}
+use Rattle.definitions.specs.declared.Missing.{Missing}
 use Rattle.definitions.specs.Lists.{keep}
 use Rattle.definitions.specs.Doubles.{FiniteDouble}
 use Rattle.definitions.specs.Timing.{lastAtMost}
@@ -18,7 +18,7 @@ use Rattle.laws.proofs.list.Tests.{is-true}
 use Rattle.laws.proofs.list.Every.{every-at}
 use Rattle.laws.specs.list.Places.{Ascending}
 use Rattle.laws.proofs.cell.Window.{inf-below, inf-above}
-use Rattle.laws.specs.cell.Unpacked.{knotsOf, Ready}
+use Rattle.laws.specs.cell.Lent.{knotsOf, AcceptedLists}
 use Rattle.window.specs.declared.Bounds.{Bounds}
 use Rattle.window.specs.Parts.{partOf}
 use Rattle.window.proofs.Parts.{ready-starts, ready-clip, ready-readable}
@@ -27,11 +27,11 @@ use Rattle.window.specs.Inverses.{inversesOf}
 use Rattle.window.specs.Windows.{minOf, maxOf, windowPart}
 use Rattle.window.proofs.nearest.Beside.{finite-number, number-at, next-above, last-reached}
 use Rattle.window.specs.declared.neighbours.Window.{Window}
-use Rattle.window.specs.neighbours.Tops.{TopsOf}
+use Rattle.window.specs.neighbours.Latest.{LatestOf}
 use Rattle.window.specs.neighbours.Windowed.{samplesIn, nextOf, windowTimes, Nearing}
 use Rattle.stage.specs.Whole.{wholeTimes, nextStart, Windows, WholeWindow}
 
-pub ready-windows : {starts : List Float} {clips : List ℕ} {xs ys blocks : List Float} {m : Manifest} {times values : List Float} {marks ends : List ℕ} → Ready starts clips xs ys blocks m times values marks ends → Windows starts clips xs ys times ends
+pub ready-windows : {starts : List Float} {clips : List ℕ} {xs ys blocks : List Float} {m : Missing} {times values : List Float} {marks ends : List ℕ} → AcceptedLists starts clips xs ys blocks m times values marks ends → Windows starts clips xs ys times ends
 ready-windows R = record { rising = ready-starts R; paired = R .starts-paired; named = ready-clip R; readable = ready-readable R }
 
 no-more : lt (inf false) (inf false) ≡ false
@@ -81,7 +81,7 @@ module _ {starts : List Float} {clips : List ℕ} {xs ys times : List Float} {en
 
   -- the premises of a search
   module _ (t : Float) (at : p ≡ lastAtMost starts t) (ft : FiniteDouble t) where
-    pub whole-nears : (tops : List Float) → TopsOf xs ys tops → Nearing xs ys tops (samplesIn times w) w t
+    pub whole-nears : (tops : List Float) → LatestOf xs ys tops → Nearing xs ys tops (samplesIn times w) w t
     whole-nears tops O = record {
       knots = A .readable .knots;
       paired = A .readable .paired;

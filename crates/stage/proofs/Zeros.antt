@@ -14,7 +14,7 @@ use lib.Ieee.Fits.{eq→eqb, mul-fits}
 use borrow.Author.Tests.{ltb-true, ltb-false, eq-eqb, ne-eqb}
 use Rattle.gf.proofs.KeyLaws.{lt-not-le}
 use Rattle.gf.specs.Doubles.{_⊖_, _⊗_, _⊘_, totalKey}
-use Rattle.definitions.specs.declared.Manifest.{Manifest}
+use Rattle.definitions.specs.declared.Missing.{Missing}
 use Rattle.definitions.specs.declared.Knot.{Knot}
 use Rattle.definitions.specs.Lists.{keep, pairs, pairsFrom, gather, below}
 use Rattle.definitions.specs.Doubles.{FiniteDouble}
@@ -27,7 +27,7 @@ use Rattle.laws.proofs.list.Every.{every-at}
 use Rattle.laws.proofs.list.Places.{atMost, at-most-length, beyond, up-to, last-is, last-inside}
 use Rattle.laws.proofs.cell.Every.{any-with, every-map, every-zip, every-append, every-left, every-right, every-keep, every-kept, every-by, every-gather, both, both-l, both-r, or-l, or-r, or-split}
 use Rattle.laws.specs.cell.Places.{Fits}
-use Rattle.laws.specs.cell.Unpacked.{knotsOf, Ready}
+use Rattle.laws.specs.cell.Lent.{knotsOf, AcceptedLists}
 use Rattle.laws.proofs.cell.Unpacked.{knot-times}
 use Rattle.window.specs.Parts.{partOf}
 use Rattle.window.proofs.Parts.{ready-starts, ready-clip, ready-readable}
@@ -79,7 +79,7 @@ plain (x ∷ xs) ys cs e = absurd (omega arith)
 
 -- ---- over the lists
 
-module _ {starts : List Float} {clips : List ℕ} {xs ys blocks : List Float} {m : Manifest} {times values : List Float} {marks ends : List ℕ} (R : Ready starts clips xs ys blocks m times values marks ends) where
+module _ {starts : List Float} {clips : List ℕ} {xs ys blocks : List Float} {m : Missing} {times values : List Float} {marks ends : List ℕ} (R : AcceptedLists starts clips xs ys blocks m times values marks ends) where
   abbrev part : ℕ → List Float
   part p = wholeTimes starts clips xs ys times ends p
 

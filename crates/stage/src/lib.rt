@@ -5,16 +5,16 @@ pub mod next;
 pub mod walk;
 pub mod zero;
 
-use definitions::Manifest;
+use definitions::Missing;
 use mark::write_marks;
 use walk::fits;
 use walk::write_times;
-use window::neighbours::tops::tops_of;
+use window::neighbours::latest::latest_inverses;
 ghost use mathlib.Core.Path.{_≡_};
 ghost use Prim.Native.Nat.{min};
 ghost use lib.ListN.{length};
 ghost use Rattle.definitions.specs.StageSamples.{stageSampleTimes};
-ghost use Rattle.laws.specs.cell.Unpacked.{setOf, samplesOf, Ready};
+ghost use Rattle.laws.specs.cell.Lent.{setOf, samplesOf, AcceptedLists};
 ghost use Rattle.stage.specs.Promises.{TimesWritten, SamplesWritten};
 ghost use Rattle.stage.specs.Marks.{sampleTimes, sampleMarks};
 
@@ -31,17 +31,17 @@ pub fn stage_sample_times(
     xs: &[f64],
     ys: &[f64],
     blocks: &[f64],
-    m: Manifest,
+    m: Missing,
     times: &[f64],
     values: &[f64],
     marks: &[u8],
     ends: &[u64],
     out: &mut [f64],
 ) -> Written
-    requires { ⌜ Ready (now starts) (now clips) (now xs) (now ys) (now blocks) m (now times) (now values) (now marks) (now ends) ⌝ }
+    requires { ⌜ AcceptedLists (now starts) (now clips) (now xs) (now ys) (now blocks) m (now times) (now values) (now marks) (now ends) ⌝ }
     ensures { λ r. ⌜ TimesWritten (stageSampleTimes (setOf (length (now (ends .entry))) (now (starts .entry)) (now (clips .entry)) (now (xs .entry)) (now (ys .entry)) (now (blocks .entry)) m) (samplesOf (now (times .entry)) (now (values .entry)) (now (marks .entry)) (now (ends .entry)))) (now (out .entry)) (now (out .exit)) r ⌝ }
 {
-    let reach = tops_of(xs, ys);
+    let reach = latest_inverses(xs, ys);
     if fits(
         starts,
         clips,
@@ -91,7 +91,7 @@ pub fn stage_samples(
     xs: &[f64],
     ys: &[f64],
     blocks: &[f64],
-    m: Manifest,
+    m: Missing,
     times: &[f64],
     values: &[f64],
     marks: &[u8],
@@ -99,10 +99,10 @@ pub fn stage_samples(
     outtimes: &mut [f64],
     outmarks: &mut [u8],
 ) -> Written
-    requires { ⌜ Ready (now starts) (now clips) (now xs) (now ys) (now blocks) m (now times) (now values) (now marks) (now ends) ⌝ }
+    requires { ⌜ AcceptedLists (now starts) (now clips) (now xs) (now ys) (now blocks) m (now times) (now values) (now marks) (now ends) ⌝ }
     ensures { λ r. ⌜ SamplesWritten (sampleTimes (setOf (length (now (ends .entry))) (now (starts .entry)) (now (clips .entry)) (now (xs .entry)) (now (ys .entry)) (now (blocks .entry)) m) (samplesOf (now (times .entry)) (now (values .entry)) (now (marks .entry)) (now (ends .entry)))) (sampleMarks (setOf (length (now (ends .entry))) (now (starts .entry)) (now (clips .entry)) (now (xs .entry)) (now (ys .entry)) (now (blocks .entry)) m) (samplesOf (now (times .entry)) (now (values .entry)) (now (marks .entry)) (now (ends .entry)))) (now (outtimes .entry)) (now (outtimes .exit)) (now (outmarks .entry)) (now (outmarks .exit)) r ⌝ }
 {
-    let reach = tops_of(xs, ys);
+    let reach = latest_inverses(xs, ys);
     let room = shorter(outtimes.len(), outmarks.len());
     if fits(
         starts,

@@ -1,9 +1,9 @@
 // The marks of the stage samples.
 
 use definitions::Answer;
-use definitions::Manifest;
+use definitions::Missing;
 use definitions::StageTime;
-use sdf::look::Held;
+use sdf::look::HeldPlace;
 use value::direct::read_clip;
 ghost use mathlib.Core.Path.{_≡_};
 ghost use Prim.Native.Nat.{_≤_};
@@ -11,11 +11,11 @@ ghost use lib.ListN.{length};
 ghost use Rattle.definitions.specs.Lists.{writtenOver};
 ghost use Rattle.definitions.specs.StageSamples.{suppliedAt};
 ghost use Rattle.definitions.specs.Track.{markOf};
-ghost use Rattle.laws.specs.cell.Unpacked.{setOf, samplesOf, Ready};
+ghost use Rattle.laws.specs.cell.Lent.{setOf, samplesOf, AcceptedLists};
 ghost use Rattle.stage.specs.Marks.{gapMarkOf, marksAt};
 
 // The mark that stands where the active clip has no samples: that of the manifest default if it is a value, else a block.
-fn gap_mark(m: Manifest) -> u8
+fn gap_mark(m: Missing) -> u8
     ensures { λ r. ⌜ r ≡ gapMarkOf (m .default .mark) ⌝ }
 {
     let default = m.default;
@@ -43,14 +43,14 @@ fn supplied_at(
     xs: &[f64],
     ys: &[f64],
     blocks: &[f64],
-    m: Manifest,
+    m: Missing,
     times: &[f64],
     values: &[f64],
     marks: &[u8],
     ends: &[u64],
     t: StageTime,
 ) -> u8
-    requires { ⌜ Ready (now starts) (now clips) (now xs) (now ys) (now blocks) m (now times) (now values) (now marks) (now ends) ⌝ }
+    requires { ⌜ AcceptedLists (now starts) (now clips) (now xs) (now ys) (now blocks) m (now times) (now values) (now marks) (now ends) ⌝ }
     ensures { λ r. ⌜ r ≡ suppliedAt (setOf (length (now (ends .entry))) (now (starts .entry)) (now (clips .entry)) (now (xs .entry)) (now (ys .entry)) (now (blocks .entry)) m) (samplesOf (now (times .entry)) (now (values .entry)) (now (marks .entry)) (now (ends .entry))) t ⌝ }
 {
     if starts.len() == 0 {
@@ -58,7 +58,7 @@ fn supplied_at(
     }
     let p = lists::last_at_most(starts, t.0);
     let own = read_clip(xs, ys, times, values, marks, ends, clips[p], t);
-    if let Held::At(_, answer) = own {
+    if let HeldPlace::At(_, answer) = own {
         return sample_mark(answer);
     }
     gap_mark(m)
@@ -71,7 +71,7 @@ pub fn write_marks(
     xs: &[f64],
     ys: &[f64],
     blocks: &[f64],
-    m: Manifest,
+    m: Missing,
     times: &[f64],
     values: &[f64],
     marks: &[u8],
@@ -79,7 +79,7 @@ pub fn write_marks(
     at: &[f64],
     out: &mut [u8],
 )
-    requires { ⌜ Ready (now starts) (now clips) (now xs) (now ys) (now blocks) m (now times) (now values) (now marks) (now ends) ⌝ ∗ ⌜ length (now at) ≤ length (now out) ⌝ }
+    requires { ⌜ AcceptedLists (now starts) (now clips) (now xs) (now ys) (now blocks) m (now times) (now values) (now marks) (now ends) ⌝ ∗ ⌜ length (now at) ≤ length (now out) ⌝ }
     ensures { λ _. ⌜ now (out .exit) ≡ writtenOver (marksAt (setOf (length (now (ends .entry))) (now (starts .entry)) (now (clips .entry)) (now (xs .entry)) (now (ys .entry)) (now (blocks .entry)) m) (samplesOf (now (times .entry)) (now (values .entry)) (now (marks .entry)) (now (ends .entry))) (now (at .entry))) (now (out .entry)) ⌝ }
 {
     let mut i: usize = 0;

@@ -1,7 +1,7 @@
 // The next stage sample time: a search in the active window, begun where the last one ended. Later windows begin at the next start, which the search has.
 
 use super::zero::with_zero;
-use definitions::Manifest;
+use definitions::Missing;
 use definitions::Source;
 use sdf::part::clip_begin;
 use sdf::part::clip_end;
@@ -18,9 +18,9 @@ ghost use lib.Dec.{T};
 ghost use lib.ListN.{length, getD};
 ghost use lib.Ieee.Scale.{finite};
 ghost use Rattle.definitions.specs.Timing.{lastAtMost};
-ghost use Rattle.laws.specs.cell.Unpacked.{setOf, samplesOf, Ready};
+ghost use Rattle.laws.specs.cell.Lent.{setOf, samplesOf, AcceptedLists};
 ghost use Rattle.window.specs.Bounds.{UpperIs};
-ghost use Rattle.window.specs.neighbours.Tops.{TopsOf};
+ghost use Rattle.window.specs.neighbours.Latest.{LatestOf};
 ghost use Rattle.stage.specs.Whole.{Windows, WholeWindow, wholeTimes, nextStart};
 ghost use Rattle.stage.specs.Times.{NextTime};
 
@@ -68,7 +68,7 @@ fn search_window(
     knot: usize,
     sample: usize,
 ) -> Near
-    requires { ⌜ Windows (now starts) (now clips) (now xs) (now ys) (now times) (now ends) ⌝ ∗ ⌜ TopsOf (now xs) (now ys) (now tops) ⌝ ∗ ⌜ p ≡ lastAtMost (now starts) t ⌝ ∗ ⌜ p < length (now starts) ⌝ ∗ ⌜ T (finite t) ⌝ }
+    requires { ⌜ Windows (now starts) (now clips) (now xs) (now ys) (now times) (now ends) ⌝ ∗ ⌜ LatestOf (now xs) (now ys) (now tops) ⌝ ∗ ⌜ p ≡ lastAtMost (now starts) t ⌝ ∗ ⌜ p < length (now starts) ⌝ ∗ ⌜ T (finite t) ⌝ }
     ensures { λ r. ⌜ UpperIs (wholeTimes (now (starts .entry)) (now (clips .entry)) (now (xs .entry)) (now (ys .entry)) (now (times .entry)) (now (ends .entry)) p ++ nextStart (now (starts .entry)) p) t (r .upper) ⌝ }
 {
     let w = whole_window(starts, clips, ends, p);
@@ -84,7 +84,7 @@ pub fn next_time(
     xs: &[f64],
     ys: &[f64],
     blocks: &[f64],
-    m: Manifest,
+    m: Missing,
     times: &[f64],
     values: &[f64],
     marks: &[u8],
@@ -95,7 +95,7 @@ pub fn next_time(
     knot: usize,
     sample: usize,
 ) -> Next
-    requires { ⌜ Ready (now starts) (now clips) (now xs) (now ys) (now blocks) m (now times) (now values) (now marks) (now ends) ⌝ ∗ ⌜ TopsOf (now xs) (now ys) (now tops) ⌝ ∗ ⌜ T (finite t) ⌝ }
+    requires { ⌜ AcceptedLists (now starts) (now clips) (now xs) (now ys) (now blocks) m (now times) (now values) (now marks) (now ends) ⌝ ∗ ⌜ LatestOf (now xs) (now ys) (now tops) ⌝ ∗ ⌜ T (finite t) ⌝ }
     ensures { λ r. ⌜ NextTime (setOf (length (now (ends .entry))) (now (starts .entry)) (now (clips .entry)) (now (xs .entry)) (now (ys .entry)) (now (blocks .entry)) m) (samplesOf (now (times .entry)) (now (values .entry)) (now (marks .entry)) (now (ends .entry))) t (r .time) ⌝ }
 {
     if starts.len() == 0 {

@@ -1,7 +1,7 @@
 // The stage sample times one after the other, counted or written.
 
 use super::next::next_time;
-use definitions::Manifest;
+use definitions::Missing;
 use window::Bound;
 ghost use mathlib.Core.Path.{_≡_};
 ghost use Prim.Native.Nat.{_≤_};
@@ -9,8 +9,8 @@ ghost use lib.Dec.{leb};
 ghost use lib.ListN.{length};
 ghost use Rattle.definitions.specs.Lists.{writtenOver};
 ghost use Rattle.definitions.specs.StageSamples.{stageSampleTimes};
-ghost use Rattle.laws.specs.cell.Unpacked.{setOf, samplesOf, Ready};
-ghost use Rattle.window.specs.neighbours.Tops.{TopsOf};
+ghost use Rattle.laws.specs.cell.Lent.{setOf, samplesOf, AcceptedLists};
+ghost use Rattle.window.specs.neighbours.Latest.{LatestOf};
 
 // No stage sample time is below -2^40.
 const BEFORE_ALL: f64 = -2199023255552.0;
@@ -22,7 +22,7 @@ pub fn fits(
     xs: &[f64],
     ys: &[f64],
     blocks: &[f64],
-    m: Manifest,
+    m: Missing,
     times: &[f64],
     values: &[f64],
     marks: &[u8],
@@ -30,7 +30,7 @@ pub fn fits(
     tops: &[f64],
     room: usize,
 ) -> bool
-    requires { ⌜ Ready (now starts) (now clips) (now xs) (now ys) (now blocks) m (now times) (now values) (now marks) (now ends) ⌝ ∗ ⌜ TopsOf (now xs) (now ys) (now tops) ⌝ }
+    requires { ⌜ AcceptedLists (now starts) (now clips) (now xs) (now ys) (now blocks) m (now times) (now values) (now marks) (now ends) ⌝ ∗ ⌜ LatestOf (now xs) (now ys) (now tops) ⌝ }
     ensures { λ r. ⌜ r ≡ leb (length (stageSampleTimes (setOf (length (now (ends .entry))) (now (starts .entry)) (now (clips .entry)) (now (xs .entry)) (now (ys .entry)) (now (blocks .entry)) m) (samplesOf (now (times .entry)) (now (values .entry)) (now (marks .entry)) (now (ends .entry))))) room ⌝ }
 {
     let mut t = BEFORE_ALL;
@@ -78,7 +78,7 @@ pub fn write_times(
     xs: &[f64],
     ys: &[f64],
     blocks: &[f64],
-    m: Manifest,
+    m: Missing,
     times: &[f64],
     values: &[f64],
     marks: &[u8],
@@ -86,7 +86,7 @@ pub fn write_times(
     tops: &[f64],
     out: &mut [f64],
 ) -> usize
-    requires { ⌜ Ready (now starts) (now clips) (now xs) (now ys) (now blocks) m (now times) (now values) (now marks) (now ends) ⌝ ∗ ⌜ TopsOf (now xs) (now ys) (now tops) ⌝ ∗ ⌜ length (stageSampleTimes (setOf (length (now ends)) (now starts) (now clips) (now xs) (now ys) (now blocks) m) (samplesOf (now times) (now values) (now marks) (now ends))) ≤ length (now out) ⌝ }
+    requires { ⌜ AcceptedLists (now starts) (now clips) (now xs) (now ys) (now blocks) m (now times) (now values) (now marks) (now ends) ⌝ ∗ ⌜ LatestOf (now xs) (now ys) (now tops) ⌝ ∗ ⌜ length (stageSampleTimes (setOf (length (now ends)) (now starts) (now clips) (now xs) (now ys) (now blocks) m) (samplesOf (now times) (now values) (now marks) (now ends))) ≤ length (now out) ⌝ }
     ensures { λ r. ⌜ (r ≡ length (stageSampleTimes (setOf (length (now (ends .entry))) (now (starts .entry)) (now (clips .entry)) (now (xs .entry)) (now (ys .entry)) (now (blocks .entry)) m) (samplesOf (now (times .entry)) (now (values .entry)) (now (marks .entry)) (now (ends .entry))))) × (now (out .exit) ≡ writtenOver (stageSampleTimes (setOf (length (now (ends .entry))) (now (starts .entry)) (now (clips .entry)) (now (xs .entry)) (now (ys .entry)) (now (blocks .entry)) m) (samplesOf (now (times .entry)) (now (values .entry)) (now (marks .entry)) (now (ends .entry)))) (now (out .entry))) ⌝ }
 {
     let mut t = BEFORE_ALL;

@@ -8,16 +8,16 @@ use lib.Seq.{length-take-le, take-append-seam}
 use lib.Ieee.{Float}
 use Rattle.definitions.specs.declared.Knot.{Knot}
 use Rattle.definitions.specs.declared.Start.{Start}
-use Rattle.definitions.specs.declared.Manifest.{Manifest}
+use Rattle.definitions.specs.declared.Missing.{Missing}
 use Rattle.definitions.specs.ClipSet.{activeTimes, knotTimes, maxActive, maxKnots, maxBlocks}
 use Rattle.laws.specs.set.Sound.{knotValues}
-use Rattle.laws.specs.cell.Unpacked.{activeOf, knotsOf, setOf}
+use Rattle.laws.specs.cell.Lent.{activeOf, knotsOf, setOf}
 use Rattle.clip.specs.declared.ClipSet.{ClipSet}
 use Rattle.clip.specs.declared.storage.Active.{Active}
 use Rattle.clip.specs.declared.storage.Knots.{Knots}
 use Rattle.clip.specs.declared.storage.Blocks.{Blocks}
 use Rattle.clip.specs.declared.storage.Plain.{Plain}
-use Rattle.clip.specs.Holding.{Room, Holds, Held, AllRoom, activeIn, activeClips, knotsIn, blocksIn, manifestOf}
+use Rattle.clip.specs.Holding.{Room, Holds, ArraysWhole, AllRoom, activeIn, activeClips, knotsIn, blocksIn, manifestOf}
 use Rattle.standing.specs.declared.Counts.{Counts}
 use Rattle.standing.specs.Standing.{lentSet, Installed, Packed}
 
@@ -49,7 +49,7 @@ knots-back (k ∷ l) = ap (λ (m : List Knot). k ∷ m) (knots-back l)
 
 -- ---- a prepared set is installed
 
-module _ (set : ClipSet) (H : Held set) (p : Plain) (P : AllRoom p) (starts : List Float) (numbers : List ℕ) (xs ys : List Float)
+module _ (set : ClipSet) (H : ArraysWhole set) (p : Plain) (P : AllRoom p) (starts : List Float) (numbers : List ℕ) (xs ys : List Float)
     (starts-are : starts ≡ activeTimes (activeIn (set .active))) (numbers-are : numbers ≡ activeClips (activeIn (set .active)))
     (xs-are : xs ≡ knotTimes (knotsIn (set .knots))) (ys-are : ys ≡ knotValues (knotsIn (set .knots))) where
   abbrev n : ℕ
@@ -113,7 +113,7 @@ module _ (set : ClipSet) (H : Held set) (p : Plain) (P : AllRoom p) (starts : Li
 pub paired-fronts : {A B : Type 0} {most n : ℕ} {l : List A} {m : List B} → Room most l n → Room most m n → (length (take n l) ≡ length (take n m)) × (length (take n l) ≤ most)
 paired-fronts {most = most} {n = n} {l = l} {m = m} r s = (sym (front r) ∙ front s, subst (λ (x : ℕ). x ≤ most) (front r) (r .few))
 
-pub packed-is : (clips : ℕ) (c : Counts) (starts : List Float) (numbers : List ℕ) (xs ys blocks : List Float) (m : Manifest) (a : Active) (k : Knots) (b : Blocks)
+pub packed-is : (clips : ℕ) (c : Counts) (starts : List Float) (numbers : List ℕ) (xs ys blocks : List Float) (m : Missing) (a : Active) (k : Knots) (b : Blocks)
     → Holds maxActive (a .items) (a .count) (activeOf (take (c .starts) starts) (take (c .starts) numbers))
     → Holds maxKnots (k .items) (k .count) (knotsOf (take (c .knots) xs) (take (c .knots) ys))
     → Holds maxBlocks (b .items) (b .count) (take (c .blocks) blocks)

@@ -5,12 +5,12 @@ use mathlib.Core.List.{List}
 use mathlib.Core.Option.{Option, none, some}
 use lib.ListN.{take}
 use lib.Ieee.{Float}
-use Rattle.definitions.specs.declared.Manifest.{Manifest}
+use Rattle.definitions.specs.declared.Missing.{Missing}
 use Rattle.definitions.specs.ClipSet as Definitions
 use Rattle.definitions.specs.ClipSet.{maxActive, maxKnots, maxBlocks}
-use Rattle.laws.specs.cell.Unpacked.{setOf, Ready}
+use Rattle.laws.specs.cell.Lent.{setOf, AcceptedLists}
 use Rattle.clip.specs.declared.ClipSet.{ClipSet}
-use Rattle.clip.specs.Holding.{Room, Held, clipSetOf}
+use Rattle.clip.specs.Holding.{Room, ArraysWhole, clipSetOf}
 use Rattle.standing.specs.declared.Counts.{Counts}
 use Rattle.standing.specs.declared.StandingSet.{StandingSet}
 use Rattle.standing.specs.declared.questions.ActiveClip.{ActiveClip}
@@ -25,7 +25,7 @@ pub record Arrays (c : Counts) (starts : List Float) (numbers : List ℕ) (xs ys
   pub in-blocks : Room maxBlocks blocks (c .blocks)
 
 -- the set of the entries that count
-abbrev pub lentSet : (clips : ℕ) → Counts → List Float → List ℕ → List Float → List Float → List Float → Manifest → Definitions.ClipSet
+abbrev pub lentSet : (clips : ℕ) → Counts → List Float → List ℕ → List Float → List Float → List Float → Missing → Definitions.ClipSet
 lentSet n c starts numbers xs ys blocks m =
     setOf n (take (c .starts) starts) (take (c .starts) numbers) (take (c .knots) xs) (take (c .knots) ys) (take (c .blocks) blocks) m
 
@@ -42,15 +42,15 @@ pub record Installed (set : ClipSet) (r : StandingSet) : Type 0 where
   pub is : setIn r ≡ clipSetOf set
 
 pub record Packed (set : Definitions.ClipSet) (r : ClipSet) : Type 0 where
-  pub held : Held r
+  pub held : ArraysWhole r
   pub is : clipSetOf r ≡ set
 
 -- ---- questions
 
 -- What an operation has shown of what it lends to a question: whole arrays, whose entries are a well-formed set, and samples that are accepted for it.
-pub record Asked (c : Counts) (starts : List Float) (numbers : List ℕ) (xs ys blocks : List Float) (m : Manifest) (times values : List Float) (marks ends : List ℕ) : Type 0 where
+pub record Asked (c : Counts) (starts : List Float) (numbers : List ℕ) (xs ys blocks : List Float) (m : Missing) (times values : List Float) (marks ends : List ℕ) : Type 0 where
   pub arrays : Arrays c starts numbers xs ys blocks
-  pub ready : Ready (take (c .starts) starts) (take (c .starts) numbers) (take (c .knots) xs) (take (c .knots) ys) (take (c .blocks) blocks) m times values marks ends
+  pub ready : AcceptedLists (take (c .starts) starts) (take (c .starts) numbers) (take (c .knots) xs) (take (c .knots) ys) (take (c .blocks) blocks) m times values marks ends
 
 -- the active clip as the code answers it: "none" in a set without starts
 abbrev pub answered : Option ℕ → ActiveClip

@@ -3,8 +3,8 @@ pub mod questions;
 
 use clip::ClipSet;
 use clip::storage;
-use definitions::Manifest;
-ghost use Rattle.clip.specs.Holding.{Held};
+use definitions::Missing;
+ghost use Rattle.clip.specs.Holding.{ArraysWhole};
 ghost use Rattle.standing.specs.Standing.{Arrays, lentSet, Installed, Packed};
 
 // How many entries of each array count.
@@ -25,12 +25,12 @@ pub struct StandingSet {
     pub xs: [f64; 512],
     pub ys: [f64; 512],
     pub blocks: [f64; 256],
-    pub manifest: Manifest,
+    pub manifest: Missing,
 }
 
 // The arrays of a prepared set.
 pub fn installed(set: ClipSet) -> StandingSet
-    requires { ⌜ Held set ⌝ }
+    requires { ⌜ ArraysWhole set ⌝ }
     ensures { λ r. ⌜ Installed set r ⌝ }
 {
     let active = set.active;
@@ -52,7 +52,7 @@ pub fn installed(set: ClipSet) -> StandingSet
     storage::unpack_knots(knots, &mut xs[..k], &mut ys[..k]);
     let blocks = held.items;
     let default = set.default;
-    let manifest = Manifest {
+    let manifest = Missing {
         default,
         interpolate: set.interpolate,
     };
@@ -77,7 +77,7 @@ pub fn packed<'a>(
     ys: &'a [f64],
     blocks: &'a [f64],
     counts: Counts,
-    m: Manifest,
+    m: Missing,
 ) -> ClipSet
     requires { ⌜ Arrays counts (now starts) (now numbers) (now xs) (now ys) (now blocks) ⌝ }
     ensures { λ r. ⌜ Packed (lentSet clips counts (now (starts .entry)) (now (numbers .entry)) (now (xs .entry)) (now (ys .entry)) (now (blocks .entry)) m) r ⌝ }

@@ -2,7 +2,7 @@
 use crate::Counts;
 use definitions::Answer;
 use definitions::ClipTime;
-use definitions::Manifest;
+use definitions::Missing;
 use definitions::StageTime;
 use sdf::Counted;
 use stage::Written;
@@ -17,7 +17,7 @@ ghost use Rattle.definitions.specs.StageSamples.{stageSampleTimes, stageSamples
 ghost use Rattle.definitions.specs.Timing.{activeEntry, clipOf, mapStageToClip};
 ghost use Rattle.definitions.specs.Value.{valueInSet};
 ghost use Rattle.laws.specs.list.Places.{Ascending};
-ghost use Rattle.laws.specs.cell.Unpacked.{activeOf, knotsOf, samplesOf};
+ghost use Rattle.laws.specs.cell.Lent.{activeOf, knotsOf, samplesOf};
 ghost use Rattle.clip.specs.Holding.{Room};
 ghost use Rattle.value.specs.Untimed.{stateIs};
 ghost use Rattle.track.specs.Bakes.{outputs, BakeIs};
@@ -57,7 +57,7 @@ pub fn value<'a>(
     ys: &'a [f64],
     blocks: &'a [f64],
     counts: Counts,
-    m: Manifest,
+    m: Missing,
     times: &[f64],
     values: &[f64],
     marks: &[u8],
@@ -70,7 +70,7 @@ pub fn value<'a>(
     let n = counts.starts;
     let k = counts.knots;
     let b = counts.blocks;
-    value::value::value(
+    value::value::value_in_set(
         &starts[..n],
         &numbers[..n],
         &xs[..k],
@@ -93,7 +93,7 @@ pub fn untimed<'a>(
     ys: &'a [f64],
     blocks: &'a [f64],
     counts: Counts,
-    m: Manifest,
+    m: Missing,
     times: &[f64],
     values: &[f64],
     marks: &[u8],
@@ -105,7 +105,7 @@ pub fn untimed<'a>(
     let n = counts.starts;
     let k = counts.knots;
     let b = counts.blocks;
-    value::untimed::untimed(
+    value::untimed::untimed_answer_in_set(
         &starts[..n],
         &numbers[..n],
         &xs[..k],
@@ -127,7 +127,7 @@ pub fn bake<'a>(
     ys: &'a [f64],
     blocks: &'a [f64],
     counts: Counts,
-    m: Manifest,
+    m: Missing,
     times: &[f64],
     values: &[f64],
     marks: &[u8],
@@ -167,7 +167,7 @@ pub fn stage_sample_times<'a>(
     ys: &'a [f64],
     blocks: &'a [f64],
     counts: Counts,
-    m: Manifest,
+    m: Missing,
     times: &[f64],
     values: &[f64],
     marks: &[u8],
@@ -204,7 +204,7 @@ pub fn stage_samples<'a>(
     ys: &'a [f64],
     blocks: &'a [f64],
     counts: Counts,
-    m: Manifest,
+    m: Missing,
     times: &[f64],
     values: &[f64],
     marks: &[u8],

@@ -19,7 +19,7 @@ use track::bake::Baked;
 use value::untimed::ValueState;
 ghost use mathlib.Core.Path.{_≡_};
 ghost use Rattle.definitions.specs.Track.{readTrack};
-ghost use Rattle.laws.specs.cell.Unpacked.{samplesOf};
+ghost use Rattle.laws.specs.cell.Lent.{samplesOf};
 ghost use Rattle.clip.specs.Holding.{manifest};
 ghost use Rattle.explicit.specs.Parsing.{explicitFields};
 ghost use Rattle.template.specs.Expanding.{templateFields};
@@ -346,5 +346,5 @@ pub extern "C" fn tavitrozy_normalize(
 ) -> Counted
     ensures { λ r. ⌜ Normalizes (now (times .entry)) (now (values .entry)) (now (marks .entry)) (outputs (now (outtimes .entry)) (now (outvalues .entry)) (now (outmarks .entry))) (outputs (now (outtimes .exit)) (now (outvalues .exit)) (now (outmarks .exit))) r ⌝ }
 {
-    normal_form::normalize(times, values, marks, outtimes, outvalues, outmarks)
+    normal_form::normalize_time_samples(times, values, marks, outtimes, outvalues, outmarks)
 }

@@ -13,13 +13,13 @@ use lib.Ieee.{Float}
 use Rattle.gf.specs.Doubles.{_⊕_, _⊖_, _⊘_, 10000·0, abs}
 use Rattle.definitions.specs.declared.Knot.{Knot}
 use Rattle.definitions.specs.declared.Start.{Start}
-use Rattle.definitions.specs.declared.Manifest.{Manifest}
+use Rattle.definitions.specs.declared.Missing.{Missing}
 use Rattle.definitions.specs.declared.TemplateTimes.{TemplateTimes}
 use Rattle.definitions.specs.Lists.{zipWith}
 use Rattle.definitions.specs.Explicit.{knot}
 use Rattle.definitions.specs.Template.{stageTime, activations, diagonal, clipKnots, withBounds}
 use Rattle.definitions.specs.Retime.{sorted}
-use Rattle.laws.specs.cell.Unpacked.{start, setOf}
+use Rattle.laws.specs.cell.Lent.{start, setOf}
 use Rattle.template.specs.Expanding.{offsetOf, timesOfClips, bounded, knotXs, knotCount, numbered, expandedSet}
 
 module _ {A : Type 0} where
@@ -66,7 +66,7 @@ knots-are x (some offset) ts =
     ap (λ (l : List Knot). diagonal (x .start ⊖ abs offset) ∷ l)
     (same-both (timesOfClips ts ++ (last ∷ [])) ∙ map-end (timesOfClips ts) (last ∷ []) ∙ ap (λ (l : List Knot). l ++ (diagonal last ∷ [])) (diagonals ts))
 
-pub expanded-is : (x : TemplateTimes) (o : Option Float) (ts starts : List Float) (numbers empty : List ℕ) (xs ys blocks : List Float) (m : Manifest)
+pub expanded-is : (x : TemplateTimes) (o : Option Float) (ts starts : List Float) (numbers empty : List ℕ) (xs ys blocks : List Float) (m : Missing)
     → starts ≡ map (stageTime o) ts → numbers ≡ numbered 0 empty → length empty ≡ length ts → xs ≡ knotXs x o ts → ys ≡ xs
     → sorted (setOf (length ts) starts numbers xs ys blocks m) ≡ expandedSet ts x o blocks m
 unfolding sorted setOf expandedSet

@@ -12,7 +12,7 @@ use Rattle.laws.proofs.list.Tests.{or-false, passed}
 use Rattle.laws.specs.set.Sound.{Sound}
 use Rattle.laws.proofs.set.SoundTemplate.{TemplateFits, template-sound}
 use Rattle.clip.specs.declared.Parsed.{Parsed}
-use Rattle.clip.specs.Settling.{settleNumber, Refuses, Settles}
+use Rattle.clip.specs.Storing.{settleNumber, Refuses, Stores}
 use Rattle.clip.specs.Holding.{manifest}
 use Rattle.template.specs.Expanding.{templateFieldsNumber, expandedSet, Expands}
 use Rattle.clip.proofs.Laws.{same-number}
@@ -75,7 +75,7 @@ unfolding expandedSet templateSet
 set-is f = refl
 
 pub template-settles : (f : TemplateFields) (r : Parsed) → TemplateFits f → templateFieldsNumber f ≡ 0 → length (promoted (f .times)) ≤ 256
-    → Settles (expandedSet (promoted (f .times)) (f .times) (activeOffset f) (f .blocks) (manifest (f .default) (f .interpolateMissing))) r → Expands f r
+    → Stores (expandedSet (promoted (f .times)) (f .times) (activeOffset f) (f .blocks) (manifest (f .default) (f .interpolateMissing))) r → Expands f r
 template-settles f r h z l t = record {
   number = n;
   made = λ e. t .made e ∙ set-is f;

@@ -8,7 +8,7 @@ use lib.ListN.{length, take}
 use lib.Ieee.{Float, lt, le}
 use lib.Ieee.Scale.{finite}
 use Rattle.gf.specs.Doubles.{_⊕_, _⊖_, _⊘_, 0·0, 10000·0, abs, storable}
-use Rattle.definitions.specs.declared.Manifest.{Manifest}
+use Rattle.definitions.specs.declared.Missing.{Missing}
 use Rattle.definitions.specs.declared.TemplateTimes.{TemplateTimes}
 use Rattle.definitions.specs.Lists.{_if_else_}
 use Rattle.definitions.specs.ClipSet as Definitions
@@ -17,9 +17,9 @@ use Rattle.definitions.specs.Template.{TemplateFields, promoted, activations, c
 use Rattle.laws.specs.set.Sound.{Sound}
 use Rattle.clip.specs.declared.Parsed.{Parsed}
 use Rattle.template.specs.declared.expanding.Promoted.{Promoted}
-use Rattle.clip.specs.Holding.{Held, clipSetOf}
+use Rattle.clip.specs.Holding.{ArraysWhole, clipSetOf}
 
-abbrev pub templateFields : List ℕ → TemplateTimes → Bool → List Float → Manifest → TemplateFields
+abbrev pub templateFields : List ℕ → TemplateTimes → Bool → List Float → Missing → TemplateFields
 templateFields template x offset blocks m = record {
   template = template;
   times = x;
@@ -85,7 +85,7 @@ pub record Prepared (offset : Bool) (ts times : List Float) (numbers : List ℕ)
   pub few-blocks : length blocks ≤ maxBlocks
 
 -- the set that a template makes of the times t
-unfoldable pub expandedSet : List Float → TemplateTimes → Option Float → List Float → Manifest → Definitions.ClipSet
+unfoldable pub expandedSet : List Float → TemplateTimes → Option Float → List Float → Missing → Definitions.ClipSet
 expandedSet ts x o blocks m = record {
   clips = length ts;
   active = sortActive (activations o 0 ts);
@@ -99,4 +99,4 @@ pub record Expands (f : TemplateFields) (r : Parsed) : Type 0 where
   pub number : r .number ≡ templateNumber f
   pub made : r .number ≡ 0 → clipSetOf (r .set) ≡ templateSet f
   pub sound : r .number ≡ 0 → Sound (clipSetOf (r .set))
-  pub held : Held (r .set)
+  pub held : ArraysWhole (r .set)

@@ -1,15 +1,15 @@
 // The expansion of a template: the times t of its clips, and the set's lists of them.
 use clip::Parsed;
-use clip::settling;
 use clip::storage;
-use definitions::Manifest;
+use clip::storing;
+use definitions::Missing;
 use definitions::TemplateTimes;
 ghost use mathlib.Core.Path.{_≡_};
 ghost use mathlib.Core.List.{map};
 ghost use Prim.Native.Nat.{_≤_, _+_};
 ghost use lib.ListN.{length};
 ghost use Rattle.definitions.specs.Template.{stageTime};
-ghost use Rattle.clip.specs.Settling.{Settles};
+ghost use Rattle.clip.specs.Storing.{Stores};
 ghost use Rattle.template.specs.Expanding.{offsetOf, Promotes, timesOfClips, bounded, knotXs, knotCount, numbered, Prepared, expandedSet};
 
 // The times t and their number; of a 257th only the number tells.
@@ -123,19 +123,19 @@ pub fn expand_lists(
     times: TemplateTimes,
     offset: bool,
     blocks: &[f64],
-    manifest: Manifest,
+    manifest: Missing,
     starts: &mut [f64],
     numbers: &mut [u64],
     xs: &mut [f64],
     ys: &mut [f64],
 ) -> Parsed
     requires { ⌜ Prepared offset (now ts) (now starts) (now numbers) (now xs) (now ys) (now blocks) ⌝ }
-    ensures { λ r. ⌜ Settles (expandedSet (now (ts .entry)) times (offsetOf times offset) (now (blocks .entry)) manifest) r ⌝ }
+    ensures { λ r. ⌜ Stores (expandedSet (now (ts .entry)) times (offsetOf times offset) (now (blocks .entry)) manifest) r ⌝ }
 {
     write_starts(ts, times, offset, starts);
     write_numbers(numbers);
     write_knots(ts, times, offset, xs);
     lists::writing::copy(xs, ys);
     let clips = ts.len() as u64;
-    settling::sort_and_settle(clips, starts, numbers, xs, ys, blocks, manifest)
+    storing::sort_check_and_store(clips, starts, numbers, xs, ys, blocks, manifest)
 }

@@ -1,6 +1,6 @@
 // A template's fields: the numbers that they alone give.
-use clip::settling;
-use definitions::Manifest;
+use clip::storing;
+use definitions::Missing;
 use definitions::TemplateTimes;
 ghost use mathlib.Core.Path.{_≡_};
 ghost use Rattle.template.specs.Expanding.{offsetOf, timesUnstorable, timesDisordered, templateFields, templateFieldsNumber};
@@ -46,7 +46,7 @@ pub fn fields_number(
     times: TemplateTimes,
     offset: bool,
     blocks: &[f64],
-    manifest: Manifest,
+    manifest: Missing,
 ) -> u8
     ensures { λ r. ⌜ r ≡ templateFieldsNumber (templateFields (now (template .entry)) times offset (now (blocks .entry)) manifest) ⌝ }
 {
@@ -62,7 +62,7 @@ pub fn fields_number(
     if lists::any_unstorable(blocks) {
         return 2;
     }
-    if settling::is_nan_default(manifest.default) {
+    if storing::is_nan_default(manifest.default) {
         return 2;
     }
     if is_disordered(times, offset) {

@@ -3,10 +3,10 @@ mod expanding;
 mod fields;
 
 use clip::Parsed;
-use clip::settling;
 use clip::storage;
+use clip::storing;
 use definitions::Default;
-use definitions::Manifest;
+use definitions::Missing;
 use definitions::TemplateTimes;
 ghost use Rattle.clip.specs.Holding.{manifest};
 ghost use Rattle.template.specs.Expanding.{templateFields, Expands};
@@ -22,18 +22,18 @@ pub fn expand_template(
 ) -> Parsed
     ensures { λ r. ⌜ Expands (templateFields (now (template .entry)) times offset (now (blocks .entry)) (manifest default interpolate)) r ⌝ }
 {
-    let manifest = Manifest {
+    let manifest = Missing {
         default,
         interpolate,
     };
     let number = fields::fields_number(template, times, offset, blocks, manifest);
     if number != 0 {
-        return settling::refused(number);
+        return storing::refused(number);
     }
     let promoted = expanding::promote(times);
     let n = promoted.count;
     if 256 < n {
-        return settling::refused(8);
+        return storing::refused(8);
     }
     let m = expanding::knot_count(n, offset);
     let ts = promoted.items;

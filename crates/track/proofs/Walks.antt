@@ -8,7 +8,7 @@ use native.Mathlib.Omega.{arith}
 use lib.ListN.{length, length-append}
 use lib.Ieee.{Float}
 use Rattle.gf.specs.Key.{ofKey}
-use Rattle.definitions.specs.declared.Manifest.{Manifest}
+use Rattle.definitions.specs.declared.Missing.{Missing}
 use Rattle.definitions.specs.ClipSet.{ClipSet, stage}
 use Rattle.definitions.specs.Samples.{Samples}
 use Rattle.definitions.specs.Track.{Outputs, slots}
@@ -17,13 +17,13 @@ use Rattle.laws.proofs.cell.Direct.{SoundSet, SoundSamples}
 use Rattle.laws.specs.cell.Keys.{Keys, entryAtKey}
 use Rattle.laws.proofs.cell.Tracks.{SoundValues, entries-alike}
 use Rattle.laws.specs.cell.Tracks.{entry-same}
-use Rattle.laws.specs.cell.Unpacked.{setOf, samplesOf}
+use Rattle.laws.specs.cell.Lent.{setOf, samplesOf}
 use Rattle.run.specs.declared.walk.Went.{Went}
 use Rattle.run.specs.Walks.{outputs, written, Room, Walked}
 use Rattle.run.proofs.Filling.{Long}
 use Rattle.run.proofs.Walking.{Reaches}
-use Rattle.cell.specs.declared.spot.Spot.{Spot}
-use Rattle.cell.specs.Spots.{SpotIs}
+use Rattle.cell.specs.declared.place.WindowPlace.{WindowPlace}
+use Rattle.cell.specs.WindowPlaces.{PlaceIs}
 use Rattle.track.specs.span.Changes.{changesOf}
 use Rattle.track.specs.declared.fill.Filled.{Filled}
 use Rattle.track.specs.Fills.{PageIs, FillIs}
@@ -63,10 +63,10 @@ slots-long {ts = ts} {vs = vs} {ts′ = ts′} {vs′ = vs′} {ms = ms} {ms′ 
 pub slots-some : (x y : Float) (z : ℕ) (ts vs : List Float) (ms : List ℕ) → 0 < slots (outputs (x ∷ ts) (y ∷ vs) (z ∷ ms))
 slots-some x y z ts vs ms = let e = slots-is (x ∷ ts) (y ∷ vs) (z ∷ ms) in omega arith
 
-module _ {starts : List Float} {clips : List ℕ} {xs ys blocks : List Float} {m : Manifest} {times values : List Float} {marks ends : List ℕ} where
+module _ {starts : List Float} {clips : List ℕ} {xs ys blocks : List Float} {m : Missing} {times values : List Float} {marks ends : List ℕ} where
   -- what a walk comes to
   pub filled : (from top room : ℕ) → Keys from top → (o p : Outputs) → room ≡ slots o → (g : Went)
-      → Walked (entryAtKey (setOf (length ends) starts clips xs ys blocks m) (samplesOf times values marks ends)) from top room 0 o p g → (spot : Spot) → SpotIs starts clips xs ys blocks m times values marks ends (spot .p) (spot .w)
+      → Walked (entryAtKey (setOf (length ends) starts clips xs ys blocks m) (samplesOf times values marks ends)) from top room 0 o p g → (spot : WindowPlace) → PlaceIs starts clips xs ys blocks m times values marks ends (spot .p) (spot .w)
       → FillIs starts clips xs ys blocks m times values marks ends from top o p (record { count = g .count; cursor = record { key = g .key; last = g .last; spot = spot }; done = g .done })
   filled from top room K o p e g W spot P = record {
     passed = record {

@@ -5,25 +5,25 @@ use mathlib.Core.List.{List, _++_}
 use Prim.Native.Nat.{ℕ, _+_, _≤_, _<_}
 use lib.ListN.{length, take, drop}
 use lib.Ieee.{Float}
-use Rattle.definitions.specs.declared.Manifest.{Manifest}
+use Rattle.definitions.specs.declared.Missing.{Missing}
 use Rattle.definitions.specs.Track.{Outputs, slots}
 use Rattle.laws.specs.cell.Keys.{Keys, entryAtKey}
-use Rattle.laws.specs.cell.Unpacked.{setOf, samplesOf}
+use Rattle.laws.specs.cell.Lent.{setOf, samplesOf}
 use Rattle.cell.specs.step.Entries.{entryIs}
 use Rattle.run.specs.Walks.{written}
-use Rattle.cell.specs.Spots.{SpotIs}
+use Rattle.cell.specs.WindowPlaces.{PlaceIs}
 use Rattle.track.specs.span.Changes.{changesOf}
 use Rattle.track.specs.declared.fill.Cursor.{Cursor}
 use Rattle.track.specs.declared.fill.Filled.{Filled}
 
 -- a cursor on the way to top: the value at its key is its entry
-pub record CursorIs (starts : List Float) (clips : List ℕ) (xs ys blocks : List Float) (m : Manifest) (times values : List Float) (marks ends : List ℕ) (top : ℕ) (c : Cursor) : Type 0 where
+pub record CursorIs (starts : List Float) (clips : List ℕ) (xs ys blocks : List Float) (m : Missing) (times values : List Float) (marks ends : List ℕ) (top : ℕ) (c : Cursor) : Type 0 where
   pub keys : Keys (c .key) top
   pub last : entryIs (c .last) ≡ entryAtKey (setOf (length ends) starts clips xs ys blocks m) (samplesOf times values marks ends) (c .key)
-  pub spot : SpotIs starts clips xs ys blocks m times values marks ends (c .spot .p) (c .spot .w)
+  pub spot : PlaceIs starts clips xs ys blocks m times values marks ends (c .spot .p) (c .spot .w)
 
 -- a walk from a key on has passed the changes up to its cursor, so many in number: it came to top, or there are further ones up to there
-pub record PassedTo (starts : List Float) (clips : List ℕ) (xs ys blocks : List Float) (m : Manifest) (times values : List Float) (marks ends : List ℕ) (from top : ℕ) (r : Filled) : Type 0 where
+pub record PassedTo (starts : List Float) (clips : List ℕ) (xs ys blocks : List Float) (m : Missing) (times values : List Float) (marks ends : List ℕ) (from top : ℕ) (r : Filled) : Type 0 where
   pub order : from ≤ r .cursor .key
   pub cursor : CursorIs starts clips xs ys blocks m times values marks ends top (r .cursor)
   pub count : r .count ≡ length (changesOf (setOf (length ends) starts clips xs ys blocks m) (samplesOf times values marks ends) from (r .cursor .key))
@@ -31,14 +31,14 @@ pub record PassedTo (starts : List Float) (clips : List ℕ) (xs ys blocks : Lis
   pub more : r .done ≡ false → 0 < length (changesOf (setOf (length ends) starts clips xs ys blocks m) (samplesOf times values marks ends) (r .cursor .key) top)
 
 -- What a fill promises: these changes stand in the outputs' first slots, the other slots are as they were, and if it is not done the outputs are full
-pub record FillIs (starts : List Float) (clips : List ℕ) (xs ys blocks : List Float) (m : Manifest) (times values : List Float) (marks ends : List ℕ) (from top : ℕ) (before after : Outputs) (r : Filled) : Type 0 where
+pub record FillIs (starts : List Float) (clips : List ℕ) (xs ys blocks : List Float) (m : Missing) (times values : List Float) (marks ends : List ℕ) (from top : ℕ) (before after : Outputs) (r : Filled) : Type 0 where
   pub passed : PassedTo starts clips xs ys blocks m times values marks ends from top r
   pub writes : after ≡ written 0 (changesOf (setOf (length ends) starts clips xs ys blocks m) (samplesOf times values marks ends) from (r .cursor .key)) before
   pub fits : r .count ≤ slots before
   pub full : r .done ≡ false → r .count ≡ slots before
 
 -- of a page that is dropped
-pub record PageIs (starts : List Float) (clips : List ℕ) (xs ys blocks : List Float) (m : Manifest) (times values : List Float) (marks ends : List ℕ) (from top : ℕ) (r : Filled) : Type 0 where
+pub record PageIs (starts : List Float) (clips : List ℕ) (xs ys blocks : List Float) (m : Missing) (times values : List Float) (marks ends : List ℕ) (from top : ℕ) (r : Filled) : Type 0 where
   pub passed : PassedTo starts clips xs ys blocks m times values marks ends from top r
   pub onward : r .done ≡ false → from < r .cursor .key
 

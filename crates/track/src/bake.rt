@@ -5,20 +5,20 @@ use crate::entry::entry_at;
 use crate::fill::Cursor;
 use crate::fill::fill;
 use crate::fill::shortest;
-use cell::spot::no_spot;
-use definitions::Manifest;
+use cell::place::no_place;
+use definitions::Missing;
 use gf::LEAST;
 use gf::MOST;
 use lists::writing::copy;
-use window::neighbours::tops::tops_of;
+use window::neighbours::latest::latest_inverses;
 ghost use mathlib.Core.Path.{_≡_};
 ghost use Prim.Native.Nat.{_<_};
 ghost use lib.ListN.{length};
 ghost use Rattle.gf.specs.Doubles.{0·0};
 ghost use Rattle.gf.specs.Key as Key;
 ghost use Rattle.definitions.specs.Track.{slots};
-ghost use Rattle.laws.specs.cell.Unpacked.{setOf, samplesOf, Ready};
-ghost use Rattle.window.specs.neighbours.Tops.{TopsOf};
+ghost use Rattle.laws.specs.cell.Lent.{setOf, samplesOf, AcceptedLists};
+ghost use Rattle.window.specs.neighbours.Latest.{LatestOf};
 ghost use Rattle.run.specs.Walks.{Room};
 ghost use Rattle.track.specs.Bakes.{outputs, BakeIs};
 ghost use Rattle.track.specs.Fills.{CursorIs, copied};
@@ -69,7 +69,7 @@ fn bake_by_pages(
     xs: &[f64],
     ys: &[f64],
     blocks: &[f64],
-    m: Manifest,
+    m: Missing,
     times: &[f64],
     values: &[f64],
     marks: &[u8],
@@ -83,8 +83,8 @@ fn bake_by_pages(
     outvalues: &mut [f64],
     outmarks: &mut [u8],
 ) -> Baked
-    requires { ⌜ Ready (now starts) (now clips) (now xs) (now ys) (now blocks) m (now times) (now values) (now marks) (now ends) ⌝ }
-    requires { ⌜ TopsOf (now xs) (now ys) (now tops) ⌝ }
+    requires { ⌜ AcceptedLists (now starts) (now clips) (now xs) (now ys) (now blocks) m (now times) (now values) (now marks) (now ends) ⌝ }
+    requires { ⌜ LatestOf (now xs) (now ys) (now tops) ⌝ }
     requires { ⌜ CursorIs (now starts) (now clips) (now xs) (now ys) (now blocks) m (now times) (now values) (now marks) (now ends) Key.most from ⌝ ∗ ⌜ from .key ≡ Key.least ⌝ }
     requires { ⌜ 0 < slots (outputs (now pagetimes) (now pagevalues) (now pagemarks)) ⌝ }
     ensures { λ r. ⌜ BakeIs (setOf (length (now (ends .entry))) (now (starts .entry)) (now (clips .entry)) (now (xs .entry)) (now (ys .entry)) (now (blocks .entry)) m) (samplesOf (now (times .entry)) (now (values .entry)) (now (marks .entry)) (now (ends .entry))) (outputs (now (outtimes .entry)) (now (outvalues .entry)) (now (outmarks .entry))) (outputs (now (outtimes .exit)) (now (outvalues .exit)) (now (outmarks .exit))) r ⌝ }
@@ -185,7 +185,7 @@ pub fn bake(
     xs: &[f64],
     ys: &[f64],
     blocks: &[f64],
-    m: Manifest,
+    m: Missing,
     times: &[f64],
     values: &[f64],
     marks: &[u8],
@@ -194,7 +194,7 @@ pub fn bake(
     outvalues: &mut [f64],
     outmarks: &mut [u8],
 ) -> Baked
-    requires { ⌜ Ready (now starts) (now clips) (now xs) (now ys) (now blocks) m (now times) (now values) (now marks) (now ends) ⌝ }
+    requires { ⌜ AcceptedLists (now starts) (now clips) (now xs) (now ys) (now blocks) m (now times) (now values) (now marks) (now ends) ⌝ }
     ensures { λ r. ⌜ BakeIs (setOf (length (now (ends .entry))) (now (starts .entry)) (now (clips .entry)) (now (xs .entry)) (now (ys .entry)) (now (blocks .entry)) m) (samplesOf (now (times .entry)) (now (values .entry)) (now (marks .entry)) (now (ends .entry))) (outputs (now (outtimes .entry)) (now (outvalues .entry)) (now (outmarks .entry))) (outputs (now (outtimes .exit)) (now (outvalues .exit)) (now (outmarks .exit))) r ⌝ }
 {
     let head = entry_at(
@@ -210,8 +210,8 @@ pub fn bake(
         ends,
         LEAST,
     );
-    let tops = tops_of(xs, ys);
-    let spot = no_spot(starts);
+    let tops = latest_inverses(xs, ys);
+    let spot = no_place(starts);
     let from = Cursor {
         key: LEAST,
         last: head,

@@ -1,14 +1,14 @@
 // The changes counted, page by page.
 use crate::fill::Cursor;
 use crate::fill::fill;
-use definitions::Manifest;
+use definitions::Missing;
 ghost use mathlib.Core.Path.{_≡_};
 ghost use Prim.Native.Nat.{_<_};
 ghost use lib.Dec.{leb};
 ghost use lib.ListN.{length};
 ghost use Rattle.definitions.specs.Track.{slots};
-ghost use Rattle.laws.specs.cell.Unpacked.{setOf, samplesOf, Ready};
-ghost use Rattle.window.specs.neighbours.Tops.{TopsOf};
+ghost use Rattle.laws.specs.cell.Lent.{setOf, samplesOf, AcceptedLists};
+ghost use Rattle.window.specs.neighbours.Latest.{LatestOf};
 ghost use Rattle.track.specs.span.Changes.{changesOf};
 ghost use Rattle.track.specs.Bakes.{outputs};
 ghost use Rattle.track.specs.Fills.{CursorIs};
@@ -21,7 +21,7 @@ pub fn has_room(
     xs: &[f64],
     ys: &[f64],
     blocks: &[f64],
-    m: Manifest,
+    m: Missing,
     times: &[f64],
     values: &[f64],
     marks: &[u8],
@@ -34,8 +34,8 @@ pub fn has_room(
     pagevalues: &mut [f64],
     pagemarks: &mut [u8],
 ) -> bool
-    requires { ⌜ Ready (now starts) (now clips) (now xs) (now ys) (now blocks) m (now times) (now values) (now marks) (now ends) ⌝ }
-    requires { ⌜ TopsOf (now xs) (now ys) (now tops) ⌝ }
+    requires { ⌜ AcceptedLists (now starts) (now clips) (now xs) (now ys) (now blocks) m (now times) (now values) (now marks) (now ends) ⌝ }
+    requires { ⌜ LatestOf (now xs) (now ys) (now tops) ⌝ }
     requires { ⌜ CursorIs (now starts) (now clips) (now xs) (now ys) (now blocks) m (now times) (now values) (now marks) (now ends) top from ⌝ }
     requires { ⌜ 0 < slots (outputs (now pagetimes) (now pagevalues) (now pagemarks)) ⌝ }
     ensures { λ r. ⌜ r ≡ leb (length (changesOf (setOf (length (now (ends .entry))) (now (starts .entry)) (now (clips .entry)) (now (xs .entry)) (now (ys .entry)) (now (blocks .entry)) m) (samplesOf (now (times .entry)) (now (values .entry)) (now (marks .entry)) (now (ends .entry))) (from .key) top)) room ⌝ }

@@ -1,14 +1,14 @@
 // The value at a key, as a track holds it.
 use cell::step::entry::Entry;
 use cell::step::entry::entry_of;
-use definitions::Manifest;
+use definitions::Missing;
 use definitions::StageTime;
 ghost use mathlib.Core.Path.{_≡_};
 ghost use Prim.Native.Nat.{_≤_};
 ghost use lib.ListN.{length};
 ghost use Rattle.gf.specs.Key as Key;
 ghost use Rattle.laws.specs.cell.Keys.{entryAtKey};
-ghost use Rattle.laws.specs.cell.Unpacked.{setOf, samplesOf, Ready};
+ghost use Rattle.laws.specs.cell.Lent.{setOf, samplesOf, AcceptedLists};
 ghost use Rattle.cell.specs.step.Entries.{entryIs};
 
 // The entry at the double with the key k.
@@ -18,19 +18,19 @@ pub fn entry_at(
     xs: &[f64],
     ys: &[f64],
     blocks: &[f64],
-    m: Manifest,
+    m: Missing,
     times: &[f64],
     values: &[f64],
     marks: &[u8],
     ends: &[u64],
     k: u64,
 ) -> Entry
-    requires { ⌜ Ready (now starts) (now clips) (now xs) (now ys) (now blocks) m (now times) (now values) (now marks) (now ends) ⌝ }
+    requires { ⌜ AcceptedLists (now starts) (now clips) (now xs) (now ys) (now blocks) m (now times) (now values) (now marks) (now ends) ⌝ }
     requires { ⌜ (Key.least ≤ k) × (k ≤ Key.most) ⌝ }
     ensures { λ r. ⌜ entryIs r ≡ entryAtKey (setOf (length (now (ends .entry))) (now (starts .entry)) (now (clips .entry)) (now (xs .entry)) (now (ys .entry)) (now (blocks .entry)) m) (samplesOf (now (times .entry)) (now (values .entry)) (now (marks .entry)) (now (ends .entry))) k ⌝ }
 {
     let t = gf::of_key(k);
-    entry_of(value::value::value(
+    entry_of(value::value::value_in_set(
         starts,
         clips,
         xs,

@@ -1,14 +1,14 @@
 // The walk over the changes of the value. It stops when its outputs are full and can go on later.
 use crate::span::fill::fill_in;
-use crate::span::stretch_at;
-use cell::spot::Spot;
+use crate::span::span_at;
+use cell::place::WindowPlace;
 use cell::step::entry::Entry;
-use definitions::Manifest;
+use definitions::Missing;
 use run::walk::offer;
 ghost use mathlib.Core.Path.{_≡_};
 ghost use Prim.Native.Nat.{min};
-ghost use Rattle.laws.specs.cell.Unpacked.{Ready};
-ghost use Rattle.window.specs.neighbours.Tops.{TopsOf};
+ghost use Rattle.laws.specs.cell.Lent.{AcceptedLists};
+ghost use Rattle.window.specs.neighbours.Latest.{LatestOf};
 ghost use Rattle.run.specs.Walks.{outputs};
 ghost use Rattle.track.specs.Fills.{CursorIs, FillIs};
 
@@ -16,7 +16,7 @@ ghost use Rattle.track.specs.Fills.{CursorIs, FillIs};
 pub struct Cursor {
     pub key: u64,
     pub last: Entry,
-    pub spot: Spot,
+    pub spot: WindowPlace,
 }
 
 // How many changes were written, where the walk stands, and whether there are no more.
@@ -49,7 +49,7 @@ pub fn fill(
     xs: &[f64],
     ys: &[f64],
     blocks: &[f64],
-    m: Manifest,
+    m: Missing,
     times: &[f64],
     values: &[f64],
     marks: &[u8],
@@ -61,8 +61,8 @@ pub fn fill(
     outvalues: &mut [f64],
     outmarks: &mut [u8],
 ) -> Filled
-    requires { ⌜ Ready (now starts) (now clips) (now xs) (now ys) (now blocks) m (now times) (now values) (now marks) (now ends) ⌝ }
-    requires { ⌜ TopsOf (now xs) (now ys) (now tops) ⌝ }
+    requires { ⌜ AcceptedLists (now starts) (now clips) (now xs) (now ys) (now blocks) m (now times) (now values) (now marks) (now ends) ⌝ }
+    requires { ⌜ LatestOf (now xs) (now ys) (now tops) ⌝ }
     requires { ⌜ CursorIs (now starts) (now clips) (now xs) (now ys) (now blocks) m (now times) (now values) (now marks) (now ends) top from ⌝ }
     ensures { λ r. ⌜ FillIs (now (starts .entry)) (now (clips .entry)) (now (xs .entry)) (now (ys .entry)) (now (blocks .entry)) m (now (times .entry)) (now (values .entry)) (now (marks .entry)) (now (ends .entry)) (from .key) top (outputs (now (outtimes .entry)) (now (outvalues .entry)) (now (outmarks .entry))) (outputs (now (outtimes .exit)) (now (outvalues .exit)) (now (outmarks .exit))) r ⌝ }
 {
@@ -85,7 +85,7 @@ pub fn fill(
             };
         }
         let k = at + 1;
-        let step = stretch_at(
+        let step = span_at(
             starts,
             clips,
             xs,

@@ -6,57 +6,57 @@ pub mod fill;
 pub mod plain;
 
 use cell::Cell;
+use cell::cell_at;
 use cell::end::end_key;
 use cell::end::lesser;
-use cell::piece_at;
-use cell::spot::Spot;
-use cell::spot::spot_at;
+use cell::place::WindowPlace;
+use cell::place::place_at;
 use cell::step::entry::Entry;
 use cell::step::entry::entry_of;
 use cell::step::line::Line;
 use cell::step::line::place_on;
-use definitions::Manifest;
+use definitions::Missing;
 use definitions::Segment;
 use definitions::Source;
 use lists::segment::segment_at;
 use plain::is_plain;
 use plain::plain_cell;
-use run::begin::Onset;
-use run::begin::onset_at;
+use run::begin::RunBegin;
+use run::begin::run_begin;
 use run::entry_of_sample;
 use sdf::part::clip_begin;
 use sdf::part::clip_end;
-use value::value::says;
+use value::value::answer_of;
 ghost use mathlib.Core.Path.{_≡_};
 ghost use Prim.Native.Nat.{_<_};
 ghost use lib.ListN.{length};
 ghost use Rattle.gf.specs.Key.{ofKey};
 ghost use Rattle.laws.specs.cell.Keys.{Keys};
-ghost use Rattle.laws.specs.cell.Unpacked.{Ready};
-ghost use Rattle.window.specs.neighbours.Tops.{TopsOf};
+ghost use Rattle.laws.specs.cell.Lent.{AcceptedLists};
+ghost use Rattle.window.specs.neighbours.Latest.{LatestOf};
 ghost use Rattle.window.specs.neighbours.Windowed.{samplesIn};
 ghost use Rattle.value.specs.Passes as Passes;
-ghost use Rattle.cell.specs.Spots.{SpotIs, SpotAt};
+ghost use Rattle.cell.specs.WindowPlaces.{PlaceIs, PlaceAt};
 ghost use Rattle.track.specs.span.Runs.{Runs, readOn, StepIs};
 
 // How the value goes on: within a cell, or past the samples of a clip from the lower neighbour on where the run begins, in
 // one segment and near a sample's place.
-pub enum Way {
-    Within(Cell),
-    Past(u64, f64, Segment, usize),
+pub enum ReadBy {
+    ByCell(Cell),
+    ByRun(u64, f64, Segment, usize),
 }
 
 // The way from a key on, what it says there, and its last key up to a top.
-pub struct Stretch {
-    pub way: Way,
+pub struct Span {
+    pub way: ReadBy,
     pub here: Entry,
     pub hi: u64,
 }
 
 // A stretch, and the spot of the walk in it.
 pub struct Step {
-    pub stretch: Stretch,
-    pub spot: Spot,
+    pub stretch: Span,
+    pub spot: WindowPlace,
 }
 
 // What the cell reads at the key k.
@@ -90,24 +90,24 @@ fn cell_step(
     xs: &[f64],
     ys: &[f64],
     blocks: &[f64],
-    m: Manifest,
+    m: Missing,
     times: &[f64],
     values: &[f64],
     marks: &[u8],
     ends: &[u64],
     tops: &[f64],
-    at: Spot,
+    at: WindowPlace,
     k: u64,
     top: u64,
 ) -> Step
-    requires { ⌜ Ready (now starts) (now clips) (now xs) (now ys) (now blocks) m (now times) (now values) (now marks) (now ends) ⌝ }
-    requires { ⌜ TopsOf (now xs) (now ys) (now tops) ⌝ }
-    requires { ⌜ SpotAt (now starts) (now clips) (now xs) (now ys) (now blocks) m (now times) (now values) (now marks) (now ends) (ofKey k) (at .p) (at .w) ⌝ }
+    requires { ⌜ AcceptedLists (now starts) (now clips) (now xs) (now ys) (now blocks) m (now times) (now values) (now marks) (now ends) ⌝ }
+    requires { ⌜ LatestOf (now xs) (now ys) (now tops) ⌝ }
+    requires { ⌜ PlaceAt (now starts) (now clips) (now xs) (now ys) (now blocks) m (now times) (now values) (now marks) (now ends) (ofKey k) (at .p) (at .w) ⌝ }
     requires { ⌜ Keys k top ⌝ }
     ensures { λ r. ⌜ StepIs (now (starts .entry)) (now (clips .entry)) (now (xs .entry)) (now (ys .entry)) (now (blocks .entry)) m (now (times .entry)) (now (values .entry)) (now (marks .entry)) (now (ends .entry)) k top r ⌝ }
 {
     let t = gf::of_key(k);
-    let piece = piece_at(
+    let piece = cell_at(
         starts,
         clips,
         xs,
@@ -127,11 +127,11 @@ fn cell_step(
     let e = end_key(end);
     let hi = lesser(top, e - 1);
     let source = read_on(times, values, marks, ends, cell, k, hi);
-    let here = entry_of(says(m, times, values, marks, ends, source));
-    let way = Way::Within(cell);
-    let stretch = Stretch { way, here, hi };
+    let here = entry_of(answer_of(m, times, values, marks, ends, source));
+    let way = ReadBy::ByCell(cell);
+    let stretch = Span { way, here, hi };
     let w = at.w;
-    let reached = Spot {
+    let reached = WindowPlace {
         p: at.p,
         w,
         knot: piece.knot,
@@ -150,17 +150,17 @@ fn plain_step(
     xs: &[f64],
     ys: &[f64],
     blocks: &[f64],
-    m: Manifest,
+    m: Missing,
     times: &[f64],
     values: &[f64],
     marks: &[u8],
     ends: &[u64],
-    at: Spot,
+    at: WindowPlace,
     k: u64,
     top: u64,
 ) -> Step
-    requires { ⌜ Ready (now starts) (now clips) (now xs) (now ys) (now blocks) m (now times) (now values) (now marks) (now ends) ⌝ }
-    requires { ⌜ SpotAt (now starts) (now clips) (now xs) (now ys) (now blocks) m (now times) (now values) (now marks) (now ends) (ofKey k) (at .p) (at .w) ⌝ }
+    requires { ⌜ AcceptedLists (now starts) (now clips) (now xs) (now ys) (now blocks) m (now times) (now values) (now marks) (now ends) ⌝ }
+    requires { ⌜ PlaceAt (now starts) (now clips) (now xs) (now ys) (now blocks) m (now times) (now values) (now marks) (now ends) (ofKey k) (at .p) (at .w) ⌝ }
     requires { ⌜ Keys k top ⌝ }
     requires { ⌜ length (now xs) ≡ 0 ⌝ }
     requires { ⌜ 1 < length (now starts) ⌝ }
@@ -171,9 +171,9 @@ fn plain_step(
     let next = gf::key(w.max);
     let hi = lesser(top, next - 1);
     let read = read_on(times, values, marks, ends, cell, k, hi);
-    let here = entry_of(says(m, times, values, marks, ends, read));
-    let way = Way::Within(cell);
-    let stretch = Stretch { way, here, hi };
+    let here = entry_of(answer_of(m, times, values, marks, ends, read));
+    let way = ReadBy::ByCell(cell);
+    let stretch = Span { way, here, hi };
     Step { stretch, spot: at }
 }
 
@@ -185,13 +185,13 @@ fn run_step(
     xs: &[f64],
     ys: &[f64],
     blocks: &[f64],
-    m: Manifest,
+    m: Missing,
     times: &[f64],
     values: &[f64],
     marks: &[u8],
     ends: &[u64],
     tops: &[f64],
-    at: Spot,
+    at: WindowPlace,
     i: usize,
     l: f64,
     h: f64,
@@ -199,8 +199,8 @@ fn run_step(
     k: u64,
     top: u64,
 ) -> Step
-    requires { ⌜ Ready (now starts) (now clips) (now xs) (now ys) (now blocks) m (now times) (now values) (now marks) (now ends) ⌝ }
-    requires { ⌜ SpotAt (now starts) (now clips) (now xs) (now ys) (now blocks) m (now times) (now values) (now marks) (now ends) (ofKey k) (at .p) (at .w) ⌝ }
+    requires { ⌜ AcceptedLists (now starts) (now clips) (now xs) (now ys) (now blocks) m (now times) (now values) (now marks) (now ends) ⌝ }
+    requires { ⌜ PlaceAt (now starts) (now clips) (now xs) (now ys) (now blocks) m (now times) (now values) (now marks) (now ends) (ofKey k) (at .p) (at .w) ⌝ }
     requires { ⌜ 1 < length (now starts) ⌝ }
     requires { ⌜ at .w .begin < at .w .end ⌝ ∗ ⌜ Passes.Onset (now xs) (now ys) (now tops) (samplesIn (now times) (at .w)) (at .w) (ofKey k) i l h ⌝ }
     requires { ⌜ Keys k top ⌝ }
@@ -215,9 +215,9 @@ fn run_step(
     let line = Line::Segment(s);
     let place = place_on(&times[a..b], line, gf::key(l));
     let here = entry_of_sample(&values[a..b], &marks[a..b], place);
-    let way = Way::Past(w.clip, l, s, n);
-    let stretch = Stretch { way, here, hi };
-    let reached = Spot {
+    let way = ReadBy::ByRun(w.clip, l, s, n);
+    let stretch = Span { way, here, hi };
+    let reached = WindowPlace {
         p: at.p,
         w,
         knot: i,
@@ -230,30 +230,30 @@ fn run_step(
 }
 
 // The stretch from the key k on, and the spot of the walk there: with several starts a run of samples, if one begins at k.
-pub fn stretch_at(
+pub fn span_at(
     starts: &[f64],
     clips: &[u64],
     xs: &[f64],
     ys: &[f64],
     blocks: &[f64],
-    m: Manifest,
+    m: Missing,
     times: &[f64],
     values: &[f64],
     marks: &[u8],
     ends: &[u64],
     tops: &[f64],
-    spot: Spot,
+    spot: WindowPlace,
     k: u64,
     top: u64,
 ) -> Step
-    requires { ⌜ Ready (now starts) (now clips) (now xs) (now ys) (now blocks) m (now times) (now values) (now marks) (now ends) ⌝ }
-    requires { ⌜ TopsOf (now xs) (now ys) (now tops) ⌝ }
-    requires { ⌜ SpotIs (now starts) (now clips) (now xs) (now ys) (now blocks) m (now times) (now values) (now marks) (now ends) (spot .p) (spot .w) ⌝ }
+    requires { ⌜ AcceptedLists (now starts) (now clips) (now xs) (now ys) (now blocks) m (now times) (now values) (now marks) (now ends) ⌝ }
+    requires { ⌜ LatestOf (now xs) (now ys) (now tops) ⌝ }
+    requires { ⌜ PlaceIs (now starts) (now clips) (now xs) (now ys) (now blocks) m (now times) (now values) (now marks) (now ends) (spot .p) (spot .w) ⌝ }
     requires { ⌜ Keys k top ⌝ }
     ensures { λ r. ⌜ StepIs (now (starts .entry)) (now (clips .entry)) (now (xs .entry)) (now (ys .entry)) (now (blocks .entry)) m (now (times .entry)) (now (values .entry)) (now (marks .entry)) (now (ends .entry)) k top r ⌝ }
 {
     let t = gf::of_key(k);
-    let at = spot_at(
+    let at = place_at(
         starts,
         clips,
         xs,
@@ -286,8 +286,8 @@ pub fn stretch_at(
     }
     if 1 < starts.len() {
         let w = at.w;
-        let found = onset_at(xs, ys, tops, times, w, t, at.knot, at.sample);
-        if let Onset::At(i, l, h, n) = found {
+        let found = run_begin(xs, ys, tops, times, w, t, at.knot, at.sample);
+        if let RunBegin::At(i, l, h, n) = found {
             return run_step(
                 starts,
                 clips,

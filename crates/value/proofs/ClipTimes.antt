@@ -16,7 +16,7 @@ use Rattle.laws.proofs.set.LastKnot.{last-knot-is}
 use Rattle.laws.specs.list.Places.{Ascending}
 use Rattle.laws.proofs.list.Places.{beyond, up-to, last-is}
 use Rattle.laws.specs.cell.Places.{Fits}
-use Rattle.laws.specs.cell.Unpacked.{knotsOf}
+use Rattle.laws.specs.cell.Lent.{knotsOf}
 use Rattle.laws.proofs.cell.Unpacked.{knot-times, zip-length}
 use Rattle.lists.specs.Segments.{knotAt}
 use Rattle.window.proofs.nearest.Beside.{number-at}

@@ -10,7 +10,7 @@ use lib.Ieee.{Float, nan, inf, eq, lt, le}
 use borrow.Author.Tests.{ltb-true, ltb-false, lt-ltb, le-ltb, eqb-false}
 use Rattle.gf.proofs.KeyLaws.{key→le, key→lt, le-trans, finite-no-nan}
 use Rattle.gf.specs.declared.interval.Interval.{Interval}
-use Rattle.definitions.specs.declared.Manifest.{Manifest}
+use Rattle.definitions.specs.declared.Missing.{Missing}
 use Rattle.definitions.specs.declared.Source.the-variants.{Sample as sample}
 use Rattle.definitions.specs.Lists.{any, keep}
 use Rattle.definitions.specs.Doubles.{FiniteDouble}
@@ -28,7 +28,7 @@ use Rattle.laws.specs.cell.Places.{Fits}
 use Rattle.laws.proofs.cell.Places.{Clear, place-same}
 use Rattle.laws.proofs.cell.Window.{inf-below, inf-above}
 use Rattle.laws.specs.cell.Neighbours.{IsLower}
-use Rattle.laws.specs.cell.Unpacked.{activeOf, knotsOf, setOf, samplesOf, Ready}
+use Rattle.laws.specs.cell.Lent.{activeOf, knotsOf, setOf, samplesOf, AcceptedLists}
 use Rattle.window.specs.Bounds.{inside}
 use Rattle.window.specs.Inverses.{inversesOf}
 use Rattle.window.specs.Parts.{partOf}
@@ -40,15 +40,15 @@ use Rattle.value.proofs.direct.ReadsLaws.{read-none, read-some}
 use Rattle.value.specs.direct.Sources.{standIn}
 use Rattle.value.proofs.direct.Sources.{reads-own, reads-empty, reads-out}
 use Rattle.window.specs.declared.neighbours.Window.{Window}
-use Rattle.window.specs.neighbours.Tops.{TopsOf}
+use Rattle.window.specs.neighbours.Latest.{LatestOf}
 use Rattle.window.specs.neighbours.Windowed.{intervalOf, samplesIn, nextOf, windowTimes, windowSource, Lent, Nearing}
-use Rattle.value.specs.Handed.{WindowIs}
+use Rattle.value.specs.WindowOf.{WindowIs}
 
 no-more : lt (inf false) (inf false) ≡ false
 unfolding lt
 no-more = refl
 
-module _ {starts : List Float} {clips : List ℕ} {xs ys blocks : List Float} {m : Manifest} {times values : List Float} {marks ends : List ℕ} (R : Ready starts clips xs ys blocks m times values marks ends) where
+module _ {starts : List Float} {clips : List ℕ} {xs ys blocks : List Float} {m : Missing} {times values : List Float} {marks ends : List ℕ} (R : AcceptedLists starts clips xs ys blocks m times values marks ends) where
   abbrev set : ClipSet
   set = setOf (length ends) starts clips xs ys blocks m
 
@@ -187,7 +187,7 @@ module _ {starts : List Float} {clips : List ℕ} {xs ys blocks : List Float} {m
             go false q e = subst (λ (v : Float). T (lt t v)) (sym e) (inf-above t (ft .finitely))
 
         -- the premises of a search in it
-        pub window-nears : (tops : List Float) → TopsOf xs ys tops → Nearing xs ys tops (samplesIn times w) w t
+        pub window-nears : (tops : List Float) → LatestOf xs ys tops → Nearing xs ys tops (samplesIn times w) w t
         window-nears tops O = record {
           knots = ready-readable R .knots;
           paired = R .knots-paired;

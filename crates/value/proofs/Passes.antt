@@ -26,7 +26,7 @@ use Rattle.laws.specs.cell.Ends.{Number}
 use Rattle.laws.specs.cell.Places.{Fits}
 use Rattle.laws.proofs.cell.Window.{inf-below}
 use Rattle.laws.specs.cell.Neighbours.{IsLower, IsUpper}
-use Rattle.laws.specs.cell.Unpacked.{knotsOf}
+use Rattle.laws.specs.cell.Lent.{knotsOf}
 use Rattle.window.specs.declared.Bound.{Bound}
 use Rattle.window.specs.declared.Bound.the-variants.{At, Nothing}
 use Rattle.window.specs.Bounds.{In, inside, LowerIs, UpperIs}
@@ -37,7 +37,7 @@ use Rattle.window.proofs.Pairs.{jump-by-x}
 use Rattle.window.specs.nearest.Beside.{Facing}
 use Rattle.window.proofs.nearest.Beside.{finite-number, number-at, climb}
 use Rattle.window.specs.declared.neighbours.Window.{Window}
-use Rattle.window.specs.neighbours.Tops.{segmentOf}
+use Rattle.window.specs.neighbours.Latest.{segmentOf}
 use Rattle.window.proofs.neighbours.Reaches.{segment-times, inverse-number, to-places, from-places}
 use Rattle.window.specs.neighbours.Windowed.{intervalOf, nextOf, windowTimes, Nearing}
 use Rattle.window.proofs.neighbours.Windowed.{near-faces}

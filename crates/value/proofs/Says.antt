@@ -9,7 +9,7 @@ use lib.Dec.{eqb, ltb}
 use lib.ListN.{length, getElem?, take, drop, length-drop}
 use lib.Seq.{length-take-le}
 use lib.Ieee.{Float}
-use Rattle.definitions.specs.declared.Manifest.{Manifest}
+use Rattle.definitions.specs.declared.Missing.{Missing}
 use Rattle.definitions.specs.declared.Start.{Start}
 use Rattle.definitions.specs.declared.StageTime.{StageTime}
 use Rattle.definitions.specs.declared.ClipTime.{ClipTime}
@@ -22,38 +22,38 @@ use Rattle.definitions.specs.Samples.{Samples, clipBegin, clipEnd, clipTimes, h
 use Rattle.definitions.specs.Value.{_orElse_, says, contributes, sampleOf, readClip, blockedAt, firstReading, interpolateMissingValue, manifestDefault, gapSource, readingTime, sourceAt, directSource, valueSource}
 use Rattle.laws.specs.list.Every.{Every}
 use Rattle.laws.proofs.list.Every.{every-drop, every-take}
-use Rattle.laws.specs.cell.Unpacked.{setOf, samplesOf, Ready}
+use Rattle.laws.specs.cell.Lent.{setOf, samplesOf, AcceptedLists}
 use Rattle.window.proofs.Parts.{last-short}
 use Rattle.sdf.specs.look.Reads.{markedAt}
-use Rattle.value.specs.Says.{saysIn, Sayable}
+use Rattle.value.specs.Answers.{answerIn, Answerable}
 
 -- ---- the cases of the program
 
-module _ (m : Manifest) (values : List Float) (marks ends : List ℕ) (r : Source) where
+module _ (m : Missing) (values : List Float) (marks ends : List ℕ) (r : Source) where
   -- the place is the clip's beginning, found as b, and i more
-  pub says-sample : (c i b : ℕ) → r ≡ sample c i → b ≡ clipBegin ends c → markedAt values marks (b + i) ≡ saysIn m values marks ends r
-  unfolding saysIn
+  pub says-sample : (c i b : ℕ) → r ≡ sample c i → b ≡ clipBegin ends c → markedAt values marks (b + i) ≡ answerIn m values marks ends r
+  unfolding answerIn
   says-sample c i b e q = rw e (rw (← q))
 
-  pub says-default : r ≡ default → Value (m .default .value) ≡ saysIn m values marks ends r
-  unfolding saysIn
+  pub says-default : r ≡ default → Value (m .default .value) ≡ answerIn m values marks ends r
+  unfolding answerIn
   says-default e = rw e
 
-  pub says-blocked : r ≡ blocked → Blocked ≡ saysIn m values marks ends r
-  unfolding saysIn
+  pub says-blocked : r ≡ blocked → Blocked ≡ answerIn m values marks ends r
+  unfolding answerIn
   says-blocked e = rw e
 
-  pub says-absent : r ≡ absent → Absent ≡ saysIn m values marks ends r
-  unfolding saysIn
+  pub says-absent : r ≡ absent → Absent ≡ answerIn m values marks ends r
+  unfolding answerIn
   says-absent e = rw e
 
 -- ---- what is read lies in the lists
 
 abbrev IfSayable : ℕ → List ℕ → Option Source → Type 0
 IfSayable n ends none = Unit {0}
-IfSayable n ends (some r) = Sayable n ends r
+IfSayable n ends (some r) = Answerable n ends r
 
-else-in : (n : ℕ) (ends : List ℕ) (o : Option Source) (r : Source) → IfSayable n ends o → Sayable n ends r → Sayable n ends (o orElse r)
+else-in : (n : ℕ) (ends : List ℕ) (o : Option Source) (r : Source) → IfSayable n ends o → Answerable n ends r → Answerable n ends (o orElse r)
 else-in n ends none r p q = q
 else-in n ends (some o) r p q = p
 
@@ -66,15 +66,15 @@ every-reverse : {A : Type 0} (P : A → Type 0) (l r : List A) → Every P l →
 every-reverse P [] r h k = k
 every-reverse P (x ∷ l) r h k = every-reverse P l (x ∷ r) (h .1) (h .0, k)
 
-module _ {starts : List Float} {clips : List ℕ} {xs ys blocks : List Float} {m : Manifest} {times values : List Float} {marks ends : List ℕ} (R : Ready starts clips xs ys blocks m times values marks ends) where
+module _ {starts : List Float} {clips : List ℕ} {xs ys blocks : List Float} {m : Missing} {times values : List Float} {marks ends : List ℕ} (R : AcceptedLists starts clips xs ys blocks m times values marks ends) where
   abbrev set : ClipSet
   set = setOf (length ends) starts clips xs ys blocks m
 
   abbrev s : Samples
   s = samplesOf times values marks ends
 
-  pub says-ready : (r : Source) → saysIn m values marks ends r ≡ says set s r
-  unfolding setOf saysIn says
+  pub says-ready : (r : Source) → answerIn m values marks ends r ≡ says set s r
+  unfolding setOf answerIn says
   says-ready (sample c i) = refl
   says-ready default = refl
   says-ready blocked = refl
@@ -103,14 +103,14 @@ module _ {starts : List Float} {clips : List ℕ} {xs ys blocks : List Float} {m
       go false none p q = q
       go false (some r) p q = p
 
-  gap-in : (p : ℕ) → Sayable (length values) ends (gapSource set s p)
+  gap-in : (p : ℕ) → Answerable (length values) ends (gapSource set s p)
   unfolding setOf interpolateMissingValue
   gap-in p = go (m .interpolate)
     where
       named : Every (λ (a : Start). a .clip < length ends) (set .active)
       named = R .sound .named
 
-      go : (b : Bool) → Sayable (length values) ends (cond b (interpolateMissingValue set s p) blocked)
+      go : (b : Bool) → Answerable (length values) ends (cond b (interpolateMissingValue set s p) blocked)
       go true =
           else-in (length values) ends (firstReading set s (reverse (take p (set .active)))) _
           (first-in (reverse (take p (set .active))) (every-reverse (λ (a : Start). a .clip < length ends) (take p (set .active)) [] (every-take (λ (a : Start). a .clip < length ends) p (set .active) named) tt))
@@ -124,10 +124,10 @@ module _ {starts : List Float} {clips : List ℕ} {xs ys blocks : List Float} {m
       go true = tt
       go false = tt
 
-  pub stand-in-in : (p : ℕ) → Sayable (length values) ends (manifestDefault set orElse gapSource set s p)
+  pub stand-in-in : (p : ℕ) → Answerable (length values) ends (manifestDefault set orElse gapSource set s p)
   stand-in-in p = else-in (length values) ends (manifestDefault set) (gapSource set s p) default-in (gap-in p)
 
-  source-in : (t : StageTime) (p : ℕ) (o : Option Start) → ((a : Start) → o ≡ some a → a .clip < length ends) → Sayable (length values) ends (sourceAt set s t p o)
+  source-in : (t : StageTime) (p : ℕ) (o : Option Start) → ((a : Start) → o ≡ some a → a .clip < length ends) → Answerable (length values) ends (sourceAt set s t p o)
   source-in t p none h = tt
   source-in t p (some a) h =
       else-in (length values) ends (cond (contributes set a) (readClip set s (a .clip) t) none) (manifestDefault set orElse gapSource set s p) (go (contributes set a)) (stand-in-in p)
@@ -136,7 +136,7 @@ module _ {starts : List Float} {clips : List ℕ} {xs ys blocks : List Float} {m
       go true = read-in (a .clip) t (h a refl)
       go false = tt
 
-  pub direct-in : (t : StageTime) → Sayable (length values) ends (directSource set s t)
+  pub direct-in : (t : StageTime) → Answerable (length values) ends (directSource set s t)
   unfolding setOf directSource
   direct-in t =
       let p = activePosition (set .active) t in
@@ -147,10 +147,10 @@ module _ {starts : List Float} {clips : List ℕ} {xs ys blocks : List Float} {m
       at-in (b ∷ l) zero a h e = let q : b ≡ a = cc in subst (λ (c : Start). c .clip < length ends) q (h .0)
       at-in (b ∷ l) (suc i) a h e = at-in l i a (h .1) e
 
-  pub value-in : (t : StageTime) → Sayable (length values) ends (valueSource set s t)
+  pub value-in : (t : StageTime) → Answerable (length values) ends (valueSource set s t)
   unfolding valueSource
   value-in t = go (ltb 1 (length (set .active)))
     where
-      go : (b : Bool) → Sayable (length values) ends (cond b (directSource set s (stage (readingTime set s t))) (directSource set s t))
+      go : (b : Bool) → Answerable (length values) ends (cond b (directSource set s (stage (readingTime set s t))) (directSource set s t))
       go true = direct-in (stage (readingTime set s t))
       go false = direct-in t

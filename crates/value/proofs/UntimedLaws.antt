@@ -9,7 +9,7 @@ use lib.ListN.{length, drop, length-drop}
 use lib.Seq.{length-take-le}
 use lib.Ieee.{Float}
 use borrow.Author.Tests.{eq-eqb, ne-eqb, ltb-true, ltb-false}
-use Rattle.definitions.specs.declared.Manifest.{Manifest}
+use Rattle.definitions.specs.declared.Missing.{Missing}
 use Rattle.definitions.specs.declared.Start.{Start}
 use Rattle.definitions.specs.Lists.{any}
 use Rattle.definitions.specs.ClipSet.{ClipSet, markValue}
@@ -17,7 +17,7 @@ use Rattle.definitions.specs.Samples.{Samples, clipBegin, clipEnd, clipTimes}
 use Rattle.definitions.specs.StageSamples as Stage
 use Rattle.definitions.specs.StageSamples.{anySamples, untimed, untimedAnswer}
 use Rattle.laws.specs.list.Every.{Every}
-use Rattle.laws.specs.cell.Unpacked.{activeOf, setOf, samplesOf, Ready}
+use Rattle.laws.specs.cell.Lent.{activeOf, setOf, samplesOf, AcceptedLists}
 use Rattle.value.specs.Untimed.{hasSamples}
 
 some-samples : (n b e : ℕ) → n ≡ e - b → not (eqb n 0) ≡ ltb b e
@@ -27,7 +27,7 @@ some-samples n b e q = go (ltb b e) refl
     go true h = let l = ltb-true b e h in ap not (ne-eqb n 0 (λ z. omega arith))
     go false h = let l = ltb-false b e h in ap not (eq-eqb n 0 (omega arith))
 
-module _ {starts : List Float} {clips : List ℕ} {xs ys blocks : List Float} {m : Manifest} {times values : List Float} {marks ends : List ℕ} (R : Ready starts clips xs ys blocks m times values marks ends) where
+module _ {starts : List Float} {clips : List ℕ} {xs ys blocks : List Float} {m : Missing} {times values : List Float} {marks ends : List ℕ} (R : AcceptedLists starts clips xs ys blocks m times values marks ends) where
   abbrev set : ClipSet
   set = setOf (length ends) starts clips xs ys blocks m
 

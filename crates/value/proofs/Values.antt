@@ -11,7 +11,7 @@ use lib.Ieee.{Float, lt, le}
 use lib.Ieee.Scale.{finite}
 use borrow.Author.Tests.{lt-ltb, le-ltb}
 use Rattle.gf.proofs.KeyLaws.{le-refl, finite-no-nan}
-use Rattle.definitions.specs.declared.Manifest.{Manifest}
+use Rattle.definitions.specs.declared.Missing.{Missing}
 use Rattle.definitions.specs.declared.Knot.{Knot}
 use Rattle.definitions.specs.declared.Source.{Source}
 use Rattle.definitions.specs.Lists.{keep}
@@ -31,7 +31,7 @@ use Rattle.laws.specs.cell.Stretches.{boundaries, heldBetween, heldFrom}
 use Rattle.laws.proofs.cell.Stretches.{readAs, boundaries-fit, value-by, held-many, held-few}
 use Rattle.laws.specs.cell.Neighbours.{IsLower, IsUpper}
 use Rattle.laws.proofs.cell.Neighbours.{lower-found, lower-none, upper-found, upper-none, jump-alike}
-use Rattle.laws.specs.cell.Unpacked.{activeOf, knotsOf, setOf, samplesOf, Ready}
+use Rattle.laws.specs.cell.Lent.{activeOf, knotsOf, setOf, samplesOf, AcceptedLists}
 use Rattle.laws.proofs.cell.Unpacked.{sound-set, sound-samples}
 use Rattle.window.specs.declared.Bound.{Bound}
 use Rattle.window.specs.declared.Bound.the-variants.{At, Nothing}
@@ -40,7 +40,7 @@ use Rattle.window.specs.Bounds.{LowerIs, UpperIs, NeighboursAre}
 use Rattle.window.proofs.Parts.{ready-active, ready-position, ready-readable}
 use Rattle.window.specs.declared.neighbours.Window.{Window}
 use Rattle.window.specs.neighbours.Windowed.{samplesIn, windowTimes, windowSource}
-use Rattle.value.specs.Handed.{WindowIs}
+use Rattle.value.specs.WindowOf.{WindowIs}
 use Rattle.value.proofs.Handed.{window-gathered, window-lent, window-nears, window-held}
 use Rattle.value.specs.Values.{heldAt, Valued, ValueIn}
 
@@ -92,7 +92,7 @@ module _ (times : List Float) (fit : Every Fits times) (t x : Float) where
 
 -- ---- the value by its neighbours
 
-module _ {starts : List Float} {clips : List ℕ} {xs ys blocks : List Float} {m : Manifest} {times values : List Float} {marks ends : List ℕ} (R : Ready starts clips xs ys blocks m times values marks ends) (t : Float) (ft : Fits t) (nt : T (finite t)) where
+module _ {starts : List Float} {clips : List ℕ} {xs ys blocks : List Float} {m : Missing} {times values : List Float} {marks ends : List ℕ} (R : AcceptedLists starts clips xs ys blocks m times values marks ends) (t : Float) (ft : Fits t) (nt : T (finite t)) where
   abbrev set : ClipSet
   set = setOf (length ends) starts clips xs ys blocks m
 

@@ -14,7 +14,7 @@ use Rattle.laws.specs.cell.Neighbours.{IsLower}
 use Rattle.window.specs.Bounds.{In}
 use Rattle.window.specs.Inverses.{onSegment}
 use Rattle.window.specs.declared.neighbours.Window.{Window}
-use Rattle.window.specs.neighbours.Tops.{segmentOf}
+use Rattle.window.specs.neighbours.Latest.{segmentOf}
 use Rattle.window.specs.neighbours.Windowed.{windowTimes, Nearing}
 use Rattle.value.specs.ClipTimes.{OnSegment}
 

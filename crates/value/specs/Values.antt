@@ -8,13 +8,13 @@ use Rattle.definitions.specs.declared.Knot.{Knot}
 use Rattle.definitions.specs.declared.Source.{Source}
 use Rattle.definitions.specs.Value.{jump}
 use Rattle.laws.specs.list.Places.{Ascending}
-use Rattle.laws.specs.cell.Unpacked.{knotsOf}
+use Rattle.laws.specs.cell.Lent.{knotsOf}
 use Rattle.window.specs.declared.Bound.{Bound}
 use Rattle.window.specs.declared.Bound.the-variants.{At, Nothing}
 use Rattle.window.specs.declared.Bounds.{Bounds}
 use Rattle.window.specs.Bounds.{NeighboursAre}
 use Rattle.window.specs.declared.neighbours.Window.{Window}
-use Rattle.window.specs.neighbours.Tops.{TopsOf}
+use Rattle.window.specs.neighbours.Latest.{LatestOf}
 use Rattle.window.specs.neighbours.Windowed.{samplesIn, windowTimes, windowSource, Lent, Nearing}
 
 -- ---- the value in a window
@@ -30,7 +30,7 @@ pub record Valued (xs ys times : List Float) (w : Window) (t : Float) : Type 0 w
   pub knots : Ascending xs
   pub paired : length xs ≡ length ys
   pub lent : Lent times w
-  pub nears : (tops : List Float) → TopsOf xs ys tops → Nearing xs ys tops (samplesIn times w) w t
+  pub nears : (tops : List Float) → LatestOf xs ys tops → Nearing xs ys tops (samplesIn times w) w t
 
 -- r is read at the time that the neighbours tell
 pub record ValueIn (xs ys times : List Float) (w : Window) (t : Float) (r : Source) : Type 0 where

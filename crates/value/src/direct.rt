@@ -1,9 +1,9 @@
 // The direct value: the active clip's held reading at the clip time, or what stands in for it.
 
-use definitions::Manifest;
+use definitions::Missing;
 use definitions::Source;
 use definitions::StageTime;
-use sdf::look::Held;
+use sdf::look::HeldPlace;
 use sdf::part::clip_begin;
 use sdf::part::clip_end;
 ghost use mathlib.Core.Path.{_≡_};
@@ -14,7 +14,7 @@ ghost use lib.ListN.{length, getD, take, drop};
 ghost use lib.Ieee.{Float, nan, eq};
 ghost use Rattle.definitions.specs.Lists.{any};
 ghost use Rattle.definitions.specs.Value.{_orElse_, firstReading, manifestDefault, gapSource};
-ghost use Rattle.laws.specs.cell.Unpacked.{start, activeOf, setOf, samplesOf, Ready};
+ghost use Rattle.laws.specs.cell.Lent.{start, activeOf, setOf, samplesOf, AcceptedLists};
 ghost use Rattle.window.specs.Parts.{Readable};
 ghost use Rattle.sdf.specs.look.Reads.{heldIs};
 ghost use Rattle.value.specs.direct.Reads.{readingIs, heldPart, readStart};
@@ -49,7 +49,7 @@ pub fn blocked_at(blocks: &[f64], start: f64) -> bool
 }
 
 // The clip of this start contributes its samples: blocks count only where the missing flag is on.
-pub fn contributes(blocks: &[f64], m: Manifest, start: f64) -> bool
+pub fn contributes(blocks: &[f64], m: Missing, start: f64) -> bool
     ensures { λ r. ⌜ r ≡ not (m .interpolate && any (λ (b : Float). eq b start) (now (blocks .entry))) ⌝ }
 {
     if m.interpolate {
@@ -68,7 +68,7 @@ pub fn read_clip(
     ends: &[u64],
     clip: u64,
     t: StageTime,
-) -> Held
+) -> HeldPlace
     requires { ⌜ Readable (now xs) (now ys) (now times) (now ends) ⌝ ∗ ⌜ clip < length (now ends) ⌝ }
     requires { ⌜ length (now values) ≡ length (now times) ⌝ ∗ ⌜ length (now marks) ≡ length (now times) ⌝ }
     ensures { λ r. ⌜ heldIs r ≡ heldPart (now (xs .entry)) (now (ys .entry)) (now (times .entry)) (now (values .entry)) (now (marks .entry)) (now (ends .entry)) clip t ⌝ }
@@ -76,7 +76,7 @@ pub fn read_clip(
     let begin = clip_begin(ends, clip);
     let end = clip_end(ends, clip);
     if begin == end {
-        return Held::Nothing;
+        return HeldPlace::Nothing;
     }
     let c = lists::map_time(xs, ys, t);
     sdf::look::read_clip(times, values, marks, begin, end, c)
@@ -89,14 +89,14 @@ fn read_start(
     xs: &[f64],
     ys: &[f64],
     blocks: &[f64],
-    m: Manifest,
+    m: Missing,
     times: &[f64],
     values: &[f64],
     marks: &[u8],
     ends: &[u64],
     i: usize,
 ) -> Reading
-    requires { ⌜ Ready (now starts) (now clips) (now xs) (now ys) (now blocks) m (now times) (now values) (now marks) (now ends) ⌝ ∗ ⌜ i < length (now starts) ⌝ }
+    requires { ⌜ AcceptedLists (now starts) (now clips) (now xs) (now ys) (now blocks) m (now times) (now values) (now marks) (now ends) ⌝ ∗ ⌜ i < length (now starts) ⌝ }
     ensures { λ r. ⌜ readingIs r ≡ readStart (setOf (length (now (ends .entry))) (now (starts .entry)) (now (clips .entry)) (now (xs .entry)) (now (ys .entry)) (now (blocks .entry)) m) (samplesOf (now (times .entry)) (now (values .entry)) (now (marks .entry)) (now (ends .entry))) (start (getD (now (starts .entry)) i nan) (getD (now (clips .entry)) i 0)) ⌝ }
 {
     let time = starts[i];
@@ -104,8 +104,16 @@ fn read_start(
         return Reading::Nothing;
     }
     let clip = clips[i];
-    let Held::At(place, _) = read_clip(xs, ys, times, values, marks, ends, clip, StageTime(time))
-    else {
+    let HeldPlace::At(place, _) = read_clip(
+        xs,
+        ys,
+        times,
+        values,
+        marks,
+        ends,
+        clip,
+        StageTime(time),
+    ) else {
         return Reading::Nothing;
     };
     Reading::Of(clip, place as u64)
@@ -118,14 +126,14 @@ fn nearest_before(
     xs: &[f64],
     ys: &[f64],
     blocks: &[f64],
-    m: Manifest,
+    m: Missing,
     times: &[f64],
     values: &[f64],
     marks: &[u8],
     ends: &[u64],
     p: usize,
 ) -> Reading
-    requires { ⌜ Ready (now starts) (now clips) (now xs) (now ys) (now blocks) m (now times) (now values) (now marks) (now ends) ⌝ ∗ ⌜ p ≤ length (now starts) ⌝ }
+    requires { ⌜ AcceptedLists (now starts) (now clips) (now xs) (now ys) (now blocks) m (now times) (now values) (now marks) (now ends) ⌝ ∗ ⌜ p ≤ length (now starts) ⌝ }
     ensures { λ r. ⌜ readingIs r ≡ firstReading (setOf (length (now (ends .entry))) (now (starts .entry)) (now (clips .entry)) (now (xs .entry)) (now (ys .entry)) (now (blocks .entry)) m) (samplesOf (now (times .entry)) (now (values .entry)) (now (marks .entry)) (now (ends .entry))) (reverse (take p (activeOf (now (starts .entry)) (now (clips .entry))))) ⌝ }
 {
     let mut left = p;
@@ -158,14 +166,14 @@ fn nearest_from(
     xs: &[f64],
     ys: &[f64],
     blocks: &[f64],
-    m: Manifest,
+    m: Missing,
     times: &[f64],
     values: &[f64],
     marks: &[u8],
     ends: &[u64],
     p: usize,
 ) -> Reading
-    requires { ⌜ Ready (now starts) (now clips) (now xs) (now ys) (now blocks) m (now times) (now values) (now marks) (now ends) ⌝ ∗ ⌜ p ≤ length (now starts) ⌝ }
+    requires { ⌜ AcceptedLists (now starts) (now clips) (now xs) (now ys) (now blocks) m (now times) (now values) (now marks) (now ends) ⌝ ∗ ⌜ p ≤ length (now starts) ⌝ }
     ensures { λ r. ⌜ readingIs r ≡ firstReading (setOf (length (now (ends .entry))) (now (starts .entry)) (now (clips .entry)) (now (xs .entry)) (now (ys .entry)) (now (blocks .entry)) m) (samplesOf (now (times .entry)) (now (values .entry)) (now (marks .entry)) (now (ends .entry))) (drop p (activeOf (now (starts .entry)) (now (clips .entry)))) ⌝ }
 {
     let mut i = p;
@@ -192,20 +200,20 @@ fn nearest_from(
 }
 
 // What stands in for the reading of the start at the place `p`: the manifest default, then a value of the starts before it, then of those after it.
-pub fn gap_source(
+pub fn interpolate_missing_value(
     starts: &[f64],
     clips: &[u64],
     xs: &[f64],
     ys: &[f64],
     blocks: &[f64],
-    m: Manifest,
+    m: Missing,
     times: &[f64],
     values: &[f64],
     marks: &[u8],
     ends: &[u64],
     p: usize,
 ) -> Source
-    requires { ⌜ Ready (now starts) (now clips) (now xs) (now ys) (now blocks) m (now times) (now values) (now marks) (now ends) ⌝ ∗ ⌜ p < length (now starts) ⌝ }
+    requires { ⌜ AcceptedLists (now starts) (now clips) (now xs) (now ys) (now blocks) m (now times) (now values) (now marks) (now ends) ⌝ ∗ ⌜ p < length (now starts) ⌝ }
     ensures { λ r. ⌜ r ≡ (manifestDefault (setOf (length (now (ends .entry))) (now (starts .entry)) (now (clips .entry)) (now (xs .entry)) (now (ys .entry)) (now (blocks .entry)) m) orElse gapSource (setOf (length (now (ends .entry))) (now (starts .entry)) (now (clips .entry)) (now (xs .entry)) (now (ys .entry)) (now (blocks .entry)) m) (samplesOf (now (times .entry)) (now (values .entry)) (now (marks .entry)) (now (ends .entry))) p) ⌝ }
 {
     let default = m.default;

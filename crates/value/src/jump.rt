@@ -4,7 +4,7 @@ ghost use mathlib.Core.Path.{_≡_};
 ghost use lib.ListN.{length};
 ghost use Rattle.definitions.specs.Value.{jump};
 ghost use Rattle.laws.specs.list.Places.{Ascending};
-ghost use Rattle.laws.specs.cell.Unpacked.{knotsOf};
+ghost use Rattle.laws.specs.cell.Lent.{knotsOf};
 
 // Whether some neighbouring knots share an x above `lower` and at most `upper`: looked for from the last knot that is at most `upper` down, near the place
 // `knot`. The knot at `upper` counts, though a window ends before it.

@@ -1,6 +1,6 @@
 // The answer without a time. It heeds neither the missing flag nor the manifest blocks.
 
-use definitions::Manifest;
+use definitions::Missing;
 use sdf::part::clip_begin;
 use sdf::part::clip_end;
 ghost use mathlib.Core.Path.{_≡_};
@@ -9,7 +9,7 @@ ghost use lib.ListN.{length};
 ghost use Rattle.definitions.specs.Lists.{any};
 ghost use Rattle.definitions.specs.StageSamples.{untimedAnswer};
 ghost use Rattle.laws.specs.list.Every.{Every};
-ghost use Rattle.laws.specs.cell.Unpacked.{setOf, samplesOf, Ready};
+ghost use Rattle.laws.specs.cell.Lent.{setOf, samplesOf, AcceptedLists};
 ghost use Rattle.value.specs.Untimed.{stateIs, hasSamples};
 
 // Whether a set has a value at all.
@@ -36,19 +36,19 @@ fn any_samples(clips: &[u64], ends: &[u64]) -> bool
 }
 
 // Absent without starts; present where a start's clip has samples or the manifest default is a value; else blocked.
-pub fn untimed(
+pub fn untimed_answer_in_set(
     starts: &[f64],
     clips: &[u64],
     xs: &[f64],
     ys: &[f64],
     blocks: &[f64],
-    m: Manifest,
+    m: Missing,
     times: &[f64],
     values: &[f64],
     marks: &[u8],
     ends: &[u64],
 ) -> ValueState
-    requires { ⌜ Ready (now starts) (now clips) (now xs) (now ys) (now blocks) m (now times) (now values) (now marks) (now ends) ⌝ }
+    requires { ⌜ AcceptedLists (now starts) (now clips) (now xs) (now ys) (now blocks) m (now times) (now values) (now marks) (now ends) ⌝ }
     ensures { λ r. ⌜ stateIs r ≡ untimedAnswer (setOf (length (now (ends .entry))) (now (starts .entry)) (now (clips .entry)) (now (xs .entry)) (now (ys .entry)) (now (blocks .entry)) m) (samplesOf (now (times .entry)) (now (values .entry)) (now (marks .entry)) (now (ends .entry))) ⌝ }
 {
     if starts.len() == 0 {

@@ -4,7 +4,7 @@ use super::jump::is_jump;
 use super::windowed::source_in;
 use super::windowed::window_of;
 use definitions::Answer;
-use definitions::Manifest;
+use definitions::Missing;
 use definitions::Source;
 use definitions::StageTime;
 use sdf::part::clip_begin;
@@ -17,8 +17,8 @@ ghost use lib.Dec.{T};
 ghost use lib.ListN.{length};
 ghost use lib.Ieee.Scale.{finite};
 ghost use Rattle.definitions.specs.Value.{valueSource, valueInSet};
-ghost use Rattle.laws.specs.cell.Unpacked.{setOf, samplesOf, Ready};
-ghost use Rattle.value.specs.Says.{saysIn, Sayable};
+ghost use Rattle.laws.specs.cell.Lent.{setOf, samplesOf, AcceptedLists};
+ghost use Rattle.value.specs.Answers.{answerIn, Answerable};
 ghost use Rattle.value.specs.Values.{Valued, ValueIn};
 
 // What is read at the time `t` of a window: directly, or held from the lower neighbour.
@@ -53,14 +53,14 @@ pub fn value_source(
     xs: &[f64],
     ys: &[f64],
     blocks: &[f64],
-    m: Manifest,
+    m: Missing,
     times: &[f64],
     values: &[f64],
     marks: &[u8],
     ends: &[u64],
     t: StageTime,
 ) -> Source
-    requires { ⌜ Ready (now starts) (now clips) (now xs) (now ys) (now blocks) m (now times) (now values) (now marks) (now ends) ⌝ ∗ ⌜ T (finite (t .0)) ⌝ }
+    requires { ⌜ AcceptedLists (now starts) (now clips) (now xs) (now ys) (now blocks) m (now times) (now values) (now marks) (now ends) ⌝ ∗ ⌜ T (finite (t .0)) ⌝ }
     ensures { λ r. ⌜ r ≡ valueSource (setOf (length (now (ends .entry))) (now (starts .entry)) (now (clips .entry)) (now (xs .entry)) (now (ys .entry)) (now (blocks .entry)) m) (samplesOf (now (times .entry)) (now (values .entry)) (now (marks .entry)) (now (ends .entry))) t ⌝ }
 {
     if starts.len() == 0 {
@@ -87,16 +87,16 @@ pub fn value_source(
 }
 
 // What a source says, with the bits as lent. A sample is seen through a look at its clip.
-pub fn says(
-    m: Manifest,
+pub fn answer_of(
+    m: Missing,
     times: &[f64],
     values: &[f64],
     marks: &[u8],
     ends: &[u64],
     source: Source,
 ) -> Answer
-    requires { ⌜ Sayable (length (now values)) (now ends) source ⌝ ∗ ⌜ length (now marks) ≡ length (now values) ⌝ }
-    ensures { λ r. ⌜ r ≡ saysIn m (now (values .entry)) (now (marks .entry)) (now (ends .entry)) source ⌝ }
+    requires { ⌜ Answerable (length (now values)) (now ends) source ⌝ ∗ ⌜ length (now marks) ≡ length (now values) ⌝ }
+    ensures { λ r. ⌜ r ≡ answerIn m (now (values .entry)) (now (marks .entry)) (now (ends .entry)) source ⌝ }
 {
     match source {
         Source::Sample(clip, place) => {
@@ -114,20 +114,20 @@ pub fn says(
 }
 
 // The value at the stage time `t`.
-pub fn value(
+pub fn value_in_set(
     starts: &[f64],
     clips: &[u64],
     xs: &[f64],
     ys: &[f64],
     blocks: &[f64],
-    m: Manifest,
+    m: Missing,
     times: &[f64],
     values: &[f64],
     marks: &[u8],
     ends: &[u64],
     t: StageTime,
 ) -> Answer
-    requires { ⌜ Ready (now starts) (now clips) (now xs) (now ys) (now blocks) m (now times) (now values) (now marks) (now ends) ⌝ ∗ ⌜ T (finite (t .0)) ⌝ }
+    requires { ⌜ AcceptedLists (now starts) (now clips) (now xs) (now ys) (now blocks) m (now times) (now values) (now marks) (now ends) ⌝ ∗ ⌜ T (finite (t .0)) ⌝ }
     ensures { λ r. ⌜ r ≡ valueInSet (setOf (length (now (ends .entry))) (now (starts .entry)) (now (clips .entry)) (now (xs .entry)) (now (ys .entry)) (now (blocks .entry)) m) (samplesOf (now (times .entry)) (now (values .entry)) (now (marks .entry)) (now (ends .entry))) t ⌝ }
 {
     let source = value_source(
@@ -143,5 +143,5 @@ pub fn value(
         ends,
         t,
     );
-    says(m, times, values, marks, ends, source)
+    answer_of(m, times, values, marks, ends, source)
 }

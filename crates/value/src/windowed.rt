@@ -1,9 +1,9 @@
 // A window handed on: what the times between two starts are read from.
 
 use crate::direct::contributes;
-use crate::direct::gap_source;
+use crate::direct::interpolate_missing_value;
 use definitions::ClipTime;
-use definitions::Manifest;
+use definitions::Missing;
 use definitions::Source;
 use definitions::StageTime;
 use lists::segment::segment_at;
@@ -21,13 +21,13 @@ ghost use lib.Ieee.{Float, eq};
 ghost use Rattle.definitions.specs.Lists.{any};
 ghost use Rattle.definitions.specs.Timing.{mapStageToClip};
 ghost use Rattle.laws.specs.list.Places.{Ascending};
-ghost use Rattle.laws.specs.cell.Unpacked.{knotsOf, Ready};
+ghost use Rattle.laws.specs.cell.Lent.{knotsOf, AcceptedLists};
 ghost use Rattle.window.specs.neighbours.Windowed.{Lent, windowSource};
-ghost use Rattle.value.specs.Handed.{WindowIs};
+ghost use Rattle.value.specs.WindowOf.{WindowIs};
 ghost use Rattle.value.specs.ClipTimes.{OnSegment};
 
 // There are samples from `begin` to `end`, and their clip contributes them from this start.
-fn has_samples(blocks: &[f64], m: Manifest, start: f64, begin: usize, end: usize) -> bool
+fn has_samples(blocks: &[f64], m: Missing, start: f64, begin: usize, end: usize) -> bool
     ensures { λ r. ⌜ r ≡ (ltb begin end && not (m .interpolate && any (λ (b : Float). eq b start) (now (blocks .entry)))) ⌝ }
 {
     if begin < end {
@@ -43,14 +43,14 @@ pub fn window_of(
     xs: &[f64],
     ys: &[f64],
     blocks: &[f64],
-    m: Manifest,
+    m: Missing,
     times: &[f64],
     values: &[f64],
     marks: &[u8],
     ends: &[u64],
     p: usize,
 ) -> Window
-    requires { ⌜ Ready (now starts) (now clips) (now xs) (now ys) (now blocks) m (now times) (now values) (now marks) (now ends) ⌝ ∗ ⌜ p < length (now starts) ⌝ }
+    requires { ⌜ AcceptedLists (now starts) (now clips) (now xs) (now ys) (now blocks) m (now times) (now values) (now marks) (now ends) ⌝ ∗ ⌜ p < length (now starts) ⌝ }
     ensures { λ r. ⌜ WindowIs (now (starts .entry)) (now (clips .entry)) (now (xs .entry)) (now (ys .entry)) (now (blocks .entry)) m (now (times .entry)) (now (values .entry)) (now (marks .entry)) (now (ends .entry)) p r ⌝ }
 {
     let start = starts[p];
@@ -70,7 +70,7 @@ pub fn window_of(
             gap: Source::Blocked,
         };
     }
-    let gap = gap_source(
+    let gap = interpolate_missing_value(
         starts,
         clips,
         xs,

@@ -9,7 +9,7 @@ use Rattle.definitions.specs.declared.Knot.{Knot}
 use Rattle.definitions.specs.Lists.{any, pairs, pairsFrom}
 use Rattle.definitions.specs.Explicit.{knot}
 use Rattle.definitions.specs.Value.{jump}
-use Rattle.laws.specs.cell.Unpacked.{knotsOf}
+use Rattle.laws.specs.cell.Lent.{knotsOf}
 
 abbrev pub jumpsAt : Float → Float → Float × Float → Bool
 jumpsAt lower upper p = eq (p .0) (p .1) && lt lower (p .0) && le (p .0) upper

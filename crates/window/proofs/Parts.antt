@@ -6,7 +6,7 @@ use Prim.Native.Nat.{ℕ, suc, _-_, _<_}
 use native.Mathlib.Omega.{arith}
 use lib.ListN.{length, getD}
 use lib.Ieee.{Float, nan, le}
-use Rattle.definitions.specs.declared.Manifest.{Manifest}
+use Rattle.definitions.specs.declared.Missing.{Missing}
 use Rattle.definitions.specs.declared.Start.{Start}
 use Rattle.definitions.specs.Lists.{any}
 use Rattle.definitions.specs.ClipSet.{ClipSet, stage, clip}
@@ -16,7 +16,7 @@ use Rattle.laws.proofs.list.Every.{every-at, zip-at}
 use Rattle.laws.specs.list.Places.{Ascending}
 use Rattle.laws.proofs.set.Sound.{sound-active, sound-knots}
 use Rattle.laws.proofs.set.Accepted.{clip-ascending}
-use Rattle.laws.specs.cell.Unpacked.{start, activeOf, knotsOf, setOf, samplesOf, Ready}
+use Rattle.laws.specs.cell.Lent.{start, activeOf, knotsOf, setOf, samplesOf, AcceptedLists}
 use Rattle.laws.proofs.cell.Unpacked.{zip-length, active-times, knot-times, sound-set}
 use Rattle.window.proofs.Near.{segments}
 use Rattle.window.specs.Parts.{Readable}
@@ -36,7 +36,7 @@ last-short (x ∷ y ∷ l) t h = go (any (λ (z : Float). le z t) (y ∷ l)) (la
 
 -- ---- of lists that are ready
 
-module _ {starts : List Float} {clips : List ℕ} {xs ys blocks : List Float} {m : Manifest} {times values : List Float} {marks ends : List ℕ} (R : Ready starts clips xs ys blocks m times values marks ends) where
+module _ {starts : List Float} {clips : List ℕ} {xs ys blocks : List Float} {m : Missing} {times values : List Float} {marks ends : List ℕ} (R : AcceptedLists starts clips xs ys blocks m times values marks ends) where
   abbrev set : ClipSet
   set = setOf (length ends) starts clips xs ys blocks m
 

@@ -10,13 +10,13 @@ use lib.Dec.{eqb, ltb}
 use lib.ListN.{length, getD, getElem?}
 use lib.Ieee.{Float, nan, inf, eq, lt, le}
 use borrow.Author.Tests.{ltb-true, ltb-false}
-use Rattle.definitions.specs.declared.Manifest.{Manifest}
+use Rattle.definitions.specs.declared.Missing.{Missing}
 use Rattle.definitions.specs.declared.Start.{Start}
 use Rattle.definitions.specs.Lists.{any, keep}
 use Rattle.definitions.specs.ClipSet.{ClipSet, knotTimes}
 use Rattle.definitions.specs.Samples.{Samples, clipTimes}
 use Rattle.definitions.specs.Value.{contains, timeOr, window, startOf, contributes, blockedAt, windowSampleTimes, contributedTimes, gathered}
-use Rattle.laws.specs.cell.Unpacked.{start, activeOf, knotsOf, setOf, samplesOf, Ready}
+use Rattle.laws.specs.cell.Lent.{start, activeOf, knotsOf, setOf, samplesOf, AcceptedLists}
 use Rattle.laws.proofs.cell.Unpacked.{zip-here, zip-length, knot-times}
 use Rattle.window.specs.Parts.{partOf}
 use Rattle.window.specs.Bounds.{inside}
@@ -58,7 +58,7 @@ module _ (starts : List Float) (clips : List ℕ) (e : length starts ≡ length 
 
 -- ---- a window's times, with samples given by their clip times
 
-module _ {starts : List Float} {clips : List ℕ} {xs ys blocks : List Float} {m : Manifest} {times values : List Float} {marks ends : List ℕ} (R : Ready starts clips xs ys blocks m times values marks ends) where
+module _ {starts : List Float} {clips : List ℕ} {xs ys blocks : List Float} {m : Missing} {times values : List Float} {marks ends : List ℕ} (R : AcceptedLists starts clips xs ys blocks m times values marks ends) where
   abbrev set : ClipSet
   set = setOf (length ends) starts clips xs ys blocks m
 

@@ -8,7 +8,7 @@ use Rattle.definitions.specs.Lists.{pairs}
 use Rattle.definitions.specs.Samples.{clipBegin, clipEnd}
 use Rattle.laws.specs.list.Every.{Every}
 use Rattle.laws.specs.list.Places.{Ascending}
-use Rattle.laws.specs.cell.Unpacked.{knotsOf}
+use Rattle.laws.specs.cell.Lent.{knotsOf}
 use Rattle.window.specs.Near.{SoundSegment}
 
 -- ---- a clip's part of the lent times

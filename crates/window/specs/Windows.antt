@@ -9,7 +9,7 @@ use lib.Ieee.{Float, nan, inf}
 use Rattle.gf.specs.declared.interval.Interval.{Interval}
 use Rattle.definitions.specs.Lists.{keep}
 use Rattle.definitions.specs.Value.{window}
-use Rattle.laws.specs.cell.Unpacked.{knotsOf}
+use Rattle.laws.specs.cell.Lent.{knotsOf}
 use Rattle.window.specs.Bounds.{inside}
 use Rattle.window.specs.Inverses.{inversesOf}
 

@@ -7,7 +7,7 @@ ghost use mathlib.Core.Bool.{true, false};
 ghost use Prim.Native.Nat.{ℕ, suc, _≤_, _<_};
 ghost use lib.ListN.{length, getD};
 ghost use lib.Ieee.{nan};
-ghost use Rattle.window.specs.nearest.Turns.{isBeyond, Turn};
+ghost use Rattle.window.specs.nearest.Crossings.{isBeyond, Crossing};
 
 // Whether the sample `c` lies behind the place.
 fn is_beyond(s: Segment, c: f64, t: f64) -> bool
@@ -58,8 +58,8 @@ fn ends_before(cs: &[f64], s: Segment, t: f64, n: usize) -> bool
 }
 
 // The place, by bisection.
-fn search_turn(cs: &[f64], s: Segment, t: f64) -> usize
-    ensures { λ r. ⌜ Turn (isBeyond t (s .a, s .b)) (now (cs .entry)) r ⌝ }
+fn search_crossing(cs: &[f64], s: Segment, t: f64) -> usize
+    ensures { λ r. ⌜ Crossing (isBeyond t (s .a, s .b)) (now (cs .entry)) r ⌝ }
 {
     let mut lo: usize = 0;
     let mut hi = cs.len();
@@ -75,15 +75,15 @@ fn search_turn(cs: &[f64], s: Segment, t: f64) -> usize
 }
 
 // The place, looked for at the hint, behind it and before it: as a segment rises or falls it moves on or back.
-pub fn turn(cs: &[f64], s: Segment, t: f64, hint: usize) -> usize
-    ensures { λ r. ⌜ Turn (isBeyond t (s .a, s .b)) (now (cs .entry)) r ⌝ }
+pub fn crossing(cs: &[f64], s: Segment, t: f64, hint: usize) -> usize
+    ensures { λ r. ⌜ Crossing (isBeyond t (s .a, s .b)) (now (cs .entry)) r ⌝ }
 {
     if !begins_at(cs, s, t, hint) {
         let next = hint + 1;
         if begins_at(cs, s, t, next) {
             return next;
         }
-        return search_turn(cs, s, t);
+        return search_crossing(cs, s, t);
     }
     if ends_before(cs, s, t, hint) {
         return hint;
@@ -96,5 +96,5 @@ pub fn turn(cs: &[f64], s: Segment, t: f64, hint: usize) -> usize
             }
         }
     }
-    search_turn(cs, s, t)
+    search_crossing(cs, s, t)
 }

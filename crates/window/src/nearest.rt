@@ -19,7 +19,7 @@ ghost use Rattle.window.specs.Inverses.{onSegment};
 ghost use Rattle.window.specs.Near.{SoundSegment};
 ghost use Rattle.window.specs.nearest.Nearest.{Searched};
 ghost use Rattle.window.specs.nearest.Beside.{Facing, withPlace};
-ghost use Rattle.window.specs.nearest.Turns.{isBeyond, Turn, sampleAt};
+ghost use Rattle.window.specs.nearest.Crossings.{isBeyond, Crossing, sampleAt};
 
 // The neighbours of `t` with the time at the place `i`, if there is one.
 fn near_place(held: Bounds, xs: &[f64], i: usize, w: Interval, t: f64) -> Bounds
@@ -63,7 +63,7 @@ fn near_sample(held: Bounds, s: Segment, cs: &[f64], i: usize, w: Interval, t: f
 
 // With those of all samples of a segment, where their inverse times pass `t` at the place `n`.
 pub fn near_turn(held: Bounds, s: Segment, cs: &[f64], n: usize, w: Interval, t: f64) -> Bounds
-    requires { ⌜ SoundSegment (s .a, s .b) ⌝ ∗ ⌜ Ascending (now cs) ⌝ ∗ ⌜ Facing w t ⌝ ∗ ⌜ Turn (isBeyond t (s .a, s .b)) (now cs) n ⌝ }
+    requires { ⌜ SoundSegment (s .a, s .b) ⌝ ∗ ⌜ Ascending (now cs) ⌝ ∗ ⌜ Facing w t ⌝ ∗ ⌜ Crossing (isBeyond t (s .a, s .b)) (now cs) n ⌝ }
     ensures { λ r. ⌜ Searched t (keep (inside w) (onSegment (now (cs .entry)) (s .a, s .b))) held r ⌝ }
 {
     if n == 0 {

@@ -1,18 +1,18 @@
 // The neighbours of a time among a window's times, by a search that begins at hints: the starts, the knots beside the time, and the samples whose inverse
 // times pass it in its segment.
 
-pub mod tops;
+pub mod latest;
 
 use crate::Bound;
 use crate::Bounds;
-use crate::crossing::turn;
+use crate::crossing::crossing;
 use crate::nearest::candidate::with_near;
 use crate::nearest::near_times;
 use crate::nearest::near_turn;
 use definitions::Source;
 use gf::interval::Interval;
+use latest::latest_before;
 use lists::segment::segment_at;
-use tops::top_before;
 ghost use mathlib.Core.Path.{_≡_};
 ghost use mathlib.Core.Bool.{true};
 ghost use Prim.Native.Nat.{_+_, _<_};
@@ -20,7 +20,7 @@ ghost use lib.ListN.{length};
 ghost use Rattle.definitions.specs.Timing.{lastAtMost};
 ghost use Rattle.window.specs.Bounds.{nothing, NeighboursAre};
 ghost use Rattle.window.specs.nearest.Nearest.{Searched};
-ghost use Rattle.window.specs.neighbours.Tops.{TopsOf};
+ghost use Rattle.window.specs.neighbours.Latest.{LatestOf};
 ghost use Rattle.window.specs.neighbours.Reaches.{Searchable, PastAll, timesOf, Reached, Around};
 ghost use Rattle.window.specs.neighbours.Windowed.{boundsOf, startsOf, windowTimes, Nearing};
 
@@ -58,7 +58,7 @@ fn near_segment(
     ensures { λ r. ⌜ Searched t (timesOf w (now (xs .entry)) (now (ys .entry)) (now (cs .entry)) j) held (boundsOf r) ⌝ }
 {
     let s = segment_at(xs, ys, j);
-    let n = turn(cs, s, t, sample);
+    let n = crossing(cs, s, t, sample);
     let found = near_turn(held, s, cs, n, w, t);
     let lower = found.lower;
     let upper = found.upper;
@@ -93,14 +93,14 @@ fn near_before(
     t: f64,
     sample: usize,
 ) -> Bounds
-    requires { ⌜ Searchable (now xs) (now ys) (now cs) w t ⌝ ∗ ⌜ TopsOf (now xs) (now ys) (now tops) ⌝ ∗ ⌜ i < length (now xs) ⌝ ∗ ⌜ i ≡ lastAtMost (now xs) t ⌝ }
+    requires { ⌜ Searchable (now xs) (now ys) (now cs) w t ⌝ ∗ ⌜ LatestOf (now xs) (now ys) (now tops) ⌝ ∗ ⌜ i < length (now xs) ⌝ ∗ ⌜ i ≡ lastAtMost (now xs) t ⌝ }
     ensures { λ r. ⌜ Reached t w (now (xs .entry)) (now (ys .entry)) (now (cs .entry)) 0 i held r ⌝ }
 {
     let mut r = held;
     let mut j = i;
     while j > 0 {
         let low = r.lower;
-        if is_past(low, top_before(xs, ys, tops, j)) {
+        if is_past(low, latest_before(xs, ys, tops, j)) {
             return r;
         }
         let before = j - 1;
@@ -128,7 +128,7 @@ fn near_around(
     t: f64,
     sample: usize,
 ) -> Near
-    requires { ⌜ Searchable (now xs) (now ys) (now cs) w t ⌝ ∗ ⌜ TopsOf (now xs) (now ys) (now tops) ⌝ ∗ ⌜ i < length (now xs) ⌝ ∗ ⌜ i ≡ lastAtMost (now xs) t ⌝ }
+    requires { ⌜ Searchable (now xs) (now ys) (now cs) w t ⌝ ∗ ⌜ LatestOf (now xs) (now ys) (now tops) ⌝ ∗ ⌜ i < length (now xs) ⌝ ∗ ⌜ i ≡ lastAtMost (now xs) t ⌝ }
     ensures { λ r. ⌜ Around t w (now (xs .entry)) (now (ys .entry)) (now (cs .entry)) held (boundsOf r) ⌝ }
 {
     let next = i + 1;

@@ -4,7 +4,7 @@ use native.Mathlib.Omega.{arith}
 use lib.ListN.{length}
 use Rattle.gf.proofs.KeyLaws.{finite-no-nan}
 use Rattle.window.proofs.Parts.{ready-readable}
-use Rattle.value.specs.Handed.{WindowIs}
+use Rattle.value.specs.WindowOf.{WindowIs}
 use Rattle.cell.proofs.Lent.{spot-window}
 use Rattle.cell.proofs.Ways.{direct-absent, direct-reads, direct-gap}
 use Rattle.cell.proofs.direct_cell.Statement.{statement}

@@ -1,9 +1,9 @@
 -- `cell::held_from` meets its contract. Assumes nothing.
 use mathlib.Core.Path.{sym, ap, ap₂, _∙_}
 use mathlib.Core.Bool.{Bool, cond}
-use Rattle.laws.specs.cell.Unpacked.{knotsOf}
+use Rattle.laws.specs.cell.Lent.{knotsOf}
 use Rattle.window.specs.declared.Bound.the-variants.{At, Nothing}
-use Rattle.cell.specs.Pieces.{heldOf}
+use Rattle.cell.specs.CellAndEnd.{heldOf}
 use borrow.Author.Needs.{needs}
 use Rattle.cell.proofs.held_from.Statement.{statement}
 use Rattle.cell.proofs.held_from.Tie as tie

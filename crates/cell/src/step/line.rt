@@ -11,7 +11,7 @@ ghost use lib.ListN.{length};
 ghost use Rattle.gf.specs.Key as Key;
 ghost use Rattle.laws.specs.list.Places.{Ascending};
 ghost use Rattle.laws.specs.cell.Knots as Knots;
-ghost use Rattle.laws.specs.cell.Unpacked.{knotsOf};
+ghost use Rattle.laws.specs.cell.Lent.{knotsOf};
 ghost use Rattle.cell.specs.step.Lines.{lineIs, placeOn};
 
 // How stage times lead to clip times in a cell: no knots, below the first or from the last on, or

@@ -22,7 +22,7 @@ use Rattle.laws.specs.cell.Knots.{SoundKnot}
 use Rattle.laws.proofs.cell.Direct.{SoundSet, SoundSamples}
 use Rattle.laws.specs.set.Sound.{Sound, knotValues}
 use Rattle.laws.specs.set.Accepted.{Accepted}
-use Rattle.laws.specs.cell.Unpacked.{activeOf, knotsOf}
+use Rattle.laws.specs.cell.Lent.{activeOf, knotsOf}
 
 -- ---- the lists of starts and knots, by their parts
 

@@ -24,7 +24,7 @@ use Rattle.window.specs.Bounds.{In}
 use Rattle.window.proofs.BoundsLaws.{in-every, every-in}
 use Rattle.window.specs.Inverses.{onSegment}
 use Rattle.window.proofs.Inverses.{every-each}
-use Rattle.window.specs.neighbours.Tops.{segmentOf}
+use Rattle.window.specs.neighbours.Latest.{segmentOf}
 use Rattle.run.proofs.PassagesLaws.{segment-fits}
 use Rattle.run.specs.begin.Begins.{BeforeIs, LastIs}
 

@@ -10,11 +10,11 @@ use Rattle.window.specs.declared.Bound.the-variants as Bounds
 use Rattle.window.specs.Bounds.{In}
 use Rattle.window.specs.Inverses.{onSegment}
 use Rattle.window.specs.declared.neighbours.Window.{Window}
-use Rattle.window.specs.neighbours.Tops.{segmentOf}
+use Rattle.window.specs.neighbours.Latest.{segmentOf}
 use Rattle.window.specs.neighbours.Windowed.{samplesIn}
 use Rattle.value.specs.Passes as Passes
-use Rattle.run.specs.declared.begin.Onset.{Onset}
-use Rattle.run.specs.declared.begin.Onset.the-variants.{At, Nothing}
+use Rattle.run.specs.declared.begin.RunBegin.{RunBegin}
+use Rattle.run.specs.declared.begin.RunBegin.the-variants.{At, Nothing}
 
 -- an inverse time of the segment below a time, if one is said
 abbrev pub BeforeIs : List Float → Knot × Knot → Float → Bound → Type 0
@@ -27,10 +27,10 @@ LastIs xs ys cs i max (Bounds.At h) = In h (onSegment cs (segmentOf xs ys i)) ×
 LastIs xs ys cs i max Bounds.Nothing = Unit {0}
 
 -- no inverse time of the segments before the knot at i is above l
-abbrev pub PastTops : List Float → ℕ → Float → Type 0
-PastTops tops i l = 0 < i → (i - 1 < length tops) × T (le (getD tops (i - 1) nan) l)
+abbrev pub PastLatest : List Float → ℕ → Float → Type 0
+PastLatest tops i l = 0 < i → (i - 1 < length tops) × T (le (getD tops (i - 1) nan) l)
 
 -- the run that begins at t, if one is said
-abbrev pub OnsetIs : List Float → List Float → List Float → List Float → Window → Float → Onset → Type 0
-OnsetIs xs ys tops times w t (At i l h n) = (w .begin < w .end) × Passes.Onset xs ys tops (samplesIn times w) w t i l h
-OnsetIs xs ys tops times w t Nothing = Unit {0}
+abbrev pub RunBeginIs : List Float → List Float → List Float → List Float → Window → Float → RunBegin → Type 0
+RunBeginIs xs ys tops times w t (At i l h n) = (w .begin < w .end) × Passes.Onset xs ys tops (samplesIn times w) w t i l h
+RunBeginIs xs ys tops times w t Nothing = Unit {0}

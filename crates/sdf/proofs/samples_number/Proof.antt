@@ -8,7 +8,7 @@ use lib.ListN.{length}
 use Rattle.definitions.specs.Lists.{any, zipWith}
 use Rattle.definitions.specs.ClipSet.{ClipSet, anyUnstorable}
 use Rattle.definitions.specs.Samples.{unlikeLengths, nanValue, badMarks, closes, samplesNumber}
-use Rattle.laws.specs.cell.Unpacked.{samplesOf}
+use Rattle.laws.specs.cell.Lent.{samplesOf}
 use Rattle.sdf.proofs.Lent.{every-fits, paired}
 use Rattle.sdf.specs.Judged.{Judged}
 use Rattle.sdf.proofs.Numbers.{unlike, other-clips, unstorable, a-nan, a-mark, open-ends, falling, none-applies}

@@ -10,8 +10,8 @@ use Rattle.definitions.specs.Samples.{heldPlace}
 use Rattle.definitions.specs.Value.{marked}
 use Rattle.gf.specs.Doubles.{0·0}
 use Rattle.laws.specs.list.Places.{Ascending}
-use Rattle.sdf.specs.declared.look.Held.{Held}
-use Rattle.sdf.specs.declared.look.Held.the-variants.{At, Nothing}
+use Rattle.sdf.specs.declared.look.HeldPlace.{HeldPlace}
+use Rattle.sdf.specs.declared.look.HeldPlace.the-variants.{At, Nothing}
 
 -- the times from one end to the other, as `clipTimes` has them
 abbrev pub part : List Float → ℕ → ℕ → List Float
@@ -35,7 +35,7 @@ abbrev pub markedAt : List Float → List ℕ → ℕ → Answer
 markedAt values marks at = marked (getD marks at 0) (getD values at 0·0)
 
 -- a held reading of the code: a place and an answer, or none
-abbrev pub heldIs : Held → Option (ℕ × Answer)
+abbrev pub heldIs : HeldPlace → Option (ℕ × Answer)
 heldIs (At i a) = some (i, a)
 heldIs Nothing = none
 

@@ -8,17 +8,17 @@ use Prim.Native.Nat.{_≤_}
 use borrow.Author.Tests.{leb-true, leb-false}
 use borrow.Author.Needs.{needs}
 use Rattle.definitions.specs.StageSamples.{stageSampleTimes}
-use Rattle.laws.specs.cell.Unpacked.{setOf, samplesOf}
+use Rattle.laws.specs.cell.Lent.{setOf, samplesOf}
 use Rattle.window.proofs.Parts.{ready-readable}
 use Rattle.stage.proofs.Around.{ready-few}
 use Rattle.stage.proofs.stage_sample_times.Statement.{statement}
 use Rattle.stage.proofs.stage_sample_times.Tie as tie
 
-abbrev entry : tie.After-tops-of → tie.Start
+abbrev entry : tie.After-latest-inverses → tie.Start
 entry k = k .before .before .before .before .before .before .before .before .before .before .before
 
-tops-of-requires : tie.Need-tops-of-requires
-tops-of-requires c κs =
+latest-inverses-requires : tie.Need-latest-inverses-requires
+latest-inverses-requires c κs =
     let R = c .before .before .before .before .before .before .before .before .before .before .pre in
     (R .knots-paired, (ready-few R, ready-readable R .segments))
 
@@ -29,7 +29,7 @@ fits-requires c κs = search needs
 abbrev all : tie.Start → List Float
 all s = stageSampleTimes (setOf (length (now (s .args .ends))) (now (s .args .starts)) (now (s .args .clips)) (now (s .args .xs)) (now (s .args .ys)) (now (s .args .blocks)) (s .args .m)) (samplesOf (now (s .args .times)) (now (s .args .values)) (now (s .args .marks)) (now (s .args .ends)))
 
-abbrev reach : tie.Then1 → tie.After-tops-of
+abbrev reach : tie.Then1 → tie.After-latest-inverses
 reach c = c .before .before .before .before .before
 
 -- there is room for them
@@ -39,7 +39,7 @@ room c = leb-true (length (all (entry (reach c)))) (length (now (entry (reach c)
 write-times-requires : tie.Need-write-times-requires
 write-times-requires c κs =
     let k = c .before .before .before .before in
-    (entry (reach k) .pre, (reach k .tops-of .ensures, room k))
+    (entry (reach k) .pre, (reach k .latest-inverses .ensures, room k))
 
 same-length : tie.Need-same-length
 same-length c = search needs
@@ -55,4 +55,4 @@ returns-2 c = let k = c .before in (leb-false _ _ (sym (k .fits2 .ensures) ∙ c
 pub stage-sample-times-spec : {M : Type 1} → statement M
 stage-sample-times-spec =
     tie.close
-    (tie.spec tops-of-requires fits-requires write-times-requires same-length returns returns-2)
+    (tie.spec latest-inverses-requires fits-requires write-times-requires same-length returns returns-2)

@@ -13,7 +13,7 @@ use borrow.Author.Tests.{leb-true, leb-false}
 use Rattle.definitions.specs.ClipSet.{ClipSet}
 use Rattle.definitions.specs.Samples.{Samples}
 use Rattle.definitions.specs.StageSamples.{stageSampleTimes}
-use Rattle.laws.specs.cell.Unpacked.{setOf, samplesOf}
+use Rattle.laws.specs.cell.Lent.{setOf, samplesOf}
 use Rattle.window.proofs.Parts.{ready-readable}
 use Rattle.stage.proofs.Around.{ready-few}
 use Rattle.stage.proofs.Writing.{length-written}
@@ -51,8 +51,8 @@ times-room c = let s = entry (asked c) in le-trans (room c) (min-le-left (length
 marks-room : (c : tie.Then1) → let s = entry (asked c) in length (all s) ≤ length (now (s .args .outmarks))
 marks-room c = let s = entry (asked c) in le-trans (room c) (min-le-right (length (now (s .args .outtimes))) (length (now (s .args .outmarks))))
 
-tops-of-requires : tie.Need-tops-of-requires
-tops-of-requires c κs =
+latest-inverses-requires : tie.Need-latest-inverses-requires
+latest-inverses-requires c κs =
     let R = c .before .before .before .before .before .before .before .before .before .before .before .pre in
     (R .knots-paired, (ready-few R, ready-readable R .segments))
 
@@ -65,7 +65,7 @@ fits-requires c κs = search needs
 write-times-requires : tie.Need-write-times-requires
 write-times-requires c κs =
     let k = c .before .before .before .before in
-    (entry (asked k) .pre, (asked k .before .tops-of .ensures, times-room k))
+    (entry (asked k) .pre, (asked k .before .latest-inverses .ensures, times-room k))
 
 -- the times as they were written
 abbrev then : tie.After-write-times → tie.Then1
@@ -114,7 +114,7 @@ pub stage-samples-spec : {M : Type 1} → statement M
 stage-samples-spec =
     tie.close
     (tie.spec
-    tops-of-requires
+    latest-inverses-requires
     shorter-requires
     fits-requires
     write-times-requires

@@ -8,7 +8,7 @@ use lib.Ieee.{Float}
 use Rattle.definitions.specs.Samples.{clipBegin, clipEnd}
 use Rattle.cell.specs.declared.step.line.Line.{Line}
 use Rattle.cell.specs.step.Lines.{placeOn}
-use Rattle.run.specs.Readings.{Turns, Reads}
+use Rattle.run.specs.Readings.{LeftOnce, Reads}
 use Rattle.track.specs.span.Runs.{part, Run}
 
 -- what is cut out from b to e
@@ -33,8 +33,8 @@ module _ (times values : List Float) (marks ends : List ℕ) (c b e : ℕ) (p : 
     pub cut-reads : Reads (cut times b e) (cut values b e) (cut marks b e)
     cut-reads = recut Reads (R .reads)
 
-    pub cut-turns : Turns (placeOn (cut times b e) line) k hi
-    cut-turns = recut (λ (ts vs : List Float) (ms : List ℕ). Turns (placeOn ts line) k hi) (R .turns)
+    pub cut-turns : LeftOnce (placeOn (cut times b e) line) k hi
+    cut-turns = recut (λ (ts vs : List Float) (ms : List ℕ). LeftOnce (placeOn ts line) k hi) (R .turns)
 
     pub cut-inside : (b ≤ e) × (e ≤ length times) × (e ≤ length values) × (e ≤ length marks)
     cut-inside =

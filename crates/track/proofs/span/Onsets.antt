@@ -14,7 +14,7 @@ use borrow.Author.Tests.{ltb-true, ltb-false, lt-ltb}
 use Rattle.gf.specs.Doubles.{0·0}
 use Rattle.gf.specs.Key.{key, ofKey, least, most}
 use Rattle.gf.proofs.KeyLaws.{ofKey-fits, ofKey-no-nan, ofKey-finite, key-ofKey, le→key, lt→key, key→le, key→lt, finite→key, key→finite, finite-no-nan, le-no-nan, lt→le, lt-not-le}
-use Rattle.definitions.specs.declared.Manifest.{Manifest}
+use Rattle.definitions.specs.declared.Missing.{Missing}
 use Rattle.definitions.specs.declared.Source.{Source}
 use Rattle.definitions.specs.declared.Source.the-variants.{Sample as sample}
 use Rattle.definitions.specs.Lists.{any}
@@ -35,7 +35,7 @@ use Rattle.laws.proofs.cell.Keys.{sourceAtKey}
 use Rattle.laws.specs.cell.Knots as Knots
 use Rattle.laws.proofs.cell.Window.{gathered-fit}
 use Rattle.laws.proofs.cell.Zeros.{zero-direct}
-use Rattle.laws.specs.cell.Unpacked.{Ready, setOf, samplesOf, knotsOf}
+use Rattle.laws.specs.cell.Lent.{AcceptedLists, setOf, samplesOf, knotsOf}
 use Rattle.window.specs.declared.Bound.the-variants.{At, Nothing}
 use Rattle.window.specs.Bounds.{NeighboursAre}
 use Rattle.window.specs.Near.{SoundSegment}
@@ -46,20 +46,20 @@ use Rattle.window.proofs.nearest.Beside.{finite-number}
 use Rattle.cell.specs.declared.step.line.Line.{Line}
 use Rattle.cell.specs.step.Lines.{lineIs, placeOn}
 use Rattle.window.specs.declared.neighbours.Window.{Window}
-use Rattle.window.specs.neighbours.Tops.{segmentOf}
+use Rattle.window.specs.neighbours.Latest.{segmentOf}
 use Rattle.window.proofs.neighbours.TopsLaws.{segment-here}
 use Rattle.window.specs.neighbours.Windowed.{samplesIn, windowTimes, windowSource}
 use Rattle.run.specs.Readings.{Reads, readingAt}
-use Rattle.run.specs.Passages.{lineOn, passedBy, passingAt, Passing}
+use Rattle.run.specs.Runs.{lineOn, passedBy, passingAt, Passing}
 use Rattle.run.proofs.PassagesLaws.{passing-lower}
 use Rattle.value.specs.ClipTimes.{OnSegment}
 use Rattle.value.proofs.ClipTimes.{on-segment}
-use Rattle.value.specs.Handed.{WindowIs}
+use Rattle.value.specs.WindowOf.{WindowIs}
 use Rattle.value.proofs.Handed.{window-gathered}
 use Rattle.value.specs.Passes.{Onset}
 use Rattle.value.proofs.Passes.{HeldAt, nh, knot-low, run-held, run-first}
 use Rattle.cell.specs.declared.Cell.the-variants.{Constant}
-use Rattle.cell.specs.Pieces.{heldOf, PieceIs}
+use Rattle.cell.specs.CellAndEnd.{heldOf, CellAndEndIs}
 use Rattle.cell.proofs.Lent.{sound, samples}
 use Rattle.cell.proofs.Ways.{piece-constant}
 use Rattle.track.specs.span.Runs.{part}
@@ -75,7 +75,7 @@ place-short ts line k h = last-short ts (Knots.along (lineIs line) (ofKey k)) h
 
 -- ---- a window
 
-module _ {starts : List Float} {clips : List ℕ} {xs ys blocks : List Float} {m : Manifest} {times values : List Float} {marks ends : List ℕ} (R : Ready starts clips xs ys blocks m times values marks ends) (p : ℕ) (w : Window)
+module _ {starts : List Float} {clips : List ℕ} {xs ys blocks : List Float} {m : Missing} {times values : List Float} {marks ends : List ℕ} (R : AcceptedLists starts clips xs ys blocks m times values marks ends) (p : ℕ) (w : Window)
     (W : WindowIs starts clips xs ys blocks m times values marks ends p w) where
   abbrev set : ClipSet
   set = setOf (length ends) starts clips xs ys blocks m
@@ -253,7 +253,7 @@ module _ {starts : List Float} {clips : List ℕ} {xs ys blocks : List Float} {m
             is-held : heldOf (knotsOf xs ys) (At (H .m)) (At (H .n)) ≡ At (H .m)
             is-held = ap (λ (x : Bool). cond x Nothing (At (H .m))) (H .level)
 
-            piece : PieceIs set s (ofKey j) (Constant (directSource set s (stage (H .m)))) (At (H .n))
+            piece : CellAndEndIs set s (ofKey j) (Constant (directSource set s (stage (H .m)))) (At (H .n))
             piece = piece-constant R (ofKey j) finite-j many p at (record { lower = At (H .m); upper = At (H .n) }) around (H .m) (directSource set s (stage (H .m))) is-held refl
 
             short-end : j ≤ min j (key (H .n) - 1)

@@ -14,7 +14,7 @@ use lib.Ieee.{Float, nan, inf, eq, lt, le, isNan, fits}
 use borrow.Author.Tests.{ltb-true, lt-ltb}
 use Rattle.gf.specs.Key.{key, ofKey}
 use Rattle.gf.proofs.KeyLaws.{key-ofKey, ofKey-fits, ofKey-finite, ofKey-mono, le-trans, le-lt-trans, lt→le, le-no-nan, finite-no-nan}
-use Rattle.definitions.specs.declared.Manifest.{Manifest}
+use Rattle.definitions.specs.declared.Missing.{Missing}
 use Rattle.definitions.specs.declared.Source.the-variants.{Sample as sample}
 use Rattle.definitions.specs.Lists.{any, keep}
 use Rattle.definitions.specs.Doubles.{FiniteDouble}
@@ -34,7 +34,7 @@ use Rattle.laws.proofs.cell.Window.{inf-below}
 use Rattle.laws.specs.cell.Knots as Knots
 use Rattle.laws.specs.cell.Neighbours.{IsLower}
 use Rattle.laws.specs.cell.Keys.{Keys}
-use Rattle.laws.specs.cell.Unpacked.{knotsOf, setOf, samplesOf, Ready}
+use Rattle.laws.specs.cell.Lent.{knotsOf, setOf, samplesOf, AcceptedLists}
 use Rattle.window.specs.declared.Bound.{Bound}
 use Rattle.window.specs.declared.Bound.the-variants.{At, Nothing}
 use Rattle.window.specs.declared.Bounds.{Bounds}
@@ -54,12 +54,12 @@ use Rattle.window.specs.declared.neighbours.Window.{Window}
 use Rattle.window.proofs.neighbours.TopsLaws.{no-tops}
 use Rattle.window.specs.neighbours.Windowed.{intervalOf, samplesIn, nextOf, startsOf, windowTimes, windowSource, Nearing}
 use Rattle.window.proofs.neighbours.Windowed.{near-faces, near-plain}
-use Rattle.value.specs.Handed.{WindowIs}
+use Rattle.value.specs.WindowOf.{WindowIs}
 use Rattle.value.proofs.Handed.{window-lent, window-nears}
 use Rattle.value.specs.Values.{heldAt}
 use Rattle.value.proofs.Values.{value-in}
 use Rattle.cell.specs.declared.Cell.the-variants.{Constant, Reading}
-use Rattle.cell.specs.Pieces.{Sampled}
+use Rattle.cell.specs.CellAndEnd.{Sampled}
 use Rattle.track.specs.span.Runs.{part, readOn}
 use Rattle.track.specs.span.Plains.{plainCell}
 use Rattle.track.proofs.span.Spans.{TurnsOn, Told}
@@ -102,7 +102,7 @@ empty (x ∷ l) q = absurd (omega arith)
 
 -- ---- the value in the window
 
-module _ {starts : List Float} {clips : List ℕ} {xs ys blocks : List Float} {m : Manifest} {times values : List Float} {marks ends : List ℕ} (R : Ready starts clips xs ys blocks m times values marks ends) (none : length xs ≡ 0) (several : 1 < length starts) (p : ℕ) (w : Window) (W : WindowIs starts clips xs ys blocks m times values marks ends p w) where
+module _ {starts : List Float} {clips : List ℕ} {xs ys blocks : List Float} {m : Missing} {times values : List Float} {marks ends : List ℕ} (R : AcceptedLists starts clips xs ys blocks m times values marks ends) (none : length xs ≡ 0) (several : 1 < length starts) (p : ℕ) (w : Window) (W : WindowIs starts clips xs ys blocks m times values marks ends p w) where
   abbrev set : ClipSet
   set = setOf (length ends) starts clips xs ys blocks m
 

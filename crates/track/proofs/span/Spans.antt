@@ -13,7 +13,7 @@ use Rattle.gf.specs.Doubles.{0·0}
 use Rattle.gf.specs.Key.{ofKey}
 use Rattle.gf.proofs.KeyLaws.{ofKey-fits, ofKey-mono}
 use Rattle.gf.proofs.LerpLaws.{Inside}
-use Rattle.definitions.specs.declared.Manifest.{Manifest}
+use Rattle.definitions.specs.declared.Missing.{Missing}
 use Rattle.definitions.specs.declared.Source.{Source}
 use Rattle.definitions.specs.ClipSet.{ClipSet, stage}
 use Rattle.definitions.specs.Samples.{Samples, clipBegin, clipEnd, clipTimes}
@@ -30,21 +30,21 @@ use Rattle.laws.specs.cell.Cells as Cells
 use Rattle.laws.proofs.cell.Cells as Cells-laws
 use Rattle.laws.specs.cell.Keys.{Keys, entryAtKey}
 use Rattle.laws.proofs.cell.Keys.{NonePassed, cellPlaceAt, sourceAtKey, cell-source}
-use Rattle.laws.specs.cell.Unpacked.{Ready, setOf, samplesOf}
+use Rattle.laws.specs.cell.Lent.{AcceptedLists, setOf, samplesOf}
 use Rattle.window.proofs.Parts.{ready-readable, last-short}
 use Rattle.window.specs.declared.Bound.{Bound}
 use Rattle.cell.specs.declared.step.line.Line.{Line}
 use Rattle.cell.specs.step.Lines.{lineIs, placeOn}
-use Rattle.run.specs.Readings.{Turns, readingAt}
-use Rattle.value.specs.Says.{saysIn, Sayable}
+use Rattle.run.specs.Readings.{LeftOnce, readingAt}
+use Rattle.value.specs.Answers.{answerIn, Answerable}
 use Rattle.value.proofs.Says.{says-ready, value-in}
 use Rattle.cell.specs.declared.Cell.{Cell}
 use Rattle.cell.specs.declared.Cell.the-variants.{Constant, Reading}
-use Rattle.cell.specs.Pieces.{cellIs, Sampled, PieceIs}
+use Rattle.cell.specs.CellAndEnd.{cellIs, Sampled, CellAndEndIs}
 use Rattle.cell.specs.EndKeys.{endKey}
 use Rattle.cell.proofs.Lent.{sound, samples}
 use Rattle.cell.proofs.LastKeys.{hi-keys, hi-clear, same-place}
-use Rattle.track.specs.span.Runs.{part, Run, Runs, readOn, saysOn}
+use Rattle.track.specs.span.Runs.{part, Run, Runs, readOn, entryOn}
 
 -- ---- the place that a cell reads turns one way
 
@@ -58,13 +58,13 @@ module _ (set : ClipSet) (s : Samples) (S : SoundSet set) (A : SoundSamples s) (
   stretch : Stretch set s (ofKey lo) (ofKey hi)
   stretch = record { ft = ofKey-fits lo; fu = ofKey-fits hi; order = ordered lo hi (le-of-eq refl) (K .order) (le-of-eq refl); clear = clear }
 
-  cell-turning : Turns (cellPlaceAt set s lo) lo hi
+  cell-turning : LeftOnce (cellPlaceAt set s lo) lo hi
   cell-turning = elim (Cells-laws.cell-turns set s S A (ofKey lo) (ofKey hi) stretch) [
     | inl r ↦ inl (λ j k a b d. r (ofKey j) (ofKey k) (inside j a (omega arith)) (inside k (omega arith) d) (ordered j k a b d))
     | inr r ↦ inr (λ j k a b d. r (ofKey j) (ofKey k) (inside j a (omega arith)) (inside k (omega arith) d) (ordered j k a b d))
   ]
 
-turns-by : (f g : ℕ → ℕ) → ((k : ℕ) → f k ≡ g k) → (lo hi : ℕ) → Turns f lo hi → Turns g lo hi
+turns-by : (f g : ℕ → ℕ) → ((k : ℕ) → f k ≡ g k) → (lo hi : ℕ) → LeftOnce f lo hi → LeftOnce g lo hi
 turns-by f g e lo hi t = elim t [
   | inl r ↦ inl (λ j k a b d. let x = r j k a b d in let y = e j in let z = e k in omega arith)
   | inr r ↦ inr (λ j k a b d. let x = r j k a b d in let y = e j in let z = e k in omega arith)
@@ -84,7 +84,7 @@ module _ {A : Type 0} (l : List A) (ends : List ℕ) (c : ℕ) where
 -- the place that a reading takes turns one way
 abbrev pub TurnsOn : List Float → List ℕ → Cell → ℕ → ℕ → Type 0
 TurnsOn times ends (Constant r) k hi = Unit {0}
-TurnsOn times ends (Reading c line) k hi = Turns (placeOn (part times ends c) line) k hi
+TurnsOn times ends (Reading c line) k hi = LeftOnce (placeOn (part times ends c) line) k hi
 
 pub record Told (set : ClipSet) (s : Samples) (k hi : ℕ) (cell : Cell) : Type 0 where
   pub keys : Keys k hi
@@ -92,21 +92,21 @@ pub record Told (set : ClipSet) (s : Samples) (k hi : ℕ) (cell : Cell) : Type 
   pub clip : Sampled set s cell
   pub turns : TurnsOn (s .times) (s .ends) cell k hi
 
-module _ {starts : List Float} {clips : List ℕ} {xs ys blocks : List Float} {m : Manifest} {times values : List Float} {marks ends : List ℕ} (R : Ready starts clips xs ys blocks m times values marks ends) (k hi : ℕ) (cell : Cell) (D : Told (setOf (length ends) starts clips xs ys blocks m) (samplesOf times values marks ends) k hi cell) where
+module _ {starts : List Float} {clips : List ℕ} {xs ys blocks : List Float} {m : Missing} {times values : List Float} {marks ends : List ℕ} (R : AcceptedLists starts clips xs ys blocks m times values marks ends) (k hi : ℕ) (cell : Cell) (D : Told (setOf (length ends) starts clips xs ys blocks m) (samplesOf times values marks ends) k hi cell) where
   abbrev lent : ClipSet
   lent = setOf (length ends) starts clips xs ys blocks m
 
   abbrev held : Samples
   held = samplesOf times values marks ends
 
-  pub told-sayable : Sayable (length values) ends (readOn times ends cell k)
-  told-sayable = subst (Sayable (length values) ends) (D .reads k (le-of-eq refl) (D .keys .order)) (value-in R (stage (ofKey k)))
+  pub told-sayable : Answerable (length values) ends (readOn times ends cell k)
+  told-sayable = subst (Answerable (length values) ends) (D .reads k (le-of-eq refl) (D .keys .order)) (value-in R (stage (ofKey k)))
 
   entry-on : (j : ℕ) → k ≤ j → j ≤ hi → entryAtKey lent held j ≡ entryOf (says lent held (readOn times ends cell j))
   unfolding valueInSet
   entry-on j a b = ap (λ (r : Source). entryOf (says lent held r)) (D .reads j a b)
 
-  pub told-here : entryOf (saysIn m values marks ends (readOn times ends cell k)) ≡ entryAtKey (setOf (length ends) starts clips xs ys blocks m) (samplesOf times values marks ends) k
+  pub told-here : entryOf (answerIn m values marks ends (readOn times ends cell k)) ≡ entryAtKey (setOf (length ends) starts clips xs ys blocks m) (samplesOf times values marks ends) k
   told-here = ap entryOf (says-ready R (readOn times ends cell k)) ∙ sym (entry-on k (le-of-eq refl) (D .keys .order))
 
   -- ---- where a clip is read
@@ -116,7 +116,7 @@ module _ {starts : List Float} {clips : List ℕ} {xs ys blocks : List Float} {m
     unfolding setOf clipTimes
     sampled = subst (Sampled lent held) q (D .clip)
 
-    turning : Turns (placeOn (part times ends c) line) k hi
+    turning : LeftOnce (placeOn (part times ends c) line) k hi
     turning = subst (λ (d : Cell). TurnsOn times ends d k hi) q (D .turns)
 
     abbrev b : ℕ
@@ -177,23 +177,23 @@ module _ {starts : List Float} {clips : List ℕ} {xs ys blocks : List Float} {m
       go (Reading c line) q = run c line q
 
   pub told-says : (here : Entry) → here ≡ entryAtKey (setOf (length ends) starts clips xs ys blocks m) (samplesOf times values marks ends) k
-      → Agree k hi (entryAtKey (setOf (length ends) starts clips xs ys blocks m) (samplesOf times values marks ends)) (saysOn times values marks ends cell here)
+      → Agree k hi (entryAtKey (setOf (length ends) starts clips xs ys blocks m) (samplesOf times values marks ends)) (entryOn times values marks ends cell here)
   told-says here p = go cell refl
     where
-      go : (c : Cell) → cell ≡ c → Agree k hi (entryAtKey lent held) (saysOn times values marks ends c here)
+      go : (c : Cell) → cell ≡ c → Agree k hi (entryAtKey lent held) (entryOn times values marks ends c here)
       go (Constant r) q j x y = constant-says r q j x y ∙ sym p
       go (Reading c line) q j x y = reading-says c line q j x y
 
 -- ---- the stretch of a piece
 
-module _ {starts : List Float} {clips : List ℕ} {xs ys blocks : List Float} {m : Manifest} {times values : List Float} {marks ends : List ℕ} (R : Ready starts clips xs ys blocks m times values marks ends) (k top : ℕ) (K : Keys k top) where
+module _ {starts : List Float} {clips : List ℕ} {xs ys blocks : List Float} {m : Missing} {times values : List Float} {marks ends : List ℕ} (R : AcceptedLists starts clips xs ys blocks m times values marks ends) (k top : ℕ) (K : Keys k top) where
   abbrev set : ClipSet
   set = setOf (length ends) starts clips xs ys blocks m
 
   abbrev s : Samples
   s = samplesOf times values marks ends
 
-  module _ (cell : Cell) (e : Bound) (P : PieceIs (setOf (length ends) starts clips xs ys blocks m) (samplesOf times values marks ends) (ofKey k) cell e) where
+  module _ (cell : Cell) (e : Bound) (P : CellAndEndIs (setOf (length ends) starts clips xs ys blocks m) (samplesOf times values marks ends) (ofKey k) cell e) where
     abbrev hi : ℕ
     hi = min top (endKey e - 1)
 
@@ -228,15 +228,15 @@ module _ {starts : List Float} {clips : List ℕ} {xs ys blocks : List Float} {m
     told : Told set s k hi cell
     told = record { keys = span-keys; reads = source-on; clip = P .clip; turns = turns-on }
 
-    pub span-sayable : Sayable (length values) ends (readOn times ends cell k)
+    pub span-sayable : Answerable (length values) ends (readOn times ends cell k)
     span-sayable = told-sayable R k hi cell told
 
-    pub span-here : entryOf (saysIn m values marks ends (readOn times ends cell k)) ≡ entryAtKey (setOf (length ends) starts clips xs ys blocks m) (samplesOf times values marks ends) k
+    pub span-here : entryOf (answerIn m values marks ends (readOn times ends cell k)) ≡ entryAtKey (setOf (length ends) starts clips xs ys blocks m) (samplesOf times values marks ends) k
     span-here = told-here R k hi cell told
 
     pub span-runs : Runs times values marks ends cell k (min top (endKey e - 1))
     span-runs = told-runs R k hi cell told
 
     pub span-says : (here : Entry) → here ≡ entryAtKey (setOf (length ends) starts clips xs ys blocks m) (samplesOf times values marks ends) k
-        → Agree k (min top (endKey e - 1)) (entryAtKey (setOf (length ends) starts clips xs ys blocks m) (samplesOf times values marks ends)) (saysOn times values marks ends cell here)
+        → Agree k (min top (endKey e - 1)) (entryAtKey (setOf (length ends) starts clips xs ys blocks m) (samplesOf times values marks ends)) (entryOn times values marks ends cell here)
     span-says = told-says R k hi cell told

@@ -4,7 +4,7 @@ use mathlib.Core.List.{List}
 use Prim.Native.Nat.{ℕ, _-_, _≤_, _<_}
 use lib.ListN.{length, take, drop}
 use lib.Ieee.{Float}
-use Rattle.definitions.specs.declared.Manifest.{Manifest}
+use Rattle.definitions.specs.declared.Missing.{Missing}
 use Rattle.definitions.specs.declared.Source.{Source}
 use Rattle.definitions.specs.declared.Source.the-variants.{Sample}
 use Rattle.definitions.specs.declared.Knot.{Knot}
@@ -13,18 +13,18 @@ use Rattle.definitions.specs.Samples.{Samples, clipBegin, clipEnd}
 use Rattle.definitions.specs.Track.{Entry}
 use Rattle.laws.specs.track.Laws.{Agree}
 use Rattle.laws.specs.cell.Keys.{Keys, entryAtKey}
-use Rattle.laws.specs.cell.Unpacked.{setOf, samplesOf}
+use Rattle.laws.specs.cell.Lent.{setOf, samplesOf}
 use Rattle.cell.specs.declared.step.line.Line.{Line}
 use Rattle.cell.specs.step.Lines.{placeOn}
 use Rattle.cell.specs.step.Entries.{entryIs}
-use Rattle.run.specs.Readings.{Turns, Reads, readingAt}
-use Rattle.run.specs.Passages.{passingAt, Passing}
+use Rattle.run.specs.Readings.{LeftOnce, Reads, readingAt}
+use Rattle.run.specs.Runs.{passingAt, Passing}
 use Rattle.cell.specs.declared.Cell.{Cell}
 use Rattle.cell.specs.declared.Cell.the-variants.{Constant, Reading}
-use Rattle.cell.specs.Spots.{SpotIs}
-use Rattle.track.specs.declared.span.Way.{Way}
-use Rattle.track.specs.declared.span.Way.the-variants.{Within, Past}
-use Rattle.track.specs.declared.span.Stretch.{Stretch}
+use Rattle.cell.specs.WindowPlaces.{PlaceIs}
+use Rattle.track.specs.declared.span.ReadBy.{ReadBy}
+use Rattle.track.specs.declared.span.ReadBy.the-variants.{ByCell, ByRun}
+use Rattle.track.specs.declared.span.Span.{Span}
 use Rattle.track.specs.declared.span.Step.{Step}
 
 -- a clip's part of a lent list
@@ -39,7 +39,7 @@ pub record Run (times values : List Float) (marks ends : List ℕ) (c : ℕ) (li
   pub valued : length values ≡ length times
   pub flagged : length marks ≡ length times
   pub reads : Reads (part times ends c) (part values ends c) (part marks ends c)
-  pub turns : Turns (placeOn (part times ends c) line) k hi
+  pub turns : LeftOnce (placeOn (part times ends c) line) k hi
 
 abbrev pub Runs : List Float → List Float → List ℕ → List ℕ → Cell → ℕ → ℕ → Type 0
 Runs times values marks ends (Constant r) k hi = Unit {0}
@@ -51,9 +51,9 @@ readOn times ends (Constant r) k = r
 readOn times ends (Reading c line) k = Sample c (placeOn (part times ends c) line k)
 
 -- what the cell says at the key j: everywhere what it says at its beginning, or what the clip's samples say along the line
-abbrev pub saysOn : List Float → List Float → List ℕ → List ℕ → Cell → Entry → ℕ → Entry
-saysOn times values marks ends (Constant r) here j = here
-saysOn times values marks ends (Reading c line) here j = readingAt (part times ends c) (part values ends c) (part marks ends c) line j
+abbrev pub entryOn : List Float → List Float → List ℕ → List ℕ → Cell → Entry → ℕ → Entry
+entryOn times values marks ends (Constant r) here j = here
+entryOn times values marks ends (Reading c line) here j = readingAt (part times ends c) (part values ends c) (part marks ends c) line j
 
 -- ---- with a run of samples
 
@@ -66,24 +66,24 @@ pub record PastRun (times values : List Float) (marks ends : List ℕ) (c : ℕ)
   pub flagged : length marks ≡ length times
   pub passing : Passing (part times ends c) (part values ends c) (part marks ends c) q floor e k hi
 
-abbrev pub Goes : List Float → List Float → List ℕ → List ℕ → Way → Entry → ℕ → ℕ → Type 0
-Goes times values marks ends (Within c) here k hi = Runs times values marks ends c k hi
-Goes times values marks ends (Past c floor g n) here k hi = PastRun times values marks ends c (g .a, g .b) floor here k hi
+abbrev pub SpanIs : List Float → List Float → List ℕ → List ℕ → ReadBy → Entry → ℕ → ℕ → Type 0
+SpanIs times values marks ends (ByCell c) here k hi = Runs times values marks ends c k hi
+SpanIs times values marks ends (ByRun c floor g n) here k hi = PastRun times values marks ends c (g .a, g .b) floor here k hi
 
 -- what is said at the key j: what the cell says, or what the sample says whose inverse time was passed last
-abbrev pub saysBy : List Float → List Float → List ℕ → List ℕ → Way → Entry → ℕ → Entry
-saysBy times values marks ends (Within c) here j = saysOn times values marks ends c here j
-saysBy times values marks ends (Past c floor g n) here j = passingAt (part times ends c) (part values ends c) (part marks ends c) (g .a, g .b) floor j
+abbrev pub entryBy : List Float → List Float → List ℕ → List ℕ → ReadBy → Entry → ℕ → Entry
+entryBy times values marks ends (ByCell c) here j = entryOn times values marks ends c here j
+entryBy times values marks ends (ByRun c floor g n) here j = passingAt (part times ends c) (part values ends c) (part marks ends c) (g .a, g .b) floor j
 
 -- the stretch from k on, up to top: the value there is what its way says
-pub record StretchIs (set : ClipSet) (s : Samples) (k top : ℕ) (r : Stretch) : Type 0 where
+pub record StretchIs (set : ClipSet) (s : Samples) (k top : ℕ) (r : Span) : Type 0 where
   pub keys : Keys k (r .hi)
   pub within : r .hi ≤ top
   pub here : entryIs (r .here) ≡ entryAtKey set s k
-  pub runs : Goes (s .times) (s .values) (s .marks) (s .ends) (r .way) (entryIs (r .here)) k (r .hi)
-  pub says : Agree k (r .hi) (entryAtKey set s) (saysBy (s .times) (s .values) (s .marks) (s .ends) (r .way) (entryIs (r .here)))
+  pub runs : SpanIs (s .times) (s .values) (s .marks) (s .ends) (r .way) (entryIs (r .here)) k (r .hi)
+  pub says : Agree k (r .hi) (entryAtKey set s) (entryBy (s .times) (s .values) (s .marks) (s .ends) (r .way) (entryIs (r .here)))
 
 -- the stretch, and the spot of the walk
-pub record StepIs (starts : List Float) (clips : List ℕ) (xs ys blocks : List Float) (m : Manifest) (times values : List Float) (marks ends : List ℕ) (k top : ℕ) (r : Step) : Type 0 where
+pub record StepIs (starts : List Float) (clips : List ℕ) (xs ys blocks : List Float) (m : Missing) (times values : List Float) (marks ends : List ℕ) (k top : ℕ) (r : Step) : Type 0 where
   pub stretch : StretchIs (setOf (length ends) starts clips xs ys blocks m) (samplesOf times values marks ends) k top (r .stretch)
-  pub spot : SpotIs starts clips xs ys blocks m times values marks ends (r .spot .p) (r .spot .w)
+  pub spot : PlaceIs starts clips xs ys blocks m times values marks ends (r .spot .p) (r .spot .w)

@@ -1,17 +1,17 @@
 // The changes of one stretch, written while there is room.
-use crate::span::Stretch;
-use crate::span::Way;
+use crate::span::ReadBy;
+use crate::span::Span;
 use cell::Cell;
 use cell::step::entry::Entry;
 use run::fill_changes;
-use run::passing::fill_passed;
+use run::passing::fill_run;
 use run::walk::Went;
 use sdf::part::clip_begin;
 use sdf::part::clip_end;
 ghost use Rattle.laws.specs.cell.Keys.{Keys};
 ghost use Rattle.cell.specs.step.Entries.{entryIs};
 ghost use Rattle.run.specs.Walks.{outputs, Room, Walked};
-ghost use Rattle.track.specs.span.Runs.{Runs, Goes, saysOn, saysBy};
+ghost use Rattle.track.specs.span.Runs.{Runs, SpanIs, entryOn, entryBy};
 
 // Writes the changes above the key k and up to hi in a cell that says `here` at k, from slot n on.
 fn fill_cell(
@@ -32,7 +32,7 @@ fn fill_cell(
     requires { ⌜ Keys k hi ⌝ }
     requires { ⌜ Runs (now times) (now values) (now marks) (now ends) cell k hi ⌝ }
     requires { ⌜ Room room n (outputs (now outtimes) (now outvalues) (now outmarks)) ⌝ }
-    ensures { λ r. ⌜ Walked (saysOn (now (times .entry)) (now (values .entry)) (now (marks .entry)) (now (ends .entry)) cell (entryIs here)) k hi room n (outputs (now (outtimes .entry)) (now (outvalues .entry)) (now (outmarks .entry))) (outputs (now (outtimes .exit)) (now (outvalues .exit)) (now (outmarks .exit))) r ⌝ }
+    ensures { λ r. ⌜ Walked (entryOn (now (times .entry)) (now (values .entry)) (now (marks .entry)) (now (ends .entry)) cell (entryIs here)) k hi room n (outputs (now (outtimes .entry)) (now (outvalues .entry)) (now (outmarks .entry))) (outputs (now (outtimes .exit)) (now (outvalues .exit)) (now (outmarks .exit))) r ⌝ }
 {
     let Cell::Reading(clip, line) = cell else {
         return Went {
@@ -65,7 +65,7 @@ pub fn fill_in(
     values: &[f64],
     marks: &[u8],
     ends: &[u64],
-    s: Stretch,
+    s: Span,
     k: u64,
     room: usize,
     n: usize,
@@ -74,15 +74,15 @@ pub fn fill_in(
     outmarks: &mut [u8],
 ) -> Went
     requires { ⌜ Keys k (s .hi) ⌝ }
-    requires { ⌜ Goes (now times) (now values) (now marks) (now ends) (s .way) (entryIs (s .here)) k (s .hi) ⌝ }
+    requires { ⌜ SpanIs (now times) (now values) (now marks) (now ends) (s .way) (entryIs (s .here)) k (s .hi) ⌝ }
     requires { ⌜ Room room n (outputs (now outtimes) (now outvalues) (now outmarks)) ⌝ }
-    ensures { λ r. ⌜ Walked (saysBy (now (times .entry)) (now (values .entry)) (now (marks .entry)) (now (ends .entry)) (s .way) (entryIs (s .here))) k (s .hi) room n (outputs (now (outtimes .entry)) (now (outvalues .entry)) (now (outmarks .entry))) (outputs (now (outtimes .exit)) (now (outvalues .exit)) (now (outmarks .exit))) r ⌝ }
+    ensures { λ r. ⌜ Walked (entryBy (now (times .entry)) (now (values .entry)) (now (marks .entry)) (now (ends .entry)) (s .way) (entryIs (s .here))) k (s .hi) room n (outputs (now (outtimes .entry)) (now (outvalues .entry)) (now (outmarks .entry))) (outputs (now (outtimes .exit)) (now (outvalues .exit)) (now (outmarks .exit))) r ⌝ }
 {
     let way = s.way;
     let here = s.here;
     let hi = s.hi;
     match way {
-        Way::Within(cell) => fill_cell(
+        ReadBy::ByCell(cell) => fill_cell(
             times,
             values,
             marks,
@@ -97,10 +97,10 @@ pub fn fill_in(
             outvalues,
             outmarks,
         ),
-        Way::Past(clip, floor, segment, near) => {
+        ReadBy::ByRun(clip, floor, segment, near) => {
             let a = clip_begin(ends, clip);
             let b = clip_end(ends, clip);
-            fill_passed(
+            fill_run(
                 &times[a..b],
                 &values[a..b],
                 &marks[a..b],

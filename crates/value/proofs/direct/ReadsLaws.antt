@@ -8,7 +8,7 @@ use native.Mathlib.Omega.{arith}
 use lib.ListN.{length, getD, take, drop}
 use lib.Seq.{take-suc}
 use lib.Ieee.{Float, nan, eq}
-use Rattle.definitions.specs.declared.Manifest.{Manifest}
+use Rattle.definitions.specs.declared.Missing.{Missing}
 use Rattle.definitions.specs.declared.Start.{Start}
 use Rattle.definitions.specs.declared.StageTime.{StageTime}
 use Rattle.definitions.specs.declared.Answer.{Answer}
@@ -19,7 +19,7 @@ use Rattle.definitions.specs.ClipSet.{ClipSet, stage}
 use Rattle.definitions.specs.Timing.{lastAtMost, mapStageToClip}
 use Rattle.definitions.specs.Samples.{Samples, clipBegin, clipEnd, clipTimes, heldPlace}
 use Rattle.definitions.specs.Value.{blockedAt, sampleOf, readClip, firstReading}
-use Rattle.laws.specs.cell.Unpacked.{start, activeOf, knotsOf, setOf, samplesOf, Ready}
+use Rattle.laws.specs.cell.Lent.{start, activeOf, knotsOf, setOf, samplesOf, AcceptedLists}
 use Rattle.lists.proofs.Fronts.{front, no-front}
 use Rattle.window.specs.Parts.{partOf, Readable}
 use Rattle.window.proofs.Parts.{ready-active, ready-start}
@@ -97,7 +97,7 @@ module _ (set : ClipSet) (s : Samples) where
 
 -- ---- of lists that are ready
 
-module _ {starts : List Float} {clips : List ℕ} {xs ys blocks : List Float} {m : Manifest} {times values : List Float} {marks ends : List ℕ} (R : Ready starts clips xs ys blocks m times values marks ends) where
+module _ {starts : List Float} {clips : List ℕ} {xs ys blocks : List Float} {m : Missing} {times values : List Float} {marks ends : List ℕ} (R : AcceptedLists starts clips xs ys blocks m times values marks ends) where
   abbrev set : ClipSet
   set = setOf (length ends) starts clips xs ys blocks m
 

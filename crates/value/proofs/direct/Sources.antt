@@ -14,11 +14,11 @@ use Rattle.definitions.specs.declared.Source.{Source}
 use Rattle.definitions.specs.declared.Source.the-variants.{Default as default, Blocked as blocked, Absent as absent}
 use Rattle.definitions.specs.Lists.{any}
 use Rattle.definitions.specs.ClipSet.{ClipSet, stage}
-use Rattle.definitions.specs.declared.Manifest.{Manifest}
+use Rattle.definitions.specs.declared.Missing.{Missing}
 use Rattle.definitions.specs.Timing.{lastAtMost, activePosition}
 use Rattle.definitions.specs.Samples.{Samples, clipTimes}
 use Rattle.definitions.specs.Value.{_orElse_, blockedAt, contributes, readClip, firstReading, interpolateMissingValue, sourceAt, directSource}
-use Rattle.laws.specs.cell.Unpacked.{start, activeOf, setOf, samplesOf, Ready}
+use Rattle.laws.specs.cell.Lent.{start, activeOf, setOf, samplesOf, AcceptedLists}
 use Rattle.laws.proofs.cell.Unpacked.{zip-here}
 use Rattle.window.proofs.Parts.{ready-active, ready-position}
 use Rattle.value.proofs.direct.ReadsLaws.{readPart}
@@ -79,7 +79,7 @@ module _ (set : ClipSet) (s : Samples) (t : Float) where
 
 -- ---- of lists that are ready
 
-module _ {starts : List Float} {clips : List ℕ} {xs ys blocks : List Float} {m : Manifest} {times values : List Float} {marks ends : List ℕ} (R : Ready starts clips xs ys blocks m times values marks ends) where
+module _ {starts : List Float} {clips : List ℕ} {xs ys blocks : List Float} {m : Missing} {times values : List Float} {marks ends : List ℕ} (R : AcceptedLists starts clips xs ys blocks m times values marks ends) where
   abbrev ready : ClipSet
   ready = setOf (length ends) starts clips xs ys blocks m
 

@@ -13,7 +13,7 @@ use Rattle.definitions.specs.ClipSet.{ClipSet, stage}
 use Rattle.definitions.specs.Timing.{mapStageToClip}
 use Rattle.definitions.specs.Samples.{Samples, clipBegin, clipEnd}
 use Rattle.definitions.specs.Value.{blockedAt, readClip}
-use Rattle.laws.specs.cell.Unpacked.{start, knotsOf}
+use Rattle.laws.specs.cell.Lent.{start, knotsOf}
 use Rattle.sdf.specs.look.Reads.{heldReading}
 use Rattle.value.specs.declared.direct.Reading.{Reading}
 use Rattle.value.specs.declared.direct.Reading.the-variants.{Of, Nothing}

@@ -34,11 +34,11 @@ use Rattle.window.specs.nearest.Nearest.{Met, Searched, withInside}
 use Rattle.window.proofs.nearest.Nearest.{searched-none, searched-inside}
 use Rattle.window.specs.nearest.Beside.{Facing}
 use Rattle.window.proofs.nearest.Beside.{meet-below, meet-above, number-at, climb}
-use Rattle.window.specs.nearest.Turns.{isBeyond, Turn, sampleAt}
+use Rattle.window.specs.nearest.Crossings.{isBeyond, Crossing, sampleAt}
 
 -- ---- where the inverse times pass t
 
-pub turn-next : (p : Float → Bool) (cs : List Float) (n : ℕ) → n < length cs → p (getD cs n nan) ≡ false → (n + 1 < length cs → p (getD cs (n + 1) nan) ≡ true) → Turn p cs (n + 1)
+pub turn-next : (p : Float → Bool) (cs : List Float) (n : ℕ) → n < length cs → p (getD cs n nan) ≡ false → (n + 1 < length cs → p (getD cs (n + 1) nan) ≡ true) → Crossing p cs (n + 1)
 turn-next p cs n l e h = record {
   upto = omega arith;
   before = λ i q. let z : n ≡ i = omega arith in subst (λ (j : ℕ). p (getD cs j nan) ≡ false) z e;
@@ -155,7 +155,7 @@ module _ (t : Float) (nt : Number t) (q : Knot × Knot) (s : SoundSegment q) whe
 
   -- ---- the two samples at the turn stand for all
 
-  module _ (w : Interval) (F : Facing w t) (cs : List Float) (a : Ascending cs) (n : ℕ) (U : Turn (isBeyond t q) cs n) (r : Bounds) where
+  module _ (w : Interval) (F : Facing w t) (cs : List Float) (a : Ascending cs) (n : ℕ) (U : Crossing (isBeyond t q) cs n) (r : Bounds) where
     -- what is known of the sample d, where the segment spans it
     abbrev Known : Float → Type 0
     Known d = T (spans (q .0 .y) (q .1 .y) d) → T (inside w (f d)) → Met t r (f d)
@@ -286,7 +286,7 @@ module _ (P : Float → Type 0) (p : Float → Bool) (cs : List Float) (q : Knot
       let b : Every P (keep p (inverse (q .0) (q .1) (getD cs i nan) ∷ [])) = subst (λ (b : Bool). Every P (keep p (cond b (inverse (q .0) (q .1) (getD cs i nan) ∷ []) []))) (is-true (spans (q .0 .y) (q .1 .y) (getD cs i nan)) s) a in
       every-kept P p (inverse (q .0) (q .1) (getD cs i nan) ∷ []) b .0 u
 
-module _ (t : Float) (w : Interval) (F : Facing w t) (q : Knot × Knot) (s : SoundSegment q) (cs : List Float) (a : Ascending cs) (n : ℕ) (U : Turn (isBeyond t q) cs n) {h m r : Bounds} where
+module _ (t : Float) (w : Interval) (F : Facing w t) (q : Knot × Knot) (s : SoundSegment q) (cs : List Float) (a : Ascending cs) (n : ℕ) (U : Crossing (isBeyond t q) cs n) {h m r : Bounds} where
   pub turn-searched : Searched t (keep (inside w) (sampleBefore cs q n)) h m → Searched t (keep (inside w) (sampleAt cs q n)) m r → Searched t (keep (inside w) (onSegment cs q)) h r
   turn-searched A B = record {
     run = λ nt g N i e.

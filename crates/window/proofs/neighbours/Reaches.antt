@@ -25,7 +25,7 @@ use Rattle.laws.specs.list.Places.{Ascending}
 use Rattle.laws.proofs.set.Stored.{length-pairs, pairs-at}
 use Rattle.laws.proofs.cell.Every.{every-by, every-kept, every-map, every-append, every-left, every-right}
 use Rattle.laws.specs.cell.Ends.{Number}
-use Rattle.laws.specs.cell.Unpacked.{knotsOf}
+use Rattle.laws.specs.cell.Lent.{knotsOf}
 use Rattle.window.specs.declared.Bound.{Bound}
 use Rattle.window.specs.declared.Bound.the-variants.{At, Nothing}
 use Rattle.window.specs.declared.Bounds.{Bounds}
@@ -38,7 +38,7 @@ use Rattle.window.proofs.Near.{inverse-fits, range}
 use Rattle.window.specs.nearest.Nearest.{LowerMet, UpperMet, Met, LowerIn, Searched}
 use Rattle.window.specs.nearest.Beside.{Facing}
 use Rattle.window.proofs.nearest.Beside.{meet-above, number-at, climb, next-above}
-use Rattle.window.specs.neighbours.Tops.{segmentOf, ReachOf}
+use Rattle.window.specs.neighbours.Latest.{segmentOf, ReachOf}
 use Rattle.window.proofs.neighbours.TopsLaws.{segment-here}
 use Rattle.window.specs.neighbours.Reaches.{PastAll, timesOf, Reached, Around}
 

@@ -23,14 +23,14 @@ use Rattle.laws.proofs.list.Tests.{holds}
 use Rattle.laws.specs.list.Every.{Every}
 use Rattle.laws.proofs.cell.Every.{both, both-l, or-l, or-r, or-split}
 use Rattle.laws.specs.cell.Ends.{Number}
-use Rattle.laws.specs.cell.Unpacked.{knotsOf}
+use Rattle.laws.specs.cell.Lent.{knotsOf}
 use Rattle.lists.specs.Segments.{knotAt}
 use Rattle.window.proofs.Inverses.{knots-long, knots-at}
 use Rattle.window.specs.Near.{SoundSegment}
 use Rattle.window.proofs.Near.{segment-at, topOf, inverse-fits, range}
-use Rattle.window.specs.neighbours.Tops.{segmentOf, ReachOf, TopsOf, NewTop}
+use Rattle.window.specs.neighbours.Latest.{segmentOf, ReachOf, LatestOf, NewTop}
 
-pub no-tops : (xs ys tops : List Float) → length tops ≡ 0 → TopsOf xs ys tops
+pub no-tops : (xs ys tops : List Float) → length tops ≡ 0 → LatestOf xs ys tops
 no-tops xs ys tops e = record { above = λ k h. absurd (omega arith) }
 
 -- of sound knots each is a segment
@@ -134,5 +134,5 @@ module _ (xs ys : List Float) where
     ];
   }
 
-  pub tops-all : (items : List Float) (top : Float) (i : ℕ) → length xs ≤ i + 1 → TopsTo items top i → TopsOf xs ys items
+  pub tops-all : (items : List Float) (top : Float) (i : ℕ) → length xs ≤ i + 1 → TopsTo items top i → LatestOf xs ys items
   tops-all items top i h A = record { above = λ k b d. A .above k (omega arith) }

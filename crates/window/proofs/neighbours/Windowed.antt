@@ -14,7 +14,7 @@ use Rattle.laws.specs.list.Places.{Ascending}
 use Rattle.laws.proofs.cell.Every.{every-map, every-append, every-left, every-right, every-keep}
 use Rattle.laws.specs.cell.Ends.{Number}
 use Rattle.laws.specs.cell.Places.{Fits}
-use Rattle.laws.specs.cell.Unpacked.{knotsOf}
+use Rattle.laws.specs.cell.Lent.{knotsOf}
 use Rattle.window.specs.declared.Bounds.{Bounds}
 use Rattle.window.specs.Bounds.{inside, nothing, NeighboursAre}
 use Rattle.window.specs.Inverses.{inversesOf}

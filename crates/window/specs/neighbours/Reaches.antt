@@ -13,7 +13,7 @@ use Rattle.definitions.specs.Value.{inverse}
 use Rattle.laws.specs.list.Every.{Every}
 use Rattle.laws.specs.list.Places.{Ascending}
 use Rattle.laws.specs.cell.Ends.{Number}
-use Rattle.laws.specs.cell.Unpacked.{knotsOf}
+use Rattle.laws.specs.cell.Lent.{knotsOf}
 use Rattle.window.specs.declared.Bound.{Bound}
 use Rattle.window.specs.declared.Bound.the-variants.{At, Nothing}
 use Rattle.window.specs.declared.Bounds.{Bounds}
@@ -22,7 +22,7 @@ use Rattle.window.specs.Inverses.{onSegment, inversesOf}
 use Rattle.window.specs.Near.{SoundSegment}
 use Rattle.window.specs.nearest.Nearest.{Met, Sided, Nearer}
 use Rattle.window.specs.nearest.Beside.{Facing}
-use Rattle.window.specs.neighbours.Tops.{segmentOf}
+use Rattle.window.specs.neighbours.Latest.{segmentOf}
 
 -- ---- what a search among knots and samples asks
 

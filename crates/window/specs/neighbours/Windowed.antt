@@ -14,14 +14,14 @@ use Rattle.definitions.specs.Doubles.{FiniteDouble}
 use Rattle.definitions.specs.Timing.{lastAtMost, mapTime}
 use Rattle.laws.specs.list.Every.{Every}
 use Rattle.laws.specs.list.Places.{Ascending}
-use Rattle.laws.specs.cell.Unpacked.{knotsOf}
+use Rattle.laws.specs.cell.Lent.{knotsOf}
 use Rattle.window.specs.declared.Bounds.{Bounds}
 use Rattle.window.specs.Bounds.{inside}
 use Rattle.window.specs.Inverses.{inversesOf}
 use Rattle.window.specs.Near.{SoundSegment}
 use Rattle.window.specs.declared.neighbours.Window.{Window}
 use Rattle.window.specs.declared.neighbours.Near.{Near}
-use Rattle.window.specs.neighbours.Tops.{TopsOf}
+use Rattle.window.specs.neighbours.Latest.{LatestOf}
 
 -- ---- the window's times
 
@@ -63,7 +63,7 @@ pub record Nearing (xs ys tops cs : List Float) (w : Window) (t : Float) : Type 
   pub knots : Ascending xs
   pub paired : length xs ≡ length ys
   pub segments : Every SoundSegment (pairs (knotsOf xs ys))
-  pub reach : TopsOf xs ys tops
+  pub reach : LatestOf xs ys tops
   pub samples : Ascending cs
   pub time : FiniteDouble t
   pub start : FiniteDouble (w .start)

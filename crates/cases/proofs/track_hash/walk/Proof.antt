@@ -17,19 +17,19 @@ Inv-loop starts clips xs ys blocks m times values marks ends tops at₀ count₀
 abbrev μ-loop : tie.MeasureT-loop
 μ-loop starts clips xs ys blocks m times values marks ends tops at₀ count₀ hash₀ at count hash = Key.most - at .key
 
-tops-of-requires : tie.Need-tops-of-requires Inv-loop μ-loop
-tops-of-requires c κs = let a = c .before .before .before .before .before .before .before .before .before in (a .pre .0 .knots-paired, (few-knots (a .pre .0), ready-readable (a .pre .0) .segments))
+latest-inverses-requires : tie.Need-latest-inverses-requires Inv-loop μ-loop
+latest-inverses-requires c κs = let a = c .before .before .before .before .before .before .before .before .before in (a .pre .0 .knots-paired, (few-knots (a .pre .0), ready-readable (a .pre .0) .segments))
 
-no-spot-requires : tie.Need-no-spot-requires Inv-loop μ-loop
-no-spot-requires c κs = search needs
+no-place-requires : tie.Need-no-place-requires Inv-loop μ-loop
+no-place-requires c κs = search needs
 
 loop-holds : tie.Need-loop-holds Inv-loop μ-loop
 loop-holds c =
     let a = c .before .before .before .before .before .before .before .before .before .before .before in
-    record { keys = record { low = lit≤ tt; order = lit≤ tt; high = lit≤ tt }; last = a .pre .1; spot = no-spot-is (a .pre .0) (c .no-spot .result .p) (c .no-spot .result .w) (c .no-spot .ensures) }
+    record { keys = record { low = lit≤ tt; order = lit≤ tt; high = lit≤ tt }; last = a .pre .1; spot = no-spot-is (a .pre .0) (c .no-place .result .p) (c .no-place .result .w) (c .no-place .ensures) }
 
 walk-page-requires : tie.Need-walk-page-requires Inv-loop μ-loop
-walk-page-requires c κs = let b = c .before .before .before in (b .before .before .before .before .before .before .before .before .before .before .before .before .pre .0, (b .before .before .tops-of .ensures, b .loop .inv))
+walk-page-requires c κs = let b = c .before .before .before in (b .before .before .before .before .before .before .before .before .before .before .before .before .pre .0, (b .before .before .latest-inverses .ensures, b .loop .inv))
 
 wrapping-add-u64-requires : tie.Need-wrapping-add-u64-requires Inv-loop μ-loop
 wrapping-add-u64-requires c κs = search needs
@@ -53,8 +53,8 @@ walk-spec =
     (tie.spec
     Inv-loop
     μ-loop
-    tops-of-requires
-    no-spot-requires
+    latest-inverses-requires
+    no-place-requires
     loop-holds
     walk-page-requires
     wrapping-add-u64-requires

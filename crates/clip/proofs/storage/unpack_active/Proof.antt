@@ -8,7 +8,7 @@ use lib.Ieee.{nan}
 use denote.Ref.{now}
 use Rattle.definitions.specs.declared.Start.{Start}
 use Rattle.definitions.specs.ClipSet.{activeTimes}
-use Rattle.laws.specs.cell.Unpacked.{start}
+use Rattle.laws.specs.cell.Lent.{start}
 use Rattle.clip.specs.Holding.{activeIn, activeClips}
 use Rattle.lists.proofs.Filled.{Filled, fill-start, fill-next, fill-whole}
 use Rattle.clip.proofs.Packing.{unpacked-length, unpacked-at}

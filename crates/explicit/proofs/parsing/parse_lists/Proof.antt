@@ -6,7 +6,7 @@ use denote.Ref.{now}
 use Rattle.definitions.specs.ClipSet as Definitions
 use Rattle.definitions.specs.Explicit.{ExplicitFields}
 use Rattle.laws.proofs.set.SoundExplicit.{ExplicitLimits}
-use Rattle.clip.specs.Settling.{Settles}
+use Rattle.clip.specs.Storing.{Stores}
 use Rattle.explicit.specs.Parsing.{explicitFields}
 use Rattle.explicit.proofs.Acceptance.{fields-fit, fields-clips, explicit-is}
 use Rattle.explicit.proofs.parsing.parse_lists.Statement.{statement}
@@ -30,8 +30,8 @@ copy-requires-2 c κs = search needs
 copy-requires-3 : tie.Need-copy-requires-3
 copy-requires-3 c κs = let s = c .before .before .before .before .before .before .before .before .before .before .before .before .before .before .before .before .before .before .before .before .before .before in s .pre .1 .for-ys ∙ limits s .knots-paired
 
-sort-and-settle-requires : tie.Need-sort-and-settle-requires
-sort-and-settle-requires c κs =
+sort-check-and-store-requires : tie.Need-sort-check-and-store-requires
+sort-check-and-store-requires c κs =
     let s = c .before .before .before .before .before .before .before .before .before .before .before .before .before .before .before .before .before .before .before .before .before .before .before .before .before .before .before .before .before in
     let t = c .before .before .before .before .before .before .before .before .before .before .before .before .before .before .before .before .before .before .copy .kept .1 .0 ∙ s .pre .1 .for-times in
     let i = c .before .before .before .before .before .before .before .before .before .before .before .before .before .before .copy-clips .kept .1 .1 .0 ∙ s .pre .1 .for-indices in
@@ -41,10 +41,10 @@ sort-and-settle-requires c κs =
     record { starts = t ∙ sym i; knots = x ∙ sym y; few-starts = omega arith; few-knots = omega arith; few-blocks = l .blocks }
 
 same-length : tie.Need-same-length
-same-length c = c .before .before .before .before .before .before .before .before .sort-and-settle .kept .1 .0 ∙ c .before .before .before .before .before .before .before .before .before .before .before .before .before .before .before .before .before .before .before .before .before .before .before .before .before .before .before .copy .kept .1 .0
+same-length c = c .before .before .before .before .before .before .before .before .sort-check-and-store .kept .1 .0 ∙ c .before .before .before .before .before .before .before .before .before .before .before .before .before .before .before .before .before .before .before .before .before .before .before .before .before .before .before .copy .kept .1 .0
 
 same-length-2 : tie.Need-same-length-2
-same-length-2 c = c .before .before .before .before .before .before .before .before .sort-and-settle .kept .1 .1 .0 ∙ c .before .before .before .before .before .before .before .before .before .before .before .before .before .before .before .before .before .before .before .before .before .before .before .copy-clips .kept .1 .1 .0
+same-length-2 c = c .before .before .before .before .before .before .before .before .sort-check-and-store .kept .1 .1 .0 ∙ c .before .before .before .before .before .before .before .before .before .before .before .before .before .before .before .before .before .before .before .before .before .before .before .copy-clips .kept .1 .1 .0
 
 same-length-3 : tie.Need-same-length-3
 same-length-3 c = search needs
@@ -60,8 +60,8 @@ returns c =
     let i = c .before .before .before .before .before .before .before .before .before .before .before .before .before .before .before .before .before .before .before .before .before .before .before .copy-clips in
     let x = c .before .before .before .before .before .before .before .before .before .before .before .before .before .before .before .before .before .before .before .copy2 in
     let y = c .before .before .before .before .before .before .before .before .before .before .before .before .before .before .before .copy3 in
-    let r = c .before .before .before .before .before .before .before .before .sort-and-settle in
-    subst (λ (set : Definitions.ClipSet). Settles set (r .result))
+    let r = c .before .before .before .before .before .before .before .before .sort-check-and-store in
+    subst (λ (set : Definitions.ClipSet). Stores set (r .result))
     (explicit-is (a .clips) (now (a .starts)) (t .last .1 .0) (now (a .numbers)) (i .last .1 .1 .0) (now (a .xs)) (x .last .1 .0) (now (a .ys)) (y .last .1 .0) (now (a .blocks)) (a .manifest) (t .ensures) (i .ensures) (x .ensures) (y .ensures))
     (r .ensures)
 
@@ -73,7 +73,7 @@ parse-lists-spec =
     copy-clips-requires
     copy-requires-2
     copy-requires-3
-    sort-and-settle-requires
+    sort-check-and-store-requires
     same-length
     same-length-2
     same-length-3

@@ -4,7 +4,7 @@ use borrow.Author.Needs.{needs}
 use borrow.Author.Tests.{not-true, not-false}
 use Rattle.definitions.specs.Timing.{activeClip}
 use Rattle.definitions.specs.Questions.{askActiveClip}
-use Rattle.laws.specs.cell.Unpacked.{setOf}
+use Rattle.laws.specs.cell.Lent.{setOf}
 use Rattle.resolver.proofs.Laws.{asked-20, asked, not-finite, is-finite, starts-ascend, clip-told, none-told}
 use Rattle.resolver.proofs.Resolver.active_clip.Statement.{statement}
 use Rattle.resolver.proofs.Resolver.active_clip.Tie as tie

@@ -5,7 +5,7 @@ use borrow.Author.Tests.{not-true, not-false}
 use denote.Ref.{now}
 use Rattle.definitions.specs.Samples.{Samples}
 use Rattle.definitions.specs.Track.{Outputs}
-use Rattle.laws.specs.cell.Unpacked.{samplesOf}
+use Rattle.laws.specs.cell.Lent.{samplesOf}
 use Rattle.track.specs.Bakes.{outputs}
 use Rattle.resolver.proofs.Laws.{judged-number, bakes-20, bakes-refused, bakes-set, bakes-reply, reply-refused, is-asked}
 use Rattle.resolver.proofs.Resolver.bake.Statement.{statement}

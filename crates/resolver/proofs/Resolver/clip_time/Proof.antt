@@ -3,7 +3,7 @@ use mathlib.Core.Path.{sym, ap, _∙_}
 use borrow.Author.Needs.{needs}
 use borrow.Author.Tests.{not-true, not-false}
 use Rattle.definitions.specs.Questions.{askClipTime, replied}
-use Rattle.laws.specs.cell.Unpacked.{setOf}
+use Rattle.laws.specs.cell.Lent.{setOf}
 use Rattle.resolver.proofs.Laws.{asked-20, asked, not-finite, is-finite, knots-ascend}
 use Rattle.resolver.proofs.Resolver.clip_time.Statement.{statement}
 use Rattle.resolver.proofs.Resolver.clip_time.Tie as tie

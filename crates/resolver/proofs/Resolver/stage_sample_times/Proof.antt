@@ -8,7 +8,7 @@ use Rattle.definitions.specs.ClipSet.{ClipSet}
 use Rattle.definitions.specs.Samples.{Samples}
 use Rattle.definitions.specs.StageSamples.{stageSampleTimes}
 use Rattle.definitions.specs.Questions.{askStageSampleTimes, roomNumber}
-use Rattle.laws.specs.cell.Unpacked.{samplesOf}
+use Rattle.laws.specs.cell.Lent.{samplesOf}
 use Rattle.resolver.proofs.Laws.{asked-20, judged-number, samples-refused, samples-passed, times-refused, times-replied, lent-is, is-asked}
 use Rattle.resolver.proofs.Resolver.stage_sample_times.Statement.{statement}
 use Rattle.resolver.proofs.Resolver.stage_sample_times.Tie as tie

@@ -9,7 +9,7 @@ use Rattle.definitions.specs.ClipSet.{ClipSet}
 use Rattle.definitions.specs.Samples.{Samples}
 use Rattle.definitions.specs.StageSamples.{stageSamples}
 use Rattle.definitions.specs.Questions.{askStageSamples, roomNumber}
-use Rattle.laws.specs.cell.Unpacked.{samplesOf}
+use Rattle.laws.specs.cell.Lent.{samplesOf}
 use Rattle.resolver.proofs.Laws.{asked-20, judged-number, samples-refused, samples-passed, list-refused, list-replied, lent-is, is-asked}
 use Rattle.resolver.proofs.Resolver.stage_samples.Statement.{statement}
 use Rattle.resolver.proofs.Resolver.stage_samples.Tie as tie

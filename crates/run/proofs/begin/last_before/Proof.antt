@@ -26,8 +26,8 @@ sub-of-key c = search needs
 of-key-requires : tie.Need-of-key-requires
 of-key-requires c κs = search needs
 
-turn-requires : tie.Need-turn-requires
-turn-requires c κs = search needs
+crossing-requires : tie.Need-crossing-requires
+crossing-requires c κs = search needs
 
 place-passed-requires : tie.Need-place-passed-requires
 place-passed-requires c κs = search needs
@@ -72,7 +72,7 @@ last-before-spec =
     returns-2
     sub-of-key
     of-key-requires
-    turn-requires
+    crossing-requires
     place-passed-requires
     mul-c
     shared-slice-read-c

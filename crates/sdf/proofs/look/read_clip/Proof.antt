@@ -43,11 +43,11 @@ use Rattle.definitions.proofs.ClipTime as Clip
 use Rattle.definitions.proofs.ClipTime.Laws as Clip′
 use Rattle.sdf.specs.look.Reads.{Readable, heldIs, heldReading}
 use Rattle.sdf.specs.declared.look.Look.{Look}
-use Rattle.sdf.specs.declared.look.Held.{Held}
+use Rattle.sdf.specs.declared.look.HeldPlace.{HeldPlace}
 use Rattle.sdf.proofs.look.Looks.{B, timesAt, valuesAt, marksAt, fields, Own, Lent, unfolded}
 use Rattle.sdf.proofs.look.Made.{Over, Tokens, to-over, goes-over, over-said, local}
-use Rattle.sdf.proofs.look.Held as S
-use Rattle.sdf.proofs.look.Held.Laws as S′
+use Rattle.sdf.proofs.look.HeldPlace as S
+use Rattle.sdf.proofs.look.HeldPlace.Laws as S′
 use Rattle.sdf.proofs.look.over as over
 use Rattle.sdf.proofs.look.over.Symbol as over-def
 use Rattle.sdf.proofs.look.over.Symbol.{name as #sdf·look·over}
@@ -117,10 +117,10 @@ module _ {M : Type 1} (𝓤 : URA M) (H : Heap 𝓤) (A : Atoms 𝓤) (W : Given
       qed W (‵ (B κs .own r (u ∷ [])) ∷ Alive ∷ []) ∵ says ! (subst (λ (x : Look). Readable (now (x .times)) (now (x .values)) (now (x .marks)) (x .begin) (x .end)) (sym e) ok) $
       nothing ! $ owned ! Clip.the-row (Is Clip.the-row) (LL.makes Clip.the-type Clip′.the-plain 𝓤 H A) t _ t-is $ fjoin ! $ move ! (1 ∷ 0 ∷ []) $ fjoin ! $ move ! (1 ∷ 0 ∷ []) $ frame ! $ done !
 
-  read-said : (r : Look) (h : Held) → ent 𝓤 (ensured 𝓤 H A read.ended (read.clauses 𝓤 H A mem run) κs (r, (t, tt)) tt h) (fact 𝓤 (heldIs h ≡ foundBy r t))
+  read-said : (r : Look) (h : HeldPlace) → ent 𝓤 (ensured 𝓤 H A read.ended (read.clauses 𝓤 H A mem run) κs (r, (t, tt)) tt h) (fact 𝓤 (heldIs h ≡ foundBy r t))
   read-said r h = exE 𝓤 _ (λ ws. snd∗ 𝓤 (sem 𝓤 H A (lasts read.ended κs (r, (t, tt)) ws)) (fact 𝓤 (heldIs h ≡ foundBy r t)))
 
-  exits : (h : Held) (u : Val) → heldIs h ≡ foundBy d t → ent 𝓤 (⋆ 𝓤 H A (‵ (S.the-row .own h (u ∷ [])) ∷ Alive ∷ ‵ (Own κs d) ∷ [])) (Post u)
+  exits : (h : HeldPlace) (u : Val) → heldIs h ≡ foundBy d t → ent 𝓤 (⋆ 𝓤 H A (‵ (S.the-row .own h (u ∷ [])) ∷ Alive ∷ ‵ (Own κs d) ∷ [])) (Post u)
   exits h u e =
       qed W (‵ (S.the-row .own h (u ∷ [])) ∷ Alive ∷ ‵ (Own κs d) ∷ []) ∵
       suffices ! _ (ends-at 𝓤 H A read-clip.ended stayed (read-clip.clauses 𝓤 H A mem run) W ((κs, (q, (q′, (q″, tt))), tt, a, at), tt) u h (tt, (tt, (tt, (tt, (tt, (tt, tt)))))) (tt, (tt, (tt, (tt, (tt, (tt, tt))))))) $ says ! e $
@@ -149,7 +149,7 @@ module _ {M : Type 1} (𝓤 : URA M) (H : Heap 𝓤) (A : Atoms 𝓤) (W : Given
         land ! (from ! (stop !)) (init ! 3 refl (local 𝓤 H A W mem run κ κ′ κ″ q q′ q″ d r u is)) $
         use2 W (raw (Read 𝓤 H A mem run .pre (to-read r u))) (goes-read r u e) $
         calls-at ! fm (Read 𝓤 H A mem run) known-read (to-read r u) (and-then ! (load ! (from ! (stop !)) (look ! 2 refl)) (and-then ! (load ! (from ! (stop !)) (look ! 4 refl)) (no-more !))) (λ u′.
-        use1 W (later (some (λ (h : Held). (Alive ⊛ ‵ (S.the-row .own h (u′ ∷ []))) ⊛ raw (ensured 𝓤 H A read.ended (read.clauses 𝓤 H A mem run) κs (r, (t, tt)) tt h)))) (id⊢ 𝓤 _) $ await ! tt $ pick ! (λ h.
+        use1 W (later (some (λ (h : HeldPlace). (Alive ⊛ ‵ (S.the-row .own h (u′ ∷ []))) ⊛ raw (ensured 𝓤 H A read.ended (read.clauses 𝓤 H A mem run) κs (r, (t, tt)) tt h)))) (id⊢ 𝓤 _) $ await ! tt $ pick ! (λ h.
         split ! $ move ! (1 ∷ []) $ use1 W (raw (fact 𝓤 (heldIs h ≡ foundBy r t))) (read-said r h) $ heard ! (heldIs h ≡ foundBy r t) (λ e′. split ! $ move ! (1 ∷ []) $
         -- [the result; the tokens; what the lists own, as a look; _7; …; _6; …; _5; …; _4; …; _3; …; _2; …; _1; …; room for _0; …]
         peeks ! S.the-row (Is S.the-row) (shows 𝓤 H A S.the-row) h (u′ ∷ []) (λ is′.

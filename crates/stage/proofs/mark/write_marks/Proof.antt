@@ -8,7 +8,7 @@ use lib.Ieee.{nan}
 use denote.Ref.{now}
 use Rattle.definitions.specs.ClipSet.{ClipSet}
 use Rattle.definitions.specs.Samples.{Samples}
-use Rattle.laws.specs.cell.Unpacked.{setOf, samplesOf}
+use Rattle.laws.specs.cell.Lent.{setOf, samplesOf}
 use Rattle.stage.specs.Marks.{marksAt}
 use Rattle.stage.proofs.Marks.{marks-front, marks-end}
 use Rattle.stage.proofs.Writing.{Wrote, wrote-start, wrote-on, wrote-end, wrote-rest}

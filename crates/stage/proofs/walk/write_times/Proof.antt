@@ -8,7 +8,7 @@ use lib.Ieee.{ofBits, neg}
 use denote.Ref.{now}
 use Rattle.definitions.specs.Doubles.{FiniteDouble}
 use Rattle.definitions.specs.StageSamples.{stageSampleTimes}
-use Rattle.laws.specs.cell.Unpacked.{setOf, samplesOf}
+use Rattle.laws.specs.cell.Lent.{setOf, samplesOf}
 use Rattle.window.specs.declared.Bound.{Bound}
 use Rattle.stage.specs.Times.{stageAfter, NextTime}
 use Rattle.stage.proofs.Times.{before-finite, times-all}

@@ -5,7 +5,7 @@ use borrow.Author.Needs.{needs}
 use lib.ListN.{length}
 use denote.Ref.{now}
 use Rattle.definitions.specs.ClipSet as Definitions
-use Rattle.clip.specs.Settling.{Settles}
+use Rattle.clip.specs.Storing.{Stores}
 use Rattle.template.specs.Expanding.{offsetOf}
 use Rattle.template.proofs.Expansion.{expanded-is, few-knots}
 use Rattle.template.proofs.expanding.expand_lists.Statement.{statement}
@@ -23,8 +23,8 @@ write-knots-requires c κs = search needs
 copy-requires : tie.Need-copy-requires
 copy-requires c κs = search needs
 
-sort-and-settle-requires : tie.Need-sort-and-settle-requires
-sort-and-settle-requires c κs =
+sort-check-and-store-requires : tie.Need-sort-check-and-store-requires
+sort-check-and-store-requires c κs =
     let s = c .before .before .before .before .before .before .before .before .before .before .before .before .before .before .before .before .before .before .before .before .before .before .before .before .before .before .before in
     let p = s .pre in
     let t = c .before .before .before .before .before .before .before .before .before .before .before .before .before .before .before .before .before .before .before .write-starts .kept .1 .1 .1 .0 ∙ p .for-times in
@@ -34,10 +34,10 @@ sort-and-settle-requires c κs =
     record { starts = t ∙ sym n; knots = x ∙ sym y; few-starts = omega (arith, p .few); few-knots = omega (arith, few-knots (s .args .offset) (length (now (s .args .ts))) (p .few)); few-blocks = p .few-blocks }
 
 same-length : tie.Need-same-length
-same-length c = c .before .before .before .before .before .before .before .before .sort-and-settle .kept .1 .0 ∙ c .before .before .before .before .before .before .before .before .before .before .before .before .before .before .before .before .before .before .before .before .before .before .before .before .before .before .before .before .write-starts .kept .1 .1 .1 .0
+same-length c = c .before .before .before .before .before .before .before .before .sort-check-and-store .kept .1 .0 ∙ c .before .before .before .before .before .before .before .before .before .before .before .before .before .before .before .before .before .before .before .before .before .before .before .before .before .before .before .before .write-starts .kept .1 .1 .1 .0
 
 same-length-2 : tie.Need-same-length-2
-same-length-2 c = c .before .before .before .before .before .before .before .before .sort-and-settle .kept .1 .1 .0 ∙ c .before .before .before .before .before .before .before .before .before .before .before .before .before .before .before .before .before .before .before .before .before .before .before .before .write-numbers .kept .0
+same-length-2 c = c .before .before .before .before .before .before .before .before .sort-check-and-store .kept .1 .1 .0 ∙ c .before .before .before .before .before .before .before .before .before .before .before .before .before .before .before .before .before .before .before .before .before .before .before .before .write-numbers .kept .0
 
 same-length-3 : tie.Need-same-length-3
 same-length-3 c = search needs
@@ -53,8 +53,8 @@ returns c =
     let n = c .before .before .before .before .before .before .before .before .before .before .before .before .before .before .before .before .before .before .before .before .before .before .before .before .write-numbers in
     let x = c .before .before .before .before .before .before .before .before .before .before .before .before .before .before .before .before .before .before .before .before .write-knots in
     let y = c .before .before .before .before .before .before .before .before .before .before .before .before .before .before .before .copy in
-    let r = c .before .before .before .before .before .before .before .before .sort-and-settle in
-    subst (λ (set : Definitions.ClipSet). Settles set (r .result))
+    let r = c .before .before .before .before .before .before .before .before .sort-check-and-store in
+    subst (λ (set : Definitions.ClipSet). Stores set (r .result))
     (expanded-is (a .times) (offsetOf (a .times) (a .offset)) (now (a .ts)) (t .last .1 .1 .1 .0) (n .last .0) (now (a .numbers)) (x .last .1 .1 .1 .0) (y .last .1 .0) (now (a .blocks)) (a .manifest)
     (t .ensures) (n .ensures) (s .pre .for-numbers) (x .ensures) (y .ensures))
     (r .ensures)
@@ -67,7 +67,7 @@ expand-lists-spec =
     write-numbers-requires
     write-knots-requires
     copy-requires
-    sort-and-settle-requires
+    sort-check-and-store-requires
     same-length
     same-length-2
     same-length-3

@@ -11,11 +11,11 @@ use Rattle.track.proofs.bake.bake.Tie as tie
 entry-at-requires : tie.Need-entry-at-requires
 entry-at-requires c κs = search needs
 
-tops-of-requires : tie.Need-tops-of-requires
-tops-of-requires c κs = let a = c .before .before .before .before .before .before .before .before .before .before .before .before .before in (a .pre .knots-paired, (few-knots (a .pre), ready-readable (a .pre) .segments))
+latest-inverses-requires : tie.Need-latest-inverses-requires
+latest-inverses-requires c κs = let a = c .before .before .before .before .before .before .before .before .before .before .before .before .before in (a .pre .knots-paired, (few-knots (a .pre), ready-readable (a .pre) .segments))
 
-no-spot-requires : tie.Need-no-spot-requires
-no-spot-requires c κs = search needs
+no-place-requires : tie.Need-no-place-requires
+no-place-requires c κs = search needs
 
 slice-aggregate-bake-by-pages : tie.Need-slice-aggregate-bake-by-pages
 slice-aggregate-bake-by-pages c = search needs
@@ -32,9 +32,9 @@ bake-by-pages-requires c κs =
     let a = n .before .before .before .before .before .before .before .before .before .before .before .before .before .before .before in (
       a .pre,
       (
-        n .before .tops-of .ensures,
+        n .before .latest-inverses .ensures,
         (
-          record { keys = record { low = lit≤ tt; order = lit≤ tt; high = lit≤ tt }; last = n .before .before .entry-at .ensures; spot = no-spot-is (a .pre) (n .no-spot .result .p) (n .no-spot .result .w) (n .no-spot .ensures) },
+          record { keys = record { low = lit≤ tt; order = lit≤ tt; high = lit≤ tt }; last = n .before .before .entry-at .ensures; spot = no-spot-is (a .pre) (n .no-place .result .p) (n .no-place .result .w) (n .no-place .ensures) },
           (refl, slots-some _ _ _ _ _ _),
         ),
       ),
@@ -57,8 +57,8 @@ bake-spec =
     tie.close
     (tie.spec
     entry-at-requires
-    tops-of-requires
-    no-spot-requires
+    latest-inverses-requires
+    no-place-requires
     slice-aggregate-bake-by-pages
     slice-aggregate-bake-by-pages-2
     slice-aggregate-bake-by-pages-3

@@ -10,7 +10,7 @@ use Rattle.definitions.specs.ClipSet.{ClipSet}
 use Rattle.definitions.specs.Samples.{Samples}
 use Rattle.definitions.specs.Track.{slots}
 use Rattle.laws.specs.cell.Keys.{entryAtKey}
-use Rattle.laws.specs.cell.Unpacked.{setOf, samplesOf}
+use Rattle.laws.specs.cell.Lent.{setOf, samplesOf}
 use Rattle.cell.specs.step.Entries.{entryIs}
 use Rattle.run.proofs.Filling.{Long}
 use Rattle.track.specs.span.Changes.{changesOf}

@@ -10,7 +10,7 @@ use Rattle.definitions.specs.Samples.{Samples}
 use Rattle.laws.proofs.track.Laws.{changes-none}
 use Rattle.laws.specs.cell.Keys.{entryAtKey}
 use Rattle.laws.specs.cell.Tracks.{entry-same}
-use Rattle.laws.specs.cell.Unpacked.{setOf, samplesOf}
+use Rattle.laws.specs.cell.Lent.{setOf, samplesOf}
 use Rattle.track.specs.span.Changes.{changesOf}
 use Rattle.track.specs.Fills.{CursorIs, PageIs}
 use Rattle.run.proofs.Filling.{Long}

@@ -8,7 +8,7 @@ use Rattle.gf.proofs.KeyLaws.{ofKey-finite}
 use Rattle.definitions.specs.ClipSet.{stage}
 use Rattle.definitions.specs.Track.{entryOf}
 use Rattle.definitions.specs.Value.{valueInSet}
-use Rattle.laws.specs.cell.Unpacked.{setOf, samplesOf}
+use Rattle.laws.specs.cell.Lent.{setOf, samplesOf}
 use borrow.Author.Needs.{needs}
 use Rattle.track.proofs.entry.entry_at.Statement.{statement}
 use Rattle.track.proofs.entry.entry_at.Tie as tie
@@ -16,8 +16,8 @@ use Rattle.track.proofs.entry.entry_at.Tie as tie
 of-key-requires : tie.Need-of-key-requires
 of-key-requires c κs = search needs
 
-value-requires : tie.Need-value-requires
-value-requires c κs =
+value-in-set-requires : tie.Need-value-in-set-requires
+value-in-set-requires c κs =
     let a = c .before .before .before .before .before .before .before .before .before .before in
     (a .pre .0, subst (λ (t : Float). T (finite t)) (sym (c .of-key .ensures)) (ofKey-finite (a .args .k) (a .pre .1 .0) (a .pre .1 .1)))
 
@@ -28,7 +28,7 @@ returns : tie.Need-returns
 returns c =
     let a = c .before .before .before .before .before .before .before .before .before .before .before .before .args in
     c .entry-of .ensures
-    ∙ ap entryOf (c .before .value .ensures)
+    ∙ ap entryOf (c .before .value-in-set .ensures)
     ∙ ap
     (λ (t : Float).
     entryOf
@@ -36,4 +36,4 @@ returns c =
     (c .before .before .of-key .ensures)
 
 pub entry-at-spec : {M : Type 1} → statement M
-entry-at-spec = tie.close (tie.spec of-key-requires value-requires entry-of-requires returns)
+entry-at-spec = tie.close (tie.spec of-key-requires value-in-set-requires entry-of-requires returns)

@@ -8,12 +8,12 @@ use Rattle.definitions.specs.ClipSet.{ClipSet}
 use Rattle.definitions.specs.Samples.{Samples}
 use Rattle.definitions.specs.Track.{Entry, Outputs, slots}
 use Rattle.laws.specs.cell.Keys.{Keys, entryAtKey}
-use Rattle.laws.specs.cell.Unpacked.{setOf, samplesOf}
+use Rattle.laws.specs.cell.Lent.{setOf, samplesOf}
 use Rattle.cell.specs.step.Entries.{entryIs}
 use Rattle.run.specs.Walks.{outputs, Room, Stands, Walked}
 use Rattle.run.proofs.Filling.{Long}
 use Rattle.run.proofs.Walking.{Reaches, stands-first, stands-long, stands-room, stands-next, stands-full, full, walked-all, walked-full, walked-agree, walked-wider, walked-join}
-use Rattle.cell.specs.Spots.{SpotIs}
+use Rattle.cell.specs.WindowPlaces.{PlaceIs}
 use Rattle.cell.proofs.Lent.{sound, samples, numbers}
 use Rattle.track.proofs.Walks.{next-key, slots-room, slots-is, filled}
 use Rattle.track.proofs.fill.fill.Statement.{statement}
@@ -21,7 +21,7 @@ use Rattle.track.proofs.fill.fill.Tie as tie
 
 abbrev Inv-loop : tie.InvT-loop
 Inv-loop starts clips xs ys blocks m times values marks ends tops top outtimes₀ outvalues₀ outmarks₀ room at₀ last₀ spot₀ count₀ outtimes outvalues outmarks at last spot count =
-    (at ≤ top) × SpotIs starts clips xs ys blocks m times values marks ends (spot .p) (spot .w)
+    (at ≤ top) × PlaceIs starts clips xs ys blocks m times values marks ends (spot .p) (spot .w)
     × Stands (entryAtKey (setOf (length ends) starts clips xs ys blocks m) (samplesOf times values marks ends)) at₀ room 0 (outputs outtimes₀ outvalues₀ outmarks₀) (outputs outtimes outvalues outmarks) at (entryIs last) count
 
 abbrev μ-loop : tie.MeasureT-loop
@@ -81,7 +81,7 @@ next-keys c = let K = keys (entry (c .before)) in let l = below c in let f = c .
 abbrev loop : tie.After-offer Inv-loop μ-loop → tie.At-loop Inv-loop μ-loop
 loop c = c .before .before .before .before .before .before .before .before
 
-abbrev found : tie.After-offer Inv-loop μ-loop → tie.After-stretch-at Inv-loop μ-loop
+abbrev found : tie.After-offer Inv-loop μ-loop → tie.After-span-at Inv-loop μ-loop
 found c = c .before .before .before .before .before .before
 
 abbrev after : tie.After-offer Inv-loop μ-loop → Outputs
@@ -94,14 +94,14 @@ refused : (c : tie.Then2 Inv-loop μ-loop) → let g = offered (c .before) in le
 refused c =
     let g = offered (c .before) in
     let b = loop g in
-    stands-full (v (entry b)) (entry b .args .from .key) (room b) 0 (outs (entry b)) (has b) (b .loop .inv .2) (reaches b) (found g .stretch-at .ensures .stretch .here) (g .offer .ensures) (c .if2 .taken)
+    stands-full (v (entry b)) (entry b .args .from .key) (room b) 0 (outs (entry b)) (has b) (b .loop .inv .2) (reaches b) (found g .span-at .ensures .stretch .here) (g .offer .ensures) (c .if2 .taken)
 
-taken : (c : tie.Else2 Inv-loop μ-loop) → let g = offered (c .before) in let b = loop g in At b (after g) (b .loop .at + 1) (entryIs (found g .stretch-at .result .stretch .here)) (g .offer .result)
+taken : (c : tie.Else2 Inv-loop μ-loop) → let g = offered (c .before) in let b = loop g in At b (after g) (b .loop .at + 1) (entryIs (found g .span-at .result .stretch .here)) (g .offer .result)
 taken c =
     let g = offered (c .before) in
     let b = loop g in
     let h = c .if2 .left in
-    stands-next (v (entry b)) (entry b .args .from .key) (room b) 0 (outs (entry b)) (has b) (b .loop .inv .2) (reaches b) (found g .stretch-at .ensures .stretch .here) (g .offer .ensures) (omega arith)
+    stands-next (v (entry b)) (entry b .args .from .key) (room b) 0 (outs (entry b)) (has b) (b .loop .inv .2) (reaches b) (found g .span-at .ensures .stretch .here) (g .offer .ensures) (omega arith)
 
 -- after the walk over the stretch
 abbrev begun : tie.After-fill-in Inv-loop μ-loop → tie.Else2 Inv-loop μ-loop
@@ -110,23 +110,23 @@ begun c = c .before .before .before .before
 abbrev first : tie.After-fill-in Inv-loop μ-loop → tie.After-offer Inv-loop μ-loop
 first c = offered (begun c .before)
 
-abbrev stretch : tie.After-fill-in Inv-loop μ-loop → tie.After-stretch-at Inv-loop μ-loop
+abbrev stretch : tie.After-fill-in Inv-loop μ-loop → tie.After-span-at Inv-loop μ-loop
 stretch c = found (first c)
 
 abbrev behind : tie.After-fill-in Inv-loop μ-loop → Outputs
 behind c = let o = c .fill-in .last .1 .1 .1 .1 .1 .1 .1 .1 in outputs (o .0) (o .1 .0) (o .1 .1 .0)
 
 walked : (c : tie.After-fill-in Inv-loop μ-loop) → let b = loop (first c) in
-    Walked (v (entry b)) (entry b .args .from .key) (stretch c .stretch-at .result .stretch .hi) (room b) 0 (outs (entry b)) (behind c) (c .fill-in .result)
+    Walked (v (entry b)) (entry b .args .from .key) (stretch c .span-at .result .stretch .hi) (room b) 0 (outs (entry b)) (behind c) (c .fill-in .result)
 walked c =
     let b = loop (first c) in
-    walked-join (v (entry b)) (entry b .args .from .key) (stretch c .stretch-at .result .stretch .hi) (room b) 0 (outs (entry b)) (has b) (taken (begun c)) (walked-agree (stretch c .stretch-at .ensures .stretch .says) (c .fill-in .ensures))
+    walked-join (v (entry b)) (entry b .args .from .key) (stretch c .span-at .result .stretch .hi) (room b) 0 (outs (entry b)) (has b) (taken (begun c)) (walked-agree (stretch c .span-at .ensures .stretch .says) (c .fill-in .ensures))
 
 abbrev went : tie.After-struct-known Inv-loop μ-loop → tie.After-fill-in Inv-loop μ-loop
 went c = c .before .before .before .before .before .before .before
 
-within : (c : tie.After-fill-in Inv-loop μ-loop) → (loop (first c) .loop .at < stretch c .stretch-at .result .stretch .hi) × (stretch c .stretch-at .result .stretch .hi ≤ entry (loop (first c)) .args .top)
-within c = let S = stretch c .stretch-at .ensures .stretch in (let o = S .keys .order in omega arith, S .within)
+within : (c : tie.After-fill-in Inv-loop μ-loop) → (loop (first c) .loop .at < stretch c .span-at .result .stretch .hi) × (stretch c .span-at .result .stretch .hi ≤ entry (loop (first c)) .args .top)
+within c = let S = stretch c .span-at .ensures .stretch in (let o = S .keys .order in omega arith, S .within)
 
 long-full : (c : tie.Then2 Inv-loop μ-loop) → Long (outs (entry (loop (offered (c .before))))) (after (offered (c .before)))
 long-full c = let b = loop (offered (c .before)) in long b _ _ _ _ (refused c)
@@ -165,8 +165,8 @@ returns c =
 add-k : tie.Need-add-k Inv-loop μ-loop
 add-k c = let l = below c in let K = keys (entry (c .before)) in omega (arith, K .high)
 
-stretch-at-requires : tie.Need-stretch-at-requires Inv-loop μ-loop
-stretch-at-requires c κs = let a = entry (c .before) in (a .pre .0, (a .pre .1 .0, (c .before .loop .inv .1, next-keys c)))
+span-at-requires : tie.Need-span-at-requires Inv-loop μ-loop
+span-at-requires c κs = let a = entry (c .before) in (a .pre .0, (a .pre .1 .0, (c .before .loop .inv .1, next-keys c)))
 
 offer-requires : tie.Need-offer-requires Inv-loop μ-loop
 offer-requires c κs =
@@ -192,7 +192,7 @@ returns-2 c =
     let l = below (found g .before) in
     filled (a .args .from .key) (a .args .top) (room b) (keys a) (outs a) (after g) (all b) _
     (walked-full (refused c) (b .loop .inv .0)
-    (full (v a) (a .args .from .key) (room b) 0 (outs a) (has b) (b .loop .inv .2) (reaches b) (found g .stretch-at .ensures .stretch .here) (g .offer .ensures) (omega arith) (c .if2 .taken)))
+    (full (v a) (a .args .from .key) (room b) 0 (outs a) (has b) (b .loop .inv .2) (reaches b) (found g .span-at .ensures .stretch .here) (g .offer .ensures) (omega arith) (c .if2 .taken)))
     (b .loop .spot) (b .loop .inv .1)
 
 fill-in-requires : tie.Need-fill-in-requires Inv-loop μ-loop
@@ -200,7 +200,7 @@ fill-in-requires c κs =
     let e = c .before .before .before in
     let g = offered (e .before) in
     let b = loop g in
-    let S = found g .stretch-at .ensures .stretch in
+    let S = found g .span-at .ensures .stretch in
     (S .keys, (S .runs, stands-room (v (entry b)) (entry b .args .from .key) (room b) 0 (outs (entry b)) (has b) (taken e)))
 
 same-length-7 : tie.Need-same-length-7 Inv-loop μ-loop
@@ -217,7 +217,7 @@ returns-3 c =
     let i = went (c .before .before .before) in
     let b = loop (first i) in
     let a = entry b in
-    filled (a .args .from .key) (a .args .top) (room b) (keys a) (outs a) (behind i) (all b) _ (walked-wider (within i .1) (not-true (i .fill-in .result .done) (c .before .before .if3 .taken)) (walked i)) (stretch i .stretch-at .result .spot) (stretch i .stretch-at .ensures .spot)
+    filled (a .args .from .key) (a .args .top) (room b) (keys a) (outs a) (behind i) (all b) _ (walked-wider (within i .1) (not-true (i .fill-in .result .done) (c .before .before .if3 .taken)) (walked i)) (stretch i .span-at .result .spot) (stretch i .span-at .ensures .spot)
 
 loop-less : tie.Need-loop-less Inv-loop μ-loop
 loop-less c = let i = went (c .before .before .before) in let h = within i in let l = loop (first i) .loop .inv .0 in omega (arith, h .0, h .1)
@@ -226,7 +226,7 @@ loop-again : tie.Need-loop-again Inv-loop μ-loop
 loop-again c =
     let i = went (c .before .before .before) in
     let b = loop (first i) in
-    (within i .1, stretch i .stretch-at .ensures .spot, subst (λ (j : ℕ). At b (behind i) j (entryIs (i .fill-in .result .last)) (i .fill-in .result .count)) (walked i .whole (not-false (i .fill-in .result .done) (c .before .before .if3 .left))) (walked i .stands))
+    (within i .1, stretch i .span-at .ensures .spot, subst (λ (j : ℕ). At b (behind i) j (entryIs (i .fill-in .result .last)) (i .fill-in .result .count)) (walked i .whole (not-false (i .fill-in .result .done) (c .before .before .if3 .left))) (walked i .stands))
 
 pub fill-spec : {M : Type 1} → statement M
 fill-spec =
@@ -241,7 +241,7 @@ fill-spec =
     same-length-3
     returns
     add-k
-    stretch-at-requires
+    span-at-requires
     offer-requires
     same-length-4
     same-length-5

@@ -12,16 +12,16 @@ use Rattle.definitions.specs.Samples.{Samples}
 use Rattle.definitions.specs.Track.{entryOf}
 use Rattle.laws.specs.track.Laws.{Agree}
 use Rattle.laws.specs.cell.Keys.{Keys, entryAtKey}
-use Rattle.laws.specs.cell.Unpacked.{setOf, samplesOf}
+use Rattle.laws.specs.cell.Lent.{setOf, samplesOf}
 use Rattle.cell.specs.step.Entries.{entryIs}
-use Rattle.value.specs.Says.{saysIn, Sayable}
+use Rattle.value.specs.Answers.{answerIn, Answerable}
 use Rattle.value.proofs.Says.{ready-marks}
-use Rattle.cell.specs.Pieces.{PieceIs}
+use Rattle.cell.specs.CellAndEnd.{CellAndEndIs}
 use Rattle.cell.specs.EndKeys.{endKey}
-use Rattle.cell.specs.Spots.{SpotAt}
+use Rattle.cell.specs.WindowPlaces.{PlaceAt}
 use Rattle.cell.proofs.Lent.{sound, samples}
 use Rattle.cell.proofs.LastKeys.{end-numbered, end-later}
-use Rattle.track.specs.span.Runs.{Runs, saysOn}
+use Rattle.track.specs.span.Runs.{Runs, entryOn}
 use Rattle.track.proofs.span.Spans.{span-keys, span-sayable, span-here, span-runs, span-says}
 use borrow.Author.Needs.{needs}
 use Rattle.track.proofs.span.cell_step.Statement.{statement}
@@ -34,32 +34,32 @@ set a = setOf (length (a .args .ends .now)) (a .args .starts .now) (a .args .cli
 abbrev lent : tie.Start → Samples
 lent a = samplesOf (a .args .times .now) (a .args .values .now) (a .args .marks .now) (a .args .ends .now)
 
-abbrev entry : tie.After-piece-at → tie.Start
+abbrev entry : tie.After-cell-at → tie.Start
 entry c = c .before .before .before .before .before .before .before .before .before .before .before .before
 
 -- k is the key of a finite double
 finite-key : (a : tie.Start) → FiniteDouble (ofKey (a .args .k))
 finite-key a = let K = a .pre .1 .1 .1 in record { fitting = ofKey-fits (a .args .k); finitely = ofKey-finite (a .args .k) (K .low) (omega (arith, K .order, K .high)) }
 
-piece : (c : tie.After-piece-at) → PieceIs (set (entry c)) (lent (entry c)) (ofKey (entry c .args .k)) (c .piece-at .result .cell) (c .piece-at .result .end)
-piece c = subst (λ (t : Float). PieceIs (set (entry c)) (lent (entry c)) t (c .piece-at .result .cell) (c .piece-at .result .end)) (c .before .of-key .ensures) (c .piece-at .ensures)
+piece : (c : tie.After-cell-at) → CellAndEndIs (set (entry c)) (lent (entry c)) (ofKey (entry c .args .k)) (c .cell-at .result .cell) (c .cell-at .result .end)
+piece c = subst (λ (t : Float). CellAndEndIs (set (entry c)) (lent (entry c)) t (c .cell-at .result .cell) (c .cell-at .result .end)) (c .before .of-key .ensures) (c .cell-at .ensures)
 
 -- the last key
-hi-is : (c : tie.After-lesser) → min (entry (c .before .before) .args .top) (endKey (c .before .before .piece-at .result .end) - 1) ≡ c .lesser .result
+hi-is : (c : tie.After-lesser) → min (entry (c .before .before) .args .top) (endKey (c .before .before .cell-at .result .end) - 1) ≡ c .lesser .result
 hi-is c = sym (c .lesser .ensures ∙ ap (λ (e : ℕ). min (entry (c .before .before) .args .top) (e - 1)) (c .before .end-key .ensures))
 
 keys : (c : tie.After-lesser) → Keys (entry (c .before .before) .args .k) (c .lesser .result)
 keys c =
     let q = c .before .before in
     let a = entry q in
-    subst (Keys (a .args .k)) (hi-is c) (span-keys (a .pre .0) (a .args .k) (a .args .top) (a .pre .1 .1 .1) (q .piece-at .result .cell) (q .piece-at .result .end) (piece q))
+    subst (Keys (a .args .k)) (hi-is c) (span-keys (a .pre .0) (a .args .k) (a .args .top) (a .pre .1 .1 .1) (q .cell-at .result .cell) (q .cell-at .result .end) (piece q))
 
-runs : (c : tie.After-lesser) → Runs (entry (c .before .before) .args .times .now) (entry (c .before .before) .args .values .now) (entry (c .before .before) .args .marks .now) (entry (c .before .before) .args .ends .now) (c .before .before .piece-at .result .cell) (entry (c .before .before) .args .k) (c .lesser .result)
+runs : (c : tie.After-lesser) → Runs (entry (c .before .before) .args .times .now) (entry (c .before .before) .args .values .now) (entry (c .before .before) .args .marks .now) (entry (c .before .before) .args .ends .now) (c .before .before .cell-at .result .cell) (entry (c .before .before) .args .k) (c .lesser .result)
 runs c =
     let q = c .before .before in
     let a = entry q in
-    subst (Runs (a .args .times .now) (a .args .values .now) (a .args .marks .now) (a .args .ends .now) (q .piece-at .result .cell) (a .args .k)) (hi-is c)
-    (span-runs (a .pre .0) (a .args .k) (a .args .top) (a .pre .1 .1 .1) (q .piece-at .result .cell) (q .piece-at .result .end) (piece q))
+    subst (Runs (a .args .times .now) (a .args .values .now) (a .args .marks .now) (a .args .ends .now) (q .cell-at .result .cell) (a .args .k)) (hi-is c)
+    (span-runs (a .pre .0) (a .args .k) (a .args .top) (a .pre .1 .1 .1) (q .cell-at .result .cell) (q .cell-at .result .end) (piece q))
 
 -- what is said at k
 here : (c : tie.After-entry-of) → entryIs (c .entry-of .result) ≡ entryAtKey (set (entry (c .before .before .before .before .before))) (lent (entry (c .before .before .before .before .before))) (entry (c .before .before .before .before .before) .args .k)
@@ -67,34 +67,34 @@ here c =
     let q = c .before .before .before .before .before in
     let a = entry q in
     c .entry-of .ensures
-    ∙ ap entryOf (c .before .says .ensures ∙ ap (saysIn (a .args .m) (a .args .values .now) (a .args .marks .now) (a .args .ends .now)) (c .before .before .read-on .ensures))
-    ∙ span-here (a .pre .0) (a .args .k) (a .args .top) (a .pre .1 .1 .1) (q .piece-at .result .cell) (q .piece-at .result .end) (piece q)
+    ∙ ap entryOf (c .before .answer-of .ensures ∙ ap (answerIn (a .args .m) (a .args .values .now) (a .args .marks .now) (a .args .ends .now)) (c .before .before .read-on .ensures))
+    ∙ span-here (a .pre .0) (a .args .k) (a .args .top) (a .pre .1 .1 .1) (q .cell-at .result .cell) (q .cell-at .result .end) (piece q)
 
 of-key-requires : tie.Need-of-key-requires
 of-key-requires c κs = search needs
 
-piece-at-requires : tie.Need-piece-at-requires
-piece-at-requires c κs =
+cell-at-requires : tie.Need-cell-at-requires
+cell-at-requires c κs =
     let a = c .before .before .before .before .before .before .before .before .before .before .before in
     let e = sym (c .of-key .ensures) in (
       a .pre .0,
       (
         a .pre .1 .0,
         (
-          subst (λ (t : Float). SpotAt (a .args .starts .now) (a .args .clips .now) (a .args .xs .now) (a .args .ys .now) (a .args .blocks .now) (a .args .m) (a .args .times .now) (a .args .values .now) (a .args .marks .now) (a .args .ends .now) t (a .args .at .p) (a .args .at .w)) e (a .pre .1 .1 .0),
+          subst (λ (t : Float). PlaceAt (a .args .starts .now) (a .args .clips .now) (a .args .xs .now) (a .args .ys .now) (a .args .blocks .now) (a .args .m) (a .args .times .now) (a .args .values .now) (a .args .marks .now) (a .args .ends .now) t (a .args .at .p) (a .args .at .w)) e (a .pre .1 .1 .0),
           subst FiniteDouble e (finite-key a),
         ),
       ),
     )
 
 end-key-requires : tie.Need-end-key-requires
-end-key-requires c κs = let a = entry c in end-numbered (set a) (lent a) (sound (a .pre .0)) (samples (a .pre .0)) (a .args .k) (a .args .top) (a .pre .1 .1 .1) (c .piece-at .result .end) (piece c .ends)
+end-key-requires c κs = let a = entry c in end-numbered (set a) (lent a) (sound (a .pre .0)) (samples (a .pre .0)) (a .args .k) (a .args .top) (a .pre .1 .1 .1) (c .cell-at .result .end) (piece c .ends)
 
 sub-lesser : tie.Need-sub-lesser
 sub-lesser c =
     let q = c .before in
     let a = entry q in
-    omega (arith, end-later (set a) (lent a) (sound (a .pre .0)) (samples (a .pre .0)) (a .args .k) (a .args .top) (a .pre .1 .1 .1) (q .piece-at .result .end) (piece q .ends), c .end-key .ensures)
+    omega (arith, end-later (set a) (lent a) (sound (a .pre .0)) (samples (a .pre .0)) (a .args .k) (a .args .top) (a .pre .1 .1 .1) (q .cell-at .result .end) (piece q .ends), c .end-key .ensures)
 
 lesser-requires : tie.Need-lesser-requires
 lesser-requires c κs = search needs
@@ -102,11 +102,11 @@ lesser-requires c κs = search needs
 read-on-requires : tie.Need-read-on-requires
 read-on-requires c κs = (keys c, runs c)
 
-says-requires : tie.Need-says-requires
-says-requires c κs =
+answer-of-requires : tie.Need-answer-of-requires
+answer-of-requires c κs =
     let q = c .before .before .before in
     let a = entry q in
-    (subst (Sayable (length (a .args .values .now)) (a .args .ends .now)) (sym (c .read-on .ensures)) (span-sayable (a .pre .0) (a .args .k) (a .args .top) (a .pre .1 .1 .1) (q .piece-at .result .cell) (q .piece-at .result .end) (piece q)), ready-marks (a .pre .0))
+    (subst (Answerable (length (a .args .values .now)) (a .args .ends .now)) (sym (c .read-on .ensures)) (span-sayable (a .pre .0) (a .args .k) (a .args .top) (a .pre .1 .1 .1) (q .cell-at .result .cell) (q .cell-at .result .end) (piece q)), ready-marks (a .pre .0))
 
 entry-of-requires : tie.Need-entry-of-requires
 entry-of-requires c κs = search needs
@@ -123,8 +123,8 @@ returns c =
         within = let e = hi-is l in omega arith;
         here = here x;
         runs = runs l;
-        says = subst (λ (h : ℕ). Agree (a .args .k) h (entryAtKey (set a) (lent a)) (saysOn (a .args .times .now) (a .args .values .now) (a .args .marks .now) (a .args .ends .now) (q .piece-at .result .cell) (entryIs (x .entry-of .result)))) (hi-is l)
-            (span-says (a .pre .0) (a .args .k) (a .args .top) (a .pre .1 .1 .1) (q .piece-at .result .cell) (q .piece-at .result .end) (piece q) (entryIs (x .entry-of .result)) (here x));
+        says = subst (λ (h : ℕ). Agree (a .args .k) h (entryAtKey (set a) (lent a)) (entryOn (a .args .times .now) (a .args .values .now) (a .args .marks .now) (a .args .ends .now) (q .cell-at .result .cell) (entryIs (x .entry-of .result)))) (hi-is l)
+            (span-says (a .pre .0) (a .args .k) (a .args .top) (a .pre .1 .1 .1) (q .cell-at .result .cell) (q .cell-at .result .end) (piece q) (entryIs (x .entry-of .result)) (here x));
       };
       spot = a .pre .1 .1 .0 .spot;
     }
@@ -134,11 +134,11 @@ cell-step-spec =
     tie.close
     (tie.spec
     of-key-requires
-    piece-at-requires
+    cell-at-requires
     end-key-requires
     sub-lesser
     lesser-requires
     read-on-requires
-    says-requires
+    answer-of-requires
     entry-of-requires
     returns)

@@ -10,11 +10,11 @@ use Rattle.definitions.specs.Samples.{Samples}
 use Rattle.definitions.specs.Timing.{lastAtMost}
 use Rattle.definitions.specs.Track.{entryOf}
 use Rattle.laws.specs.cell.Keys.{entryAtKey}
-use Rattle.laws.specs.cell.Unpacked.{setOf, samplesOf}
+use Rattle.laws.specs.cell.Lent.{setOf, samplesOf}
 use Rattle.cell.specs.step.Entries.{entryIs}
-use Rattle.value.specs.Says.{saysIn, Sayable}
+use Rattle.value.specs.Answers.{answerIn, Answerable}
 use Rattle.value.proofs.Says.{ready-marks}
-use Rattle.value.specs.Handed.{WindowIs}
+use Rattle.value.specs.WindowOf.{WindowIs}
 use Rattle.cell.specs.declared.Cell.{Cell}
 use Rattle.cell.proofs.Lent.{spot-window}
 use Rattle.track.proofs.span.Spans.{Told, told-sayable, told-here, told-runs, told-says}
@@ -67,7 +67,7 @@ here c =
     let q = l .before .before in
     let a = entry q in
     c .entry-of .ensures
-    ∙ ap entryOf (c .before .says .ensures ∙ ap (saysIn (a .args .m) (a .args .values .now) (a .args .marks .now) (a .args .ends .now)) (c .before .before .read-on .ensures))
+    ∙ ap entryOf (c .before .answer-of .ensures ∙ ap (answerIn (a .args .m) (a .args .values .now) (a .args .marks .now) (a .args .ends .now)) (c .before .before .read-on .ensures))
     ∙ told-here (a .pre .0) (a .args .k) (l .lesser .result) (q .plain-cell .result) (told l)
 
 plain-cell-requires : tie.Need-plain-cell-requires
@@ -90,11 +90,11 @@ read-on-requires c κs =
     let a = entry q in
     (told c .keys, told-runs (a .pre .0) (a .args .k) (c .lesser .result) (q .plain-cell .result) (told c))
 
-says-requires : tie.Need-says-requires
-says-requires c κs =
+answer-of-requires : tie.Need-answer-of-requires
+answer-of-requires c κs =
     let q = c .before .before .before in
     let a = entry q in (
-      subst (Sayable (length (a .args .values .now)) (a .args .ends .now)) (sym (c .read-on .ensures)) (told-sayable (a .pre .0) (a .args .k) (c .before .lesser .result) (q .plain-cell .result) (told (c .before))),
+      subst (Answerable (length (a .args .values .now)) (a .args .ends .now)) (sym (c .read-on .ensures)) (told-sayable (a .pre .0) (a .args .k) (c .before .lesser .result) (q .plain-cell .result) (told (c .before))),
       ready-marks (a .pre .0),
     )
 
@@ -126,6 +126,6 @@ plain-step-spec =
     sub-lesser
     lesser-requires
     read-on-requires
-    says-requires
+    answer-of-requires
     entry-of-requires
     returns)

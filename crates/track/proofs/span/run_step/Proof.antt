@@ -11,20 +11,20 @@ use Rattle.gf.proofs.KeyLaws.{ofKey-fits, ofKey-finite, finite→key, finite-no
 use Rattle.definitions.specs.declared.Segment.{Segment}
 use Rattle.definitions.specs.Doubles.{FiniteDouble}
 use Rattle.laws.specs.cell.Keys.{Keys}
-use Rattle.laws.specs.cell.Unpacked.{setOf, samplesOf}
+use Rattle.laws.specs.cell.Lent.{setOf, samplesOf}
 use Rattle.lists.specs.Segments.{segmentAt}
 use Rattle.window.proofs.Parts.{ready-readable}
 use Rattle.cell.specs.declared.step.line.Line.the-variants as Line
 use Rattle.cell.specs.step.Entries.{entryIs}
 use Rattle.cell.specs.step.Lines.{placeOn}
-use Rattle.window.specs.neighbours.Tops.{segmentOf}
+use Rattle.window.specs.neighbours.Latest.{segmentOf}
 use Rattle.window.specs.neighbours.Windowed.{samplesIn}
-use Rattle.run.specs.Passages.{lineOn}
+use Rattle.run.specs.Runs.{lineOn}
 use Rattle.run.specs.Readings.{Reads, entryAt, readingAt}
-use Rattle.value.specs.Handed.{WindowIs}
+use Rattle.value.specs.WindowOf.{WindowIs}
 use Rattle.value.specs.Passes.{Onset}
 use Rattle.value.proofs.Passes.{nh}
-use Rattle.track.specs.declared.span.Way.the-variants.{Past}
+use Rattle.track.specs.declared.span.ReadBy.the-variants.{ByRun}
 use Rattle.track.specs.span.Runs.{part, StretchIs}
 use Rattle.track.proofs.span.Cuts.{cut, uncut, recut}
 use Rattle.cell.proofs.Lent.{spot-window}
@@ -170,7 +170,7 @@ returns c =
     let n = clip-named (a .pre .0) (a .args .at .p) (a .args .at .w) (window a) (full a) in
     record {
       stretch =
-          subst (λ (g : Segment). StretchIs (setOf (length (a .args .ends .now)) (a .args .starts .now) (a .args .clips .now) (a .args .xs .now) (a .args .ys .now) (a .args .blocks .now) (a .args .m)) (samplesOf (a .args .times .now) (a .args .values .now) (a .args .marks .now) (a .args .ends .now)) (a .args .k) (a .args .top) (record { way = Past (a .args .at .w .clip) (a .args .l) g (a .args .n); here = c .entry-of-sample .result; hi = l .lesser .result })) (sym (taken e)) (record {
+          subst (λ (g : Segment). StretchIs (setOf (length (a .args .ends .now)) (a .args .starts .now) (a .args .clips .now) (a .args .xs .now) (a .args .ys .now) (a .args .blocks .now) (a .args .m)) (samplesOf (a .args .times .now) (a .args .values .now) (a .args .marks .now) (a .args .ends .now)) (a .args .k) (a .args .top) (record { way = ByRun (a .args .at .w .clip) (a .args .l) g (a .args .n); here = c .entry-of-sample .result; hi = l .lesser .result })) (sym (taken e)) (record {
             keys = S;
             within = omega arith;
             here = read ∙ sym (run-begins (a .pre .0) (a .args .at .p) (a .args .at .w) (window a) (full a) (a .pre .1 .1 .0) (a .args .tops .now) (a .args .k) (point a) (a .args .i) (a .args .l) (a .args .h) (onset a)) ∙ sym (run-says (a .pre .0) (a .args .at .p) (a .args .at .w) (window a) (full a) (a .pre .1 .1 .0) (a .args .tops .now) (a .args .k) (point a) (a .args .i) (a .args .l) (a .args .h) (onset a) (a .args .k) (le-of-eq refl) up (point a .high));

@@ -6,7 +6,7 @@ use native.Mathlib.Omega.{arith}
 use lib.ListN.{length, take}
 use Rattle.definitions.specs.declared.Source.the-variants.{Sample as sample}
 use Rattle.definitions.specs.Value.{firstReading}
-use Rattle.laws.specs.cell.Unpacked.{activeOf, setOf, samplesOf}
+use Rattle.laws.specs.cell.Lent.{activeOf, setOf, samplesOf}
 use Rattle.value.specs.direct.Reads.{readingIs}
 use Rattle.value.proofs.direct.ReadsLaws.{back-found, back-on, back-end}
 use borrow.Author.Needs.{needs}

@@ -5,7 +5,7 @@ use native.Mathlib.Omega.{arith}
 use lib.ListN.{length, drop}
 use Rattle.definitions.specs.declared.Source.the-variants.{Sample as sample}
 use Rattle.definitions.specs.Value.{firstReading}
-use Rattle.laws.specs.cell.Unpacked.{activeOf, setOf, samplesOf}
+use Rattle.laws.specs.cell.Lent.{activeOf, setOf, samplesOf}
 use Rattle.value.specs.direct.Reads.{readingIs}
 use Rattle.value.proofs.direct.ReadsLaws.{from-found, from-on, from-end}
 use borrow.Author.Needs.{needs}

@@ -3,7 +3,7 @@ use mathlib.Core.Path.{sym, ap, ap₂, _∙_}
 use Prim.Native.Nat.{ℕ}
 use denote.Ref.{now}
 use Rattle.definitions.specs.Timing.{mapStageToClip}
-use Rattle.laws.specs.cell.Unpacked.{knotsOf}
+use Rattle.laws.specs.cell.Lent.{knotsOf}
 use Rattle.sdf.specs.look.Reads.{heldReading}
 use Rattle.sdf.proofs.look.ReadsLaws.{held-none}
 use Rattle.value.proofs.direct.ReadsLaws.{part-looked}

@@ -57,8 +57,8 @@ returns c =
     window-samples (s .pre .0) (a .p) (s .pre .1) _ refl refl (k .before .window-min .ensures) (k .window-max .ensures) (e .before .clip-begin .ensures) (e .clip-end .ensures)
     (ltb→lt (e .before .clip-begin .result) (e .clip-end .result) (both-l (ltb (e .before .clip-begin .result) (e .clip-end .result)) own u)) (is-true own (both-r (ltb (e .before .clip-begin .result) (e .clip-end .result)) own u))
 
-gap-source-requires : tie.Need-gap-source-requires
-gap-source-requires c κs = search needs
+interpolate-missing-value-requires : tie.Need-interpolate-missing-value-requires
+interpolate-missing-value-requires c κs = search needs
 
 returns-2 : tie.Need-returns-2
 returns-2 c =
@@ -68,7 +68,7 @@ returns-2 c =
     let s = entry k in
     let a = s .args in
     let own = not (a .m .interpolate && any (λ (b : Float). eq b (getD (now (a .starts)) (a .p) nan)) (now (a .blocks))) in
-    window-gap (s .pre .0) (a .p) (s .pre .1) _ refl refl (k .before .window-min .ensures) (k .window-max .ensures) (e .before .clip-begin .ensures) refl (c .gap-source .ensures)
+    window-gap (s .pre .0) (a .p) (s .pre .1) _ refl refl (k .before .window-min .ensures) (k .window-max .ensures) (e .before .clip-begin .ensures) refl (c .interpolate-missing-value .ensures)
     (ap₂ (λ (x y : ℕ). ltb x y && own) (sym (e .before .clip-begin .ensures)) (sym (e .clip-end .ensures)) ∙ sym (h .has-samples .ensures) ∙ c .before .if1 .left)
 
 pub window-of-spec : {M : Type 1} → statement M
@@ -85,5 +85,5 @@ window-of-spec =
     clip-end-requires
     has-samples-requires
     returns
-    gap-source-requires
+    interpolate-missing-value-requires
     returns-2)

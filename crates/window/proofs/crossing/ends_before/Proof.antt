@@ -7,7 +7,7 @@ use lib.ListN.{getD}
 use lib.Ieee.{nan}
 use denote.Ref.{now}
 use borrow.Author.Tests.{not-true}
-use Rattle.window.specs.nearest.Turns.{isBeyond}
+use Rattle.window.specs.nearest.Crossings.{isBeyond}
 use borrow.Author.Needs.{needs}
 use Rattle.window.proofs.crossing.ends_before.Statement.{statement}
 use Rattle.window.proofs.crossing.ends_before.Tie as tie

@@ -1,7 +1,7 @@
 -- `window::crossing::is_beyond` meets its contract. Assumes nothing.
 use mathlib.Core.Path.{ap}
 use lib.Ieee.{Float, lt, le}
-use Rattle.window.specs.nearest.Turns.{isBeyond}
+use Rattle.window.specs.nearest.Crossings.{isBeyond}
 use borrow.Author.Needs.{needs}
 use Rattle.window.proofs.crossing.is_beyond.Statement.{statement}
 use Rattle.window.proofs.crossing.is_beyond.Tie as tie

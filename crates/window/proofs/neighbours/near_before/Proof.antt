@@ -21,8 +21,8 @@ entry k = k .before .before .before .before .before
 loop-holds : tie.Need-loop-holds Inv-loop μ-loop
 loop-holds c = (omega arith, reached-none _ _ _ _ _ _ _)
 
-top-before-requires : tie.Need-top-before-requires Inv-loop μ-loop
-top-before-requires c κs =
+latest-before-requires : tie.Need-latest-before-requires Inv-loop μ-loop
+latest-before-requires c κs =
     let s = entry (c .before) in
     (s .pre .0 .paired, (s .pre .0 .segments, (s .pre .1 .0, (omega (arith, s .pre .1 .1 .0), omega arith))))
 
@@ -37,7 +37,7 @@ returns c =
     let R = s .pre .0 in
     let u = c .before .before in
     reached-past (a .t) (a .w) (now (a .xs)) (now (a .ys)) (now (a .cs)) (R .faces) (R .time) (R .knots) (R .paired) (R .segments) (a .i) (s .pre .1 .1 .1) (s .pre .1 .1 .0) (k .loop .j) (k .loop .inv .0)
-    (u .top-before .result) (u .top-before .ensures) (c .before .is-past .ensures (c .if1 .taken)) (k .loop .inv .1)
+    (u .latest-before .result) (u .latest-before .ensures) (c .before .is-past .ensures (c .if1 .taken)) (k .loop .inv .1)
 
 sub-before : tie.Need-sub-before Inv-loop μ-loop
 sub-before c = omega arith
@@ -70,7 +70,7 @@ near-before-spec =
     Inv-loop
     μ-loop
     loop-holds
-    top-before-requires
+    latest-before-requires
     is-past-requires
     returns
     sub-before

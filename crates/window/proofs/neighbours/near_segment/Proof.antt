@@ -18,15 +18,15 @@ entry c = c .before .before .before .before
 segment-at-requires : tie.Need-segment-at-requires
 segment-at-requires c κs = let s = c .before .before .before in (s .pre .0 .paired, s .pre .1)
 
-turn-requires : tie.Need-turn-requires
-turn-requires c κs = search needs
+crossing-requires : tie.Need-crossing-requires
+crossing-requires c κs = search needs
 
 near-turn-requires : tie.Need-near-turn-requires
 near-turn-requires c κs =
     let m = c .before in
     let s = entry m in
     let R = s .pre .0 in
-    (subst (λ (q : Segment). SoundSegment (q .a, q .b)) (sym (m .segment-at .ensures)) (segment-here (now (s .args .xs)) (now (s .args .ys)) (R .paired) (R .segments) (s .args .j) (s .pre .1)), (R .samples, (R .faces, c .turn .ensures)))
+    (subst (λ (q : Segment). SoundSegment (q .a, q .b)) (sym (m .segment-at .ensures)) (segment-here (now (s .args .xs)) (now (s .args .ys)) (R .paired) (R .segments) (s .args .j) (s .pre .1)), (R .samples, (R .faces, c .crossing .ensures)))
 
 returns : tie.Need-returns
 returns c =
@@ -35,4 +35,4 @@ returns c =
     subst (λ (q : Segment). Searched (a .t) (keep (inside (a .w)) (onSegment (now (a .cs)) (q .a, q .b))) (a .held) (c .near-turn .result)) (m .segment-at .ensures) (c .near-turn .ensures)
 
 pub near-segment-spec : {M : Type 1} → statement M
-near-segment-spec = tie.close (tie.spec segment-at-requires turn-requires near-turn-requires returns)
+near-segment-spec = tie.close (tie.spec segment-at-requires crossing-requires near-turn-requires returns)

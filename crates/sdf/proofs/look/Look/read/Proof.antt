@@ -46,11 +46,11 @@ use Rattle.definitions.proofs.ClipTime as Clip
 use Rattle.definitions.proofs.ClipTime.Laws as Clip′
 use Rattle.sdf.specs.look.Reads.{Readable, heldIs, heldReading}
 use Rattle.sdf.specs.declared.look.Look.{Look}
-use Rattle.sdf.specs.declared.look.Held.{Held}
+use Rattle.sdf.specs.declared.look.HeldPlace.{HeldPlace}
 use Rattle.sdf.proofs.look.Looks.{B, D, L, timesAt, valuesAt, marksAt, Own, Lent, twice, unfolded}
 use Rattle.sdf.proofs.look.Look.Laws as T′
-use Rattle.sdf.proofs.look.Held as S
-use Rattle.sdf.proofs.look.Held.Laws as S′
+use Rattle.sdf.proofs.look.HeldPlace as S
+use Rattle.sdf.proofs.look.HeldPlace.Laws as S′
 use Rattle.sdf.proofs.look.held_reading as held-reading
 use Rattle.sdf.proofs.look.held_reading.Symbol as held-reading-def
 use Rattle.sdf.proofs.look.held_reading.Symbol.{name as #sdf·look·held-reading}
@@ -118,10 +118,10 @@ module _ {M : Type 1} (𝓤 : URA M) (H : Heap 𝓤) (A : Atoms 𝓤) (W : Given
       move ! (2 ∷ 0 ∷ []) $ use2 W (raw (HeldReading 𝓤 H A mem run .pre to)) asked $ frame ! $ done !
 
   -- of the callee's `ensured`, the clause alone: it has no `&mut`, so what is said of last values is dropped
-  said : (r : Held) → ent 𝓤 (ensured 𝓤 H A held-reading.ended (held-reading.clauses 𝓤 H A mem run) κs a tt r) (fact 𝓤 (heldIs r ≡ found))
+  said : (r : HeldPlace) → ent 𝓤 (ensured 𝓤 H A held-reading.ended (held-reading.clauses 𝓤 H A mem run) κs a tt r) (fact 𝓤 (heldIs r ≡ found))
   said r = exE 𝓤 _ (λ ws. snd∗ 𝓤 (sem 𝓤 H A (lasts held-reading.ended κs a ws)) (fact 𝓤 (heldIs r ≡ found)))
 
-  exits : (r : Held) (u : Val) → heldIs r ≡ found → ent 𝓤 (⋆ 𝓤 H A (‵ (S.the-row .own r (u ∷ [])) ∷ Alive ∷ ‵ (Own κs d) ∷ [])) (Post u)
+  exits : (r : HeldPlace) (u : Val) → heldIs r ≡ found → ent 𝓤 (⋆ 𝓤 H A (‵ (S.the-row .own r (u ∷ [])) ∷ Alive ∷ ‵ (Own κs d) ∷ [])) (Post u)
   exits r u e =
       qed W (‵ (S.the-row .own r (u ∷ [])) ∷ Alive ∷ ‵ (Own κs d) ∷ []) ∵
       suffices ! _ (ends-at 𝓤 H A read.ended stayed (read.clauses 𝓤 H A mem run) W ((κs, (q, (q′, (q″, tt))), tt, (d, (t, tt)), at), tt) u r (tt, (tt, tt)) (tt, (tt, tt))) $ says ! e $
@@ -144,7 +144,7 @@ module _ {M : Type 1} (𝓤 : URA M) (H : Heap 𝓤) (A : Atoms 𝓤) (W : Given
         calls-at ! fm (HeldReading 𝓤 H A mem run) known to
         (and-then ! (load ! (from ! (stop !)) (look ! 10 refl)) (and-then ! (load ! (from ! (stop !)) (look ! 8 refl)) (and-then ! (load ! (from ! (stop !)) (look ! 6 refl)) (and-then ! (load ! (from ! (stop !)) (look ! 4 refl))
         (and-then ! (load ! (from ! (stop !)) (look ! 2 refl)) (and-then ! (load ! (from ! (stop !)) (look ! 12 refl)) (no-more !))))))) (λ u.
-        use1 W (later (some (λ (r : Held). (Alive ⊛ ‵ (S.the-row .own r (u ∷ []))) ⊛ raw (ensured 𝓤 H A held-reading.ended (held-reading.clauses 𝓤 H A mem run) κs a tt r)))) (id⊢ 𝓤 _) $ await ! tt $ pick ! (λ r.
+        use1 W (later (some (λ (r : HeldPlace). (Alive ⊛ ‵ (S.the-row .own r (u ∷ []))) ⊛ raw (ensured 𝓤 H A held-reading.ended (held-reading.clauses 𝓤 H A mem run) κs a tt r)))) (id⊢ 𝓤 _) $ await ! tt $ pick ! (λ r.
         split ! $ move ! (1 ∷ []) $ use1 W (raw (fact 𝓤 (heldIs r ≡ found))) (said r) $ heard ! (heldIs r ≡ found) (λ e. split ! $ move ! (1 ∷ []) $
         -- [the result; the tokens; what is kept; _7; …; _6; …; _5; …; _4; …; _3; …; _2; …; _1; …; room for _0; …]
         peeks ! S.the-row (Is S.the-row) (shows 𝓤 H A S.the-row) r (u ∷ []) (λ is.

@@ -12,7 +12,7 @@ use Rattle.run.specs.Readings.{readingAt}
 use Rattle.run.specs.Walks.{outputs, Walked}
 use Rattle.run.proofs.Walking.{stands-first, stands-level, walked-all}
 use Rattle.cell.specs.declared.Cell.{Cell}
-use Rattle.track.specs.span.Runs.{Run, Runs, saysOn}
+use Rattle.track.specs.span.Runs.{Run, Runs, entryOn}
 use Rattle.track.proofs.span.Cuts.{uncut, cut-reads, cut-turns, cut-inside}
 use borrow.Author.Needs.{needs}
 use Rattle.track.proofs.span.fill.fill_cell.Statement.{statement}
@@ -45,7 +45,7 @@ returns c =
     let a = b .args in
     let o = outputs (a .outtimes .now) (a .outvalues .now) (a .outmarks .now) in
     let w : ℕ → Entry = λ j. entryIs (a .here) in
-    subst (λ (d : Cell). Walked (saysOn (a .times .now) (a .values .now) (a .marks .now) (a .ends .now) d (entryIs (a .here))) (a .k) (a .hi) (a .room) (a .n) o o (record { key = a .hi; last = a .here; count = a .n; done = true }))
+    subst (λ (d : Cell). Walked (entryOn (a .times .now) (a .values .now) (a .marks .now) (a .ends .now) d (entryIs (a .here))) (a .k) (a .hi) (a .room) (a .n) o o (record { key = a .hi; last = a .here; count = a .n; done = true }))
     (sym (c .enum-told .given .1)) (walked-all (stands-level w (a .k) (a .room) (a .n) o (b .pre .1 .1) (stands-first w (a .k) (a .room) (a .n) o (b .pre .1 .1) (entryIs (a .here)) refl) (b .pre .0 .order) (λ j x y. refl)) refl)
 
 clip-begin-requires : tie.Need-clip-begin-requires
@@ -123,7 +123,7 @@ returns-2 c =
     let o = f .fill-changes .last .1 .1 .1 .1 .1 .1 .1 .1 in
     let p = outputs (a .outtimes .now) (a .outvalues .now) (a .outmarks .now) in
     let q = outputs (o .0) (o .1 .0) (o .1 .1 .0) in
-    subst (λ (d : Cell). Walked (saysOn (a .times .now) (a .values .now) (a .marks .now) (a .ends .now) d (entryIs (a .here))) (a .k) (a .hi) (a .room) (a .n) p q r)
+    subst (λ (d : Cell). Walked (entryOn (a .times .now) (a .values .now) (a .marks .now) (a .ends .now) d (entryIs (a .here))) (a .k) (a .hi) (a .room) (a .n) p q r)
     (sym (g .1))
     (uncut (a .times .now) (a .values .now) (a .marks .now) (a .ends .now) (g .0 .0) (e .before .clip-begin .result) (e .clip-end .result) (e .before .clip-begin .ensures) (e .clip-end .ensures)
     (λ (ts vs : List Float) (ms : List ℕ). Walked (readingAt ts vs ms (g .0 .1 .0)) (a .k) (a .hi) (a .room) (a .n) p q r)

@@ -8,9 +8,9 @@ use lib.Ieee.{Float}
 use Rattle.definitions.specs.declared.Knot.{Knot}
 use Rattle.cell.specs.step.Entries.{entryIs}
 use Rattle.run.specs.Walks.{outputs, Walked}
-use Rattle.run.specs.Passages.{passingAt, Passing}
-use Rattle.track.specs.declared.span.Way.{Way}
-use Rattle.track.specs.span.Runs.{PastRun, Goes, saysBy}
+use Rattle.run.specs.Runs.{passingAt, Passing}
+use Rattle.track.specs.declared.span.ReadBy.{ReadBy}
+use Rattle.track.specs.span.Runs.{PastRun, SpanIs, entryBy}
 use Rattle.track.proofs.span.Cuts.{uncut, recut}
 use borrow.Author.Needs.{needs}
 use Rattle.track.proofs.span.fill.fill_in.Statement.{statement}
@@ -32,7 +32,7 @@ pair c = let g = c .before .way2 .given .0 .1 .1 .0 in (g .a, g .b)
 run : (c : tie.After-known-told2) → PastRun (entry c .args .times .now) (entry c .args .values .now) (entry c .args .marks .now) (entry c .args .ends .now) (clip c) (pair c) (floor c) (entryIs (entry c .args .s .here)) (entry c .args .k) (entry c .args .s .hi)
 run c =
     let a = entry c .args in
-    subst (λ (d : Way). Goes (a .times .now) (a .values .now) (a .marks .now) (a .ends .now) d (entryIs (a .s .here)) (a .k) (a .s .hi)) (c .before .way2 .given .1) (entry c .pre .1 .0)
+    subst (λ (d : ReadBy). SpanIs (a .times .now) (a .values .now) (a .marks .now) (a .ends .now) d (entryIs (a .s .here)) (a .k) (a .s .hi)) (c .before .way2 .given .1) (entry c .pre .1 .0)
 
 inside : (c : tie.After-clip-end) → (c .before .clip-begin .result ≤ c .clip-end .result) × (c .clip-end .result ≤ length (entry (c .before .before) .args .times .now)) × (c .clip-end .result ≤ length (entry (c .before .before) .args .values .now)) × (c .clip-end .result ≤ length (entry (c .before .before) .args .marks .now))
 inside c =
@@ -54,7 +54,7 @@ fill-cell-requires c κs =
     let s = t .before .before .before .before .before .before .before .before .before .before .before in
     let a = s .args in
     let g = t .before .way .given in
-    (s .pre .0, (subst (λ (d : Way). Goes (a .times .now) (a .values .now) (a .marks .now) (a .ends .now) d (entryIs (a .s .here)) (a .k) (a .s .hi)) (g .1) (s .pre .1 .0), s .pre .1 .1))
+    (s .pre .0, (subst (λ (d : ReadBy). SpanIs (a .times .now) (a .values .now) (a .marks .now) (a .ends .now) d (entryIs (a .s .here)) (a .k) (a .s .hi)) (g .1) (s .pre .1 .0), s .pre .1 .1))
 
 enum-known-way-2 : tie.Need-enum-known-way-2
 enum-known-way-2 c = search needs
@@ -65,41 +65,41 @@ clip-begin-requires c κs = run c .clip
 clip-end-requires : tie.Need-clip-end-requires
 clip-end-requires c κs = run (c .before) .clip
 
-mul-fill-passed : tie.Need-mul-fill-passed
-mul-fill-passed c = let h = inside c in omega (arith, entry (c .before .before) .good)
+mul-fill-run : tie.Need-mul-fill-run
+mul-fill-run c = let h = inside c in omega (arith, entry (c .before .before) .good)
 
-sub-fill-passed : tie.Need-sub-fill-passed
-sub-fill-passed c = inside c .0
+sub-fill-run : tie.Need-sub-fill-run
+sub-fill-run c = inside c .0
 
-part-fill-passed-start : tie.Need-part-fill-passed-start
-part-fill-passed-start c = inside c .0
+part-fill-run-start : tie.Need-part-fill-run-start
+part-fill-run-start c = inside c .0
 
-part-fill-passed-end : tie.Need-part-fill-passed-end
-part-fill-passed-end c = let h = inside c in search needs
+part-fill-run-end : tie.Need-part-fill-run-end
+part-fill-run-end c = let h = inside c in search needs
 
-mul-fill-passed-2 : tie.Need-mul-fill-passed-2
-mul-fill-passed-2 c = let h = inside (c .before) in omega (arith, entry (c .before .before .before) .good)
+mul-fill-run-2 : tie.Need-mul-fill-run-2
+mul-fill-run-2 c = let h = inside (c .before) in omega (arith, entry (c .before .before .before) .good)
 
-sub-fill-passed-2 : tie.Need-sub-fill-passed-2
-sub-fill-passed-2 c = inside (c .before) .0
+sub-fill-run-2 : tie.Need-sub-fill-run-2
+sub-fill-run-2 c = inside (c .before) .0
 
-part-fill-passed-start-2 : tie.Need-part-fill-passed-start-2
-part-fill-passed-start-2 c = inside (c .before) .0
+part-fill-run-start-2 : tie.Need-part-fill-run-start-2
+part-fill-run-start-2 c = inside (c .before) .0
 
-part-fill-passed-end-2 : tie.Need-part-fill-passed-end-2
-part-fill-passed-end-2 c = let h = inside (c .before) in search needs
+part-fill-run-end-2 : tie.Need-part-fill-run-end-2
+part-fill-run-end-2 c = let h = inside (c .before) in search needs
 
-sub-fill-passed-3 : tie.Need-sub-fill-passed-3
-sub-fill-passed-3 c = inside (c .before .before) .0
+sub-fill-run-3 : tie.Need-sub-fill-run-3
+sub-fill-run-3 c = inside (c .before .before) .0
 
-part-fill-passed-start-3 : tie.Need-part-fill-passed-start-3
-part-fill-passed-start-3 c = inside (c .before .before) .0
+part-fill-run-start-3 : tie.Need-part-fill-run-start-3
+part-fill-run-start-3 c = inside (c .before .before) .0
 
-part-fill-passed-end-3 : tie.Need-part-fill-passed-end-3
-part-fill-passed-end-3 c = let h = inside (c .before .before) in search needs
+part-fill-run-end-3 : tie.Need-part-fill-run-end-3
+part-fill-run-end-3 c = let h = inside (c .before .before) in search needs
 
-fill-passed-requires : tie.Need-fill-passed-requires
-fill-passed-requires c κs =
+fill-run-requires : tie.Need-fill-run-requires
+fill-run-requires c κs =
     let e = c .before .before .before .before .before .before in
     let t = e .before .before in
     let a = entry t .args in (
@@ -123,7 +123,7 @@ returns c =
     let t = f .before .before .before .before in
     let a = t .before .before .before .before .before .before .before .before .before .before .before .args in
     let o = f .fill-cell .last .1 .1 .1 .1 .1 .1 .1 .1 .1 .1 in
-    subst (λ (d : Way). Walked (saysBy (a .times .now) (a .values .now) (a .marks .now) (a .ends .now) d (entryIs (a .s .here))) (a .k) (a .s .hi) (a .room) (a .n) (outputs (a .outtimes .now) (a .outvalues .now) (a .outmarks .now)) (outputs (o .0) (o .1 .0) (o .1 .1 .0)) (f .fill-cell .result))
+    subst (λ (d : ReadBy). Walked (entryBy (a .times .now) (a .values .now) (a .marks .now) (a .ends .now) d (entryIs (a .s .here))) (a .k) (a .s .hi) (a .room) (a .n) (outputs (a .outtimes .now) (a .outvalues .now) (a .outmarks .now)) (outputs (o .0) (o .1 .0) (o .1 .1 .0)) (f .fill-cell .result))
     (sym (t .before .way .given .1)) (f .fill-cell .ensures)
 
 same-length-4 : tie.Need-same-length-4
@@ -141,15 +141,15 @@ returns-2 c =
     let e = f .before .before .before .before .before .before .before in
     let t = e .before .before in
     let a = entry t .args in
-    let r = f .fill-passed .result in
-    let o = f .fill-passed .last .1 .1 .1 .1 .1 .1 .1 .1 .1 .1 .1 in
+    let r = f .fill-run .result in
+    let o = f .fill-run .last .1 .1 .1 .1 .1 .1 .1 .1 .1 .1 .1 in
     let p = outputs (a .outtimes .now) (a .outvalues .now) (a .outmarks .now) in
     let q = outputs (o .0) (o .1 .0) (o .1 .1 .0) in
-    subst (λ (d : Way). Walked (saysBy (a .times .now) (a .values .now) (a .marks .now) (a .ends .now) d (entryIs (a .s .here))) (a .k) (a .s .hi) (a .room) (a .n) p q r)
+    subst (λ (d : ReadBy). Walked (entryBy (a .times .now) (a .values .now) (a .marks .now) (a .ends .now) d (entryIs (a .s .here))) (a .k) (a .s .hi) (a .room) (a .n) p q r)
     (sym (t .before .way2 .given .1))
     (uncut (a .times .now) (a .values .now) (a .marks .now) (a .ends .now) (clip t) (e .before .clip-begin .result) (e .clip-end .result) (e .before .clip-begin .ensures) (e .clip-end .ensures)
     (λ (ts vs : List Float) (ms : List ℕ). Walked (passingAt ts vs ms (pair t) (floor t)) (a .k) (a .s .hi) (a .room) (a .n) p q r)
-    (f .fill-passed .ensures))
+    (f .fill-run .ensures))
 
 pub fill-in-spec : {M : Type 1} → statement M
 fill-in-spec =
@@ -160,18 +160,18 @@ fill-in-spec =
     enum-known-way-2
     clip-begin-requires
     clip-end-requires
-    mul-fill-passed
-    sub-fill-passed
-    part-fill-passed-start
-    part-fill-passed-end
-    mul-fill-passed-2
-    sub-fill-passed-2
-    part-fill-passed-start-2
-    part-fill-passed-end-2
-    sub-fill-passed-3
-    part-fill-passed-start-3
-    part-fill-passed-end-3
-    fill-passed-requires
+    mul-fill-run
+    sub-fill-run
+    part-fill-run-start
+    part-fill-run-end
+    mul-fill-run-2
+    sub-fill-run-2
+    part-fill-run-start-2
+    part-fill-run-end-2
+    sub-fill-run-3
+    part-fill-run-start-3
+    part-fill-run-end-3
+    fill-run-requires
     same-length
     same-length-2
     same-length-3

@@ -1,0 +1,102 @@
+// What every way to a set ends with: its lists are in their order, and 2, 4, 5, 9 may still refuse it.
+use crate::ClipSet;
+use crate::Parsed;
+use crate::storage;
+use definitions::Default;
+use definitions::Missing;
+ghost use mathlib.Core.Path.{_≡_};
+ghost use Rattle.definitions.specs.ClipSet.{nanDefault};
+ghost use Rattle.definitions.specs.Retime.{sorted};
+ghost use Rattle.laws.specs.cell.Lent.{setOf};
+ghost use Rattle.clip.specs.Storing.{Fitting, Stores, Refuses, listsNumber};
+
+// A refusal carries its number alone; the set beside it is empty.
+pub fn refused(number: u8) -> Parsed
+    ensures { λ r. ⌜ Refuses number r ⌝ }
+{
+    let set = crate::empty();
+    Parsed { number, set }
+}
+
+// A NaN under the mark of a value.
+pub fn is_nan_default(default: Default) -> bool
+    ensures { λ r. ⌜ r ≡ nanDefault default ⌝ }
+{
+    if default.mark == 0 {
+        return default.value != default.value;
+    }
+    false
+}
+
+fn lists_number(times: &[f64], xs: &[f64], blocks: &[f64], default: Default) -> u8
+    ensures { λ r. ⌜ r ≡ listsNumber (now (times .entry)) (now (xs .entry)) (now (blocks .entry)) default ⌝ }
+{
+    if lists::any_unstorable(times) {
+        return 2;
+    }
+    if lists::any_unstorable(xs) {
+        return 2;
+    }
+    if lists::any_unstorable(blocks) {
+        return 2;
+    }
+    if lists::two_equal(times) {
+        return 4;
+    }
+    if lists::three_equal(xs) {
+        return 5;
+    }
+    if 2 < default.mark {
+        return 9;
+    }
+    0
+}
+
+pub fn check_and_store(
+    clips: u64,
+    times: &[f64],
+    numbers: &[u64],
+    xs: &[f64],
+    ys: &[f64],
+    blocks: &[f64],
+    manifest: Missing,
+) -> Parsed
+    requires { ⌜ Fitting (now times) (now numbers) (now xs) (now ys) (now blocks) ⌝ }
+    ensures { λ r. ⌜ Stores (setOf clips (now (times .entry)) (now (numbers .entry)) (now (xs .entry)) (now (ys .entry)) (now (blocks .entry)) manifest) r ⌝ }
+{
+    let default = manifest.default;
+    let number = lists_number(times, xs, blocks, default);
+    if number != 0 {
+        return refused(number);
+    }
+    let active = storage::pack_active(times, numbers);
+    let knots = storage::pack_knots(xs, ys);
+    let blocks = storage::pack_blocks(blocks);
+    let set = ClipSet {
+        clips,
+        active,
+        knots,
+        blocks,
+        default,
+        interpolate: manifest.interpolate,
+    };
+    Parsed { number: 0, set }
+}
+
+// The same of lists in any order.
+pub fn sort_check_and_store(
+    clips: u64,
+    times: &mut [f64],
+    numbers: &mut [u64],
+    xs: &mut [f64],
+    ys: &mut [f64],
+    blocks: &[f64],
+    manifest: Missing,
+) -> Parsed
+    requires { ⌜ Fitting (now times) (now numbers) (now xs) (now ys) (now blocks) ⌝ }
+    ensures { λ r. ⌜ Stores (sorted (setOf clips (now (times .entry)) (now (numbers .entry)) (now (xs .entry)) (now (ys .entry)) (now (blocks .entry)) manifest)) r ⌝ }
+{
+    lists::sorting::sort_starts(times, numbers);
+    lists::sorting::sort_knots(xs, ys);
+    check_and_store(clips, times, numbers, xs, ys, blocks, manifest)
+}

@@ -1,0 +1,107 @@
+-- `track::span::span_at` meets its contract: in the window of k a run, or else the cell. Assumes nothing.
+use mathlib.Core.Path.{sym, subst, _∙_}
+use mathlib.Core.Bool.{_&&_}
+use native.Mathlib.Omega.{arith}
+use lib.Dec.{eqb, ltb}
+use lib.ListN.{length}
+use lib.Ieee.{Float}
+use borrow.Author.Tests.{eqb-true, ltb-true}
+use Rattle.gf.specs.Key.{ofKey}
+use Rattle.gf.proofs.KeyLaws.{ofKey-fits, ofKey-finite}
+use Rattle.definitions.specs.Doubles.{FiniteDouble}
+use Rattle.laws.proofs.list.Tests.{holds, is-true}
+use Rattle.laws.proofs.cell.Every.{both-l, both-r}
+use Rattle.value.proofs.Handed.{window-lent, window-nears}
+use Rattle.cell.specs.WindowPlaces.{PlaceAt}
+use Rattle.cell.proofs.Lent.{spot-window}
+use Rattle.run.specs.begin.Begins.{RunBeginIs}
+use Rattle.track.proofs.span.Onsets.{window-least}
+use borrow.Author.Needs.{needs}
+use Rattle.track.proofs.span.span_at.Statement.{statement}
+use Rattle.track.proofs.span.span_at.Tie as tie
+
+abbrev entry : tie.After-place-at → tie.Start
+entry c = c .before .before .before .before .before .before .before .before .before .before .before .before
+
+finite-key : (a : tie.Start) → FiniteDouble (ofKey (a .args .k))
+finite-key a = let K = a .pre .1 .1 .1 in record { fitting = ofKey-fits (a .args .k); finitely = ofKey-finite (a .args .k) (K .low) (omega (arith, K .order, K .high)) }
+
+-- the spot is that of k
+spot : (c : tie.After-place-at) → PlaceAt (entry c .args .starts .now) (entry c .args .clips .now) (entry c .args .xs .now) (entry c .args .ys .now) (entry c .args .blocks .now) (entry c .args .m) (entry c .args .times .now) (entry c .args .values .now) (entry c .args .marks .now) (entry c .args .ends .now) (ofKey (entry c .args .k)) (c .place-at .result .p) (c .place-at .result .w)
+spot c =
+    let a = entry c .args in
+    subst (λ (t : Float). PlaceAt (a .starts .now) (a .clips .now) (a .xs .now) (a .ys .now) (a .blocks .now) (a .m) (a .times .now) (a .values .now) (a .marks .now) (a .ends .now) t (c .place-at .result .p) (c .place-at .result .w)) (c .before .of-key .ensures) (c .place-at .ensures)
+
+of-key-requires : tie.Need-of-key-requires
+of-key-requires c κs = search needs
+
+place-at-requires : tie.Need-place-at-requires
+place-at-requires c κs = let a = c .before .before .before .before .before .before .before .before .before .before .before in (a .pre .0, (a .pre .1 .1 .0, subst FiniteDouble (sym (c .of-key .ensures)) (finite-key a)))
+
+is-plain-requires : tie.Need-is-plain-requires
+is-plain-requires c κs = search needs
+
+plain-step-requires : tie.Need-plain-step-requires
+plain-step-requires c κs =
+    let q = c .before .before in
+    let a = entry q in
+    let b = holds (ltb 1 (length (a .args .starts .now)) && eqb (length (a .args .xs .now)) 0) (sym (c .before .is-plain .ensures) ∙ c .if1 .taken) in
+    let m = both-l (ltb 1 (length (a .args .starts .now))) (eqb (length (a .args .xs .now)) 0) b in
+    let e = both-r (ltb 1 (length (a .args .starts .now))) (eqb (length (a .args .xs .now)) 0) b in
+    (a .pre .0, (spot q, (a .pre .1 .1 .1, (eqb-true _ 0 (is-true _ e), ltb-true 1 _ (is-true _ m)))))
+
+returns : tie.Need-returns
+returns c = search needs
+
+run-begin-requires : tie.Need-run-begin-requires
+run-begin-requires c κs =
+    let q = c .before .before .before .before in
+    let a = entry q in
+    let n = c .before .if2 .taken in
+    let f = subst FiniteDouble (sym (q .before .of-key .ensures)) (finite-key a) in
+    let W = spot-window (a .pre .0) (q .before .of-key .result) f (q .place-at .result .p) (q .place-at .result .w) (q .place-at .ensures) (omega arith) in (
+      window-nears (a .pre .0) (q .place-at .result .p) (q .place-at .result .w) W (q .before .of-key .result) (q .place-at .ensures .place (omega arith)) f (a .args .tops .now) (a .pre .1 .0),
+      (window-lent (a .pre .0) (q .place-at .result .p) (q .place-at .result .w) W, window-least (a .pre .0) (q .place-at .result .p) (q .place-at .result .w) W),
+    )
+
+enum-known-found : tie.Need-enum-known-found
+enum-known-found c = search needs
+
+run-step-requires : tie.Need-run-step-requires
+run-step-requires c κs =
+    let o = c .before .before .before in
+    let q = o .before .before .before .before .before in
+    let a = entry q in
+    let g = c .before .found .given in
+    let x = subst (λ (t : Float). RunBeginIs (a .args .xs .now) (a .args .ys .now) (a .args .tops .now) (a .args .times .now) (q .place-at .result .w) t (o .run-begin .result)) (q .before .of-key .ensures) (o .run-begin .ensures) in
+    let y = subst (RunBeginIs (a .args .xs .now) (a .args .ys .now) (a .args .tops .now) (a .args .times .now) (q .place-at .result .w) (ofKey (a .args .k))) (g .1) x in
+    (a .pre .0, (spot q, (o .before .before .if2 .taken, (y .0, (y .1, a .pre .1 .1 .1)))))
+
+returns-2 : tie.Need-returns-2
+returns-2 c = search needs
+
+enum-told : tie.Need-enum-told
+enum-told c = search needs
+
+cell-step-requires : tie.Need-cell-step-requires
+cell-step-requires c κs = let q = c .before .before .before in let a = entry q in (a .pre .0, (a .pre .1 .0, (spot q, a .pre .1 .1 .1)))
+
+returns-3 : tie.Need-returns-3
+returns-3 c = search needs
+
+pub span-at-spec : {M : Type 1} → statement M
+span-at-spec =
+    tie.close
+    (tie.spec
+    of-key-requires
+    place-at-requires
+    is-plain-requires
+    plain-step-requires
+    returns
+    run-begin-requires
+    enum-known-found
+    run-step-requires
+    returns-2
+    enum-told
+    cell-step-requires
+    returns-3)
