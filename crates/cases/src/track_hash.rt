@@ -94,12 +94,12 @@ fn walk_page(
     values: &[f64],
     marks: &[u8],
     ends: &[u64],
-    tops: &[f64],
+    latest: &[f64],
     from: Cursor,
     hash: u64,
 ) -> Page
     requires { ⌜ AcceptedLists (now starts) (now clips) (now xs) (now ys) (now blocks) m (now times) (now values) (now marks) (now ends) ⌝ }
-    requires { ⌜ LatestOf (now xs) (now ys) (now tops) ⌝ }
+    requires { ⌜ LatestOf (now xs) (now ys) (now latest) ⌝ }
     requires { ⌜ CursorIs (now starts) (now clips) (now xs) (now ys) (now blocks) m (now times) (now values) (now marks) (now ends) Key.most from ⌝ }
     ensures { λ r. ⌜ PageIs (now (starts .entry)) (now (clips .entry)) (now (xs .entry)) (now (ys .entry)) (now (blocks .entry)) m (now (times .entry)) (now (values .entry)) (now (marks .entry)) (now (ends .entry)) (from .key) Key.most (r .filled) ⌝ }
 {
@@ -117,7 +117,7 @@ fn walk_page(
         values,
         marks,
         ends,
-        tops,
+        latest,
         from,
         MOST,
         &mut pagetimes,
@@ -145,12 +145,12 @@ fn walk(
     requires { ⌜ AcceptedLists (now starts) (now clips) (now xs) (now ys) (now blocks) m (now times) (now values) (now marks) (now ends) ⌝ }
     requires { ⌜ entryIs head ≡ entryAtKey (setOf (length (now ends)) (now starts) (now clips) (now xs) (now ys) (now blocks) m) (samplesOf (now times) (now values) (now marks) (now ends)) Key.least ⌝ }
 {
-    let tops = latest_inverses(xs, ys);
-    let spot = no_place(starts);
+    let latest = latest_inverses(xs, ys);
+    let place = no_place(starts);
     let mut at = Cursor {
         key: LEAST,
         last: head,
-        spot,
+        place,
     };
     let mut count: u64 = 0;
     let mut hash: u64 = 0xcbf2_9ce4_8422_2325;
@@ -166,7 +166,7 @@ fn walk(
             values,
             marks,
             ends,
-            &tops.items,
+            &latest.items,
             at,
             hash,
         );

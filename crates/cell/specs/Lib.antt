@@ -3,6 +3,6 @@
 pub mod CellAndEnd
 -- The end of a cell by its key
 pub mod EndKeys
--- The spot of a walk
+-- The place of a walk
 pub mod WindowPlaces
 pub mod step

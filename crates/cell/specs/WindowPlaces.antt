@@ -1,4 +1,4 @@
--- The spot of a walk: the window that it is in. Assumes nothing.
+-- The place of a walk: the window that it is in. Assumes nothing.
 use mathlib.Core.Path.{_≡_}
 use mathlib.Core.List.{List}
 use mathlib.Core.Bool.{false, not, _&&_}
@@ -22,10 +22,10 @@ pub record PlaceIs (starts : List Float) (clips : List ℕ) (xs ys blocks : List
 
 -- and, if there are starts, p is the place of the one that is active at t
 pub record PlaceAt (starts : List Float) (clips : List ℕ) (xs ys blocks : List Float) (m : Missing) (times values : List Float) (marks ends : List ℕ) (t : Float) (p : ℕ) (w : Window) : Type 0 where
-  pub spot : PlaceIs starts clips xs ys blocks m times values marks ends p w
+  pub place : PlaceIs starts clips xs ys blocks m times values marks ends p w
   pub place : 0 < length starts → p ≡ lastAtMost starts t
 
--- the start at p comes after the spot's, neither of the two has samples that it contributes
+-- the start at p comes after the place's, neither of the two has samples that it contributes
 pub record Follows (blocks : List Float) (m : Missing) (ends : List ℕ) (start : Float) (clip q : ℕ) (w : Window) (p : ℕ) : Type 0 where
   pub next : p ≡ q + 1
   pub none-before : w .end ≤ w .begin

@@ -74,18 +74,18 @@ fn direct_cell(
     values: &[f64],
     marks: &[u8],
     ends: &[u64],
-    spot: WindowPlace,
+    place: WindowPlace,
     t: f64,
 ) -> Cell
     requires { ⌜ AcceptedLists (now starts) (now clips) (now xs) (now ys) (now blocks) m (now times) (now values) (now marks) (now ends) ⌝ }
-    requires { ⌜ PlaceAt (now starts) (now clips) (now xs) (now ys) (now blocks) m (now times) (now values) (now marks) (now ends) t (spot .p) (spot .w) ⌝ }
+    requires { ⌜ PlaceAt (now starts) (now clips) (now xs) (now ys) (now blocks) m (now times) (now values) (now marks) (now ends) t (place .start) (place .window) ⌝ }
     requires { ⌜ FiniteDouble t ⌝ }
     ensures { λ r. ⌜ DirectIs (setOf (length (now (ends .entry))) (now (starts .entry)) (now (clips .entry)) (now (xs .entry)) (now (ys .entry)) (now (blocks .entry)) m) (samplesOf (now (times .entry)) (now (values .entry)) (now (marks .entry)) (now (ends .entry))) t r ⌝ }
 {
     if starts.len() == 0 {
         return Cell::Constant(Source::Absent);
     }
-    let w = spot.w;
+    let w = place.window;
     if w.begin < w.end {
         return Cell::Reading(w.clip, line_of(xs, ys, t));
     }
@@ -137,13 +137,13 @@ pub fn cell_at(
     values: &[f64],
     marks: &[u8],
     ends: &[u64],
-    tops: &[f64],
-    spot: WindowPlace,
+    latest: &[f64],
+    place: WindowPlace,
     t: f64,
 ) -> CellAndEnd
     requires { ⌜ AcceptedLists (now starts) (now clips) (now xs) (now ys) (now blocks) m (now times) (now values) (now marks) (now ends) ⌝ }
-    requires { ⌜ LatestOf (now xs) (now ys) (now tops) ⌝ }
-    requires { ⌜ PlaceAt (now starts) (now clips) (now xs) (now ys) (now blocks) m (now times) (now values) (now marks) (now ends) t (spot .p) (spot .w) ⌝ }
+    requires { ⌜ LatestOf (now xs) (now ys) (now latest) ⌝ }
+    requires { ⌜ PlaceAt (now starts) (now clips) (now xs) (now ys) (now blocks) m (now times) (now values) (now marks) (now ends) t (place .start) (place .window) ⌝ }
     requires { ⌜ FiniteDouble t ⌝ }
     ensures { λ r. ⌜ CellAndEndIs (setOf (length (now (ends .entry))) (now (starts .entry)) (now (clips .entry)) (now (xs .entry)) (now (ys .entry)) (now (blocks .entry)) m) (samplesOf (now (times .entry)) (now (values .entry)) (now (marks .entry)) (now (ends .entry))) t (r .cell) (r .end) ⌝ }
 {
@@ -159,28 +159,28 @@ pub fn cell_at(
             values,
             marks,
             ends,
-            spot,
+            place,
             t,
         );
         return CellAndEnd {
             cell,
             end: first_above(xs, t),
-            knot: spot.knot,
-            sample: spot.sample,
+            knot: place.knot,
+            sample: place.sample,
         };
     }
-    let w = spot.w;
+    let w = place.window;
     let begin = w.begin;
     let end = w.end;
     let found = near_in(
         xs,
         ys,
-        tops,
+        latest,
         &times[begin..end],
         w,
         t,
-        spot.knot,
-        spot.sample,
+        place.knot,
+        place.sample,
     );
     let upper = found.upper;
     let Bound::At(l) = held_from(xs, ys, found) else {
@@ -195,7 +195,7 @@ pub fn cell_at(
             values,
             marks,
             ends,
-            spot,
+            place,
             t,
         );
         return CellAndEnd {

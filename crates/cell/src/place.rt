@@ -1,4 +1,4 @@
-// A walk's spot: the window that it is in, and where its last search ended. A search that begins there is short.
+// A walk's place: the window that it is in, and where its last search ended. A search that begins there is short.
 use definitions::Missing;
 use definitions::Source;
 use lists::near::last_at_most_near;
@@ -24,15 +24,15 @@ ghost use Rattle.cell.specs.WindowPlaces.{PlaceIs, PlaceAt, Follows};
 
 // The place of a start and its window, and a knot and a sample near which a search begins.
 pub struct WindowPlace {
-    pub p: usize,
-    pub w: Window,
+    pub start: usize,
+    pub window: Window,
     pub knot: usize,
     pub sample: usize,
 }
 
-// The spot of a walk that has not begun: in no window.
+// The place of a walk that has not begun: in no window.
 pub fn no_place(starts: &[f64]) -> WindowPlace
-    ensures { λ r. ⌜ r .p ≡ length (now (starts .entry)) ⌝ }
+    ensures { λ r. ⌜ r .start ≡ length (now (starts .entry)) ⌝ }
 {
     let w = Window {
         start: 0.0,
@@ -44,8 +44,8 @@ pub fn no_place(starts: &[f64]) -> WindowPlace
         gap: Source::Blocked,
     };
     WindowPlace {
-        p: starts.len(),
-        w,
+        start: starts.len(),
+        window: w,
         knot: 0,
         sample: 0,
     }
@@ -62,26 +62,26 @@ fn has_reading(blocks: &[f64], m: Missing, ends: &[u64], start: f64, clip: u64) 
     false
 }
 
-// Whether the start at p comes right after the spot's, and neither of the two has samples to read.
+// Whether the start at p comes right after the place's, and neither of the two has samples to read.
 fn follows(
     blocks: &[f64],
     m: Missing,
     ends: &[u64],
     start: f64,
     clip: u64,
-    spot: WindowPlace,
+    place: WindowPlace,
     p: usize,
 ) -> bool
     requires { ⌜ clip < length (now ends) ⌝ }
-    ensures { λ r. ⌜ ((r ≡ true) → Follows (now (blocks .entry)) m (now (ends .entry)) start clip (spot .p) (spot .w) p) ⌝ }
+    ensures { λ r. ⌜ ((r ≡ true) → Follows (now (blocks .entry)) m (now (ends .entry)) start clip (place .start) (place .window) p) ⌝ }
 {
     if p == 0 {
         return false;
     }
-    if spot.p != p - 1 {
+    if place.start != p - 1 {
         return false;
     }
-    let w = spot.w;
+    let w = place.window;
     if w.begin < w.end {
         return false;
     }
@@ -101,18 +101,18 @@ fn window_after(
     values: &[f64],
     marks: &[u8],
     ends: &[u64],
-    spot: WindowPlace,
+    place: WindowPlace,
     p: usize,
 ) -> Window
     requires { ⌜ AcceptedLists (now starts) (now clips) (now xs) (now ys) (now blocks) m (now times) (now values) (now marks) (now ends) ⌝ }
-    requires { ⌜ PlaceIs (now starts) (now clips) (now xs) (now ys) (now blocks) m (now times) (now values) (now marks) (now ends) (spot .p) (spot .w) ⌝ }
+    requires { ⌜ PlaceIs (now starts) (now clips) (now xs) (now ys) (now blocks) m (now times) (now values) (now marks) (now ends) (place .start) (place .window) ⌝ }
     requires { ⌜ p < length (now starts) ⌝ }
     ensures { λ r. ⌜ WindowIs (now (starts .entry)) (now (clips .entry)) (now (xs .entry)) (now (ys .entry)) (now (blocks .entry)) m (now (times .entry)) (now (values .entry)) (now (marks .entry)) (now (ends .entry)) p r ⌝ }
 {
     let start = starts[p];
     let clip = clips[p];
-    if follows(blocks, m, ends, start, clip, spot, p) {
-        let w = spot.w;
+    if follows(blocks, m, ends, start, clip, place, p) {
+        let w = place.window;
         let gap = w.gap;
         let begin = clip_begin(ends, clip);
         return Window {
@@ -140,7 +140,7 @@ fn window_after(
     )
 }
 
-// The spot moved to the window of t.
+// The place moved to the window of t.
 pub fn place_at(
     starts: &[f64],
     clips: &[u64],
@@ -152,20 +152,20 @@ pub fn place_at(
     values: &[f64],
     marks: &[u8],
     ends: &[u64],
-    spot: WindowPlace,
+    place: WindowPlace,
     t: f64,
 ) -> WindowPlace
     requires { ⌜ AcceptedLists (now starts) (now clips) (now xs) (now ys) (now blocks) m (now times) (now values) (now marks) (now ends) ⌝ }
-    requires { ⌜ PlaceIs (now starts) (now clips) (now xs) (now ys) (now blocks) m (now times) (now values) (now marks) (now ends) (spot .p) (spot .w) ⌝ }
+    requires { ⌜ PlaceIs (now starts) (now clips) (now xs) (now ys) (now blocks) m (now times) (now values) (now marks) (now ends) (place .start) (place .window) ⌝ }
     requires { ⌜ FiniteDouble t ⌝ }
-    ensures { λ r. ⌜ PlaceAt (now (starts .entry)) (now (clips .entry)) (now (xs .entry)) (now (ys .entry)) (now (blocks .entry)) m (now (times .entry)) (now (values .entry)) (now (marks .entry)) (now (ends .entry)) t (r .p) (r .w) ⌝ }
+    ensures { λ r. ⌜ PlaceAt (now (starts .entry)) (now (clips .entry)) (now (xs .entry)) (now (ys .entry)) (now (blocks .entry)) m (now (times .entry)) (now (values .entry)) (now (marks .entry)) (now (ends .entry)) t (r .start) (r .window) ⌝ }
 {
     if starts.len() == 0 {
-        return spot;
+        return place;
     }
-    let p = last_at_most_near(starts, t, spot.p);
-    if p == spot.p {
-        return spot;
+    let p = last_at_most_near(starts, t, place.start);
+    if p == place.start {
+        return place;
     }
     let w = window_after(
         starts,
@@ -178,13 +178,13 @@ pub fn place_at(
         values,
         marks,
         ends,
-        spot,
+        place,
         p,
     );
     WindowPlace {
-        p,
-        w,
-        knot: spot.knot,
+        start: p,
+        window: w,
+        knot: place.knot,
         sample: 0,
     }
 }

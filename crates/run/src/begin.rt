@@ -98,15 +98,15 @@ fn is_below(start: f64, t: f64, h: f64) -> bool
 }
 
 // Whether no inverse time of the segments before the knot at i is above l.
-fn is_past(tops: &[f64], i: usize, l: f64) -> bool
-    ensures { λ r. ⌜ ((r ≡ true) → PastLatest (now (tops .entry)) i l) ⌝ }
+fn is_past(latest: &[f64], i: usize, l: f64) -> bool
+    ensures { λ r. ⌜ ((r ≡ true) → PastLatest (now (latest .entry)) i l) ⌝ }
 {
     if i == 0 {
         return true;
     }
     let before = i - 1;
-    if before < tops.len() {
-        return tops[before] <= l;
+    if before < latest.len() {
+        return latest[before] <= l;
     }
     false
 }
@@ -116,16 +116,16 @@ fn is_past(tops: &[f64], i: usize, l: f64) -> bool
 pub fn run_begin(
     xs: &[f64],
     ys: &[f64],
-    tops: &[f64],
+    latest: &[f64],
     times: &[f64],
     w: Window,
     t: f64,
     knot: usize,
     sample: usize,
 ) -> RunBegin
-    requires { ⌜ Nearing (now xs) (now ys) (now tops) (samplesIn (now times) w) w t ⌝ ∗ ⌜ Lent (now times) w ⌝ }
+    requires { ⌜ Nearing (now xs) (now ys) (now latest) (samplesIn (now times) w) w t ⌝ ∗ ⌜ Lent (now times) w ⌝ }
     requires { ⌜ (w .min ≡ inf true) ⊎ (w .min ≡ w .start) ⌝ }
-    ensures { λ r. ⌜ RunBeginIs (now (xs .entry)) (now (ys .entry)) (now (tops .entry)) (now (times .entry)) w t r ⌝ }
+    ensures { λ r. ⌜ RunBeginIs (now (xs .entry)) (now (ys .entry)) (now (latest .entry)) (now (times .entry)) w t r ⌝ }
 {
     let begin = w.begin;
     let end = w.end;
@@ -142,12 +142,12 @@ pub fn run_begin(
     if !is_below(w.start, t, h) {
         return RunBegin::Nothing;
     }
-    let near = near_in(xs, ys, tops, &times[begin..end], w, t, i, sample);
+    let near = near_in(xs, ys, latest, &times[begin..end], w, t, i, sample);
     let lower = near.lower;
     let Bound::At(l) = lower else {
         return RunBegin::Nothing;
     };
-    if !is_past(tops, i, l) {
+    if !is_past(latest, i, l) {
         return RunBegin::Nothing;
     }
     RunBegin::At(i, l, h, near.sample)

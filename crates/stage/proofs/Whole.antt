@@ -81,8 +81,8 @@ module _ {starts : List Float} {clips : List ℕ} {xs ys times : List Float} {en
 
   -- the premises of a search
   module _ (t : Float) (at : p ≡ lastAtMost starts t) (ft : FiniteDouble t) where
-    pub whole-nears : (tops : List Float) → LatestOf xs ys tops → Nearing xs ys tops (samplesIn times w) w t
-    whole-nears tops O = record {
+    pub whole-nears : (latest : List Float) → LatestOf xs ys latest → Nearing xs ys latest (samplesIn times w) w t
+    whole-nears latest O = record {
       knots = A .readable .knots;
       paired = A .readable .paired;
       segments = A .readable .segments;

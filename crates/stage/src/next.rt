@@ -60,7 +60,7 @@ fn search_window(
     clips: &[u64],
     xs: &[f64],
     ys: &[f64],
-    tops: &[f64],
+    latest: &[f64],
     times: &[f64],
     ends: &[u64],
     p: usize,
@@ -68,13 +68,13 @@ fn search_window(
     knot: usize,
     sample: usize,
 ) -> Near
-    requires { ⌜ Windows (now starts) (now clips) (now xs) (now ys) (now times) (now ends) ⌝ ∗ ⌜ LatestOf (now xs) (now ys) (now tops) ⌝ ∗ ⌜ p ≡ lastAtMost (now starts) t ⌝ ∗ ⌜ p < length (now starts) ⌝ ∗ ⌜ T (finite t) ⌝ }
+    requires { ⌜ Windows (now starts) (now clips) (now xs) (now ys) (now times) (now ends) ⌝ ∗ ⌜ LatestOf (now xs) (now ys) (now latest) ⌝ ∗ ⌜ p ≡ lastAtMost (now starts) t ⌝ ∗ ⌜ p < length (now starts) ⌝ ∗ ⌜ T (finite t) ⌝ }
     ensures { λ r. ⌜ UpperIs (wholeTimes (now (starts .entry)) (now (clips .entry)) (now (xs .entry)) (now (ys .entry)) (now (times .entry)) (now (ends .entry)) p ++ nextStart (now (starts .entry)) p) t (r .upper) ⌝ }
 {
     let w = whole_window(starts, clips, ends, p);
     let begin = w.begin;
     let end = w.end;
-    near_in(xs, ys, tops, &times[begin..end], w, t, knot, sample)
+    near_in(xs, ys, latest, &times[begin..end], w, t, knot, sample)
 }
 
 // The first stage sample time above `t`. The hints are any numbers.
@@ -89,13 +89,13 @@ pub fn next_time(
     values: &[f64],
     marks: &[u8],
     ends: &[u64],
-    tops: &[f64],
+    latest: &[f64],
     t: f64,
     place: usize,
     knot: usize,
     sample: usize,
 ) -> Next
-    requires { ⌜ AcceptedLists (now starts) (now clips) (now xs) (now ys) (now blocks) m (now times) (now values) (now marks) (now ends) ⌝ ∗ ⌜ LatestOf (now xs) (now ys) (now tops) ⌝ ∗ ⌜ T (finite t) ⌝ }
+    requires { ⌜ AcceptedLists (now starts) (now clips) (now xs) (now ys) (now blocks) m (now times) (now values) (now marks) (now ends) ⌝ ∗ ⌜ LatestOf (now xs) (now ys) (now latest) ⌝ ∗ ⌜ T (finite t) ⌝ }
     ensures { λ r. ⌜ NextTime (setOf (length (now (ends .entry))) (now (starts .entry)) (now (clips .entry)) (now (xs .entry)) (now (ys .entry)) (now (blocks .entry)) m) (samplesOf (now (times .entry)) (now (values .entry)) (now (marks .entry)) (now (ends .entry))) t (r .time) ⌝ }
 {
     if starts.len() == 0 {
@@ -107,7 +107,19 @@ pub fn next_time(
         };
     }
     let p = lists::near::last_at_most_near(starts, t, place);
-    let found = search_window(starts, clips, xs, ys, tops, times, ends, p, t, knot, sample);
+    let found = search_window(
+        starts,
+        clips,
+        xs,
+        ys,
+        latest,
+        times,
+        ends,
+        p,
+        t,
+        knot,
+        sample,
+    );
     let upper = found.upper;
     let time = with_zero(starts, clips, xs, times, ends, upper);
     Next {

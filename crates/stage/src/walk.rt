@@ -27,10 +27,10 @@ pub fn fits(
     values: &[f64],
     marks: &[u8],
     ends: &[u64],
-    tops: &[f64],
+    latest: &[f64],
     room: usize,
 ) -> bool
-    requires { ⌜ AcceptedLists (now starts) (now clips) (now xs) (now ys) (now blocks) m (now times) (now values) (now marks) (now ends) ⌝ ∗ ⌜ LatestOf (now xs) (now ys) (now tops) ⌝ }
+    requires { ⌜ AcceptedLists (now starts) (now clips) (now xs) (now ys) (now blocks) m (now times) (now values) (now marks) (now ends) ⌝ ∗ ⌜ LatestOf (now xs) (now ys) (now latest) ⌝ }
     ensures { λ r. ⌜ r ≡ leb (length (stageSampleTimes (setOf (length (now (ends .entry))) (now (starts .entry)) (now (clips .entry)) (now (xs .entry)) (now (ys .entry)) (now (blocks .entry)) m) (samplesOf (now (times .entry)) (now (values .entry)) (now (marks .entry)) (now (ends .entry))))) room ⌝ }
 {
     let mut t = BEFORE_ALL;
@@ -50,7 +50,7 @@ pub fn fits(
             values,
             marks,
             ends,
-            tops,
+            latest,
             t,
             place,
             knot,
@@ -83,10 +83,10 @@ pub fn write_times(
     values: &[f64],
     marks: &[u8],
     ends: &[u64],
-    tops: &[f64],
+    latest: &[f64],
     out: &mut [f64],
 ) -> usize
-    requires { ⌜ AcceptedLists (now starts) (now clips) (now xs) (now ys) (now blocks) m (now times) (now values) (now marks) (now ends) ⌝ ∗ ⌜ LatestOf (now xs) (now ys) (now tops) ⌝ ∗ ⌜ length (stageSampleTimes (setOf (length (now ends)) (now starts) (now clips) (now xs) (now ys) (now blocks) m) (samplesOf (now times) (now values) (now marks) (now ends))) ≤ length (now out) ⌝ }
+    requires { ⌜ AcceptedLists (now starts) (now clips) (now xs) (now ys) (now blocks) m (now times) (now values) (now marks) (now ends) ⌝ ∗ ⌜ LatestOf (now xs) (now ys) (now latest) ⌝ ∗ ⌜ length (stageSampleTimes (setOf (length (now ends)) (now starts) (now clips) (now xs) (now ys) (now blocks) m) (samplesOf (now times) (now values) (now marks) (now ends))) ≤ length (now out) ⌝ }
     ensures { λ r. ⌜ (r ≡ length (stageSampleTimes (setOf (length (now (ends .entry))) (now (starts .entry)) (now (clips .entry)) (now (xs .entry)) (now (ys .entry)) (now (blocks .entry)) m) (samplesOf (now (times .entry)) (now (values .entry)) (now (marks .entry)) (now (ends .entry))))) × (now (out .exit) ≡ writtenOver (stageSampleTimes (setOf (length (now (ends .entry))) (now (starts .entry)) (now (clips .entry)) (now (xs .entry)) (now (ys .entry)) (now (blocks .entry)) m) (samplesOf (now (times .entry)) (now (values .entry)) (now (marks .entry)) (now (ends .entry)))) (now (out .entry))) ⌝ }
 {
     let mut t = BEFORE_ALL;
@@ -106,7 +106,7 @@ pub fn write_times(
             values,
             marks,
             ends,
-            tops,
+            latest,
             t,
             place,
             knot,

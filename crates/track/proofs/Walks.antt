@@ -1,4 +1,4 @@
--- The walk over the changes of the value: from stretch to stretch, and what it comes to. Assumes nothing.
+-- The walk over the changes of the value: from span to span, and what it comes to. Assumes nothing.
 use mathlib.Core.Path.{_≡_, refl, sym, ap, ap₂, _∙_}
 use mathlib.Core.Bool.{Bool, true, false}
 use mathlib.Core.List.{List, _∷_}
@@ -66,12 +66,12 @@ slots-some x y z ts vs ms = let e = slots-is (x ∷ ts) (y ∷ vs) (z ∷ ms) in
 module _ {starts : List Float} {clips : List ℕ} {xs ys blocks : List Float} {m : Missing} {times values : List Float} {marks ends : List ℕ} where
   -- what a walk comes to
   pub filled : (from top room : ℕ) → Keys from top → (o p : Outputs) → room ≡ slots o → (g : Went)
-      → Walked (entryAtKey (setOf (length ends) starts clips xs ys blocks m) (samplesOf times values marks ends)) from top room 0 o p g → (spot : WindowPlace) → PlaceIs starts clips xs ys blocks m times values marks ends (spot .p) (spot .w)
-      → FillIs starts clips xs ys blocks m times values marks ends from top o p (record { count = g .count; cursor = record { key = g .key; last = g .last; spot = spot }; done = g .done })
-  filled from top room K o p e g W spot P = record {
+      → Walked (entryAtKey (setOf (length ends) starts clips xs ys blocks m) (samplesOf times values marks ends)) from top room 0 o p g → (place : WindowPlace) → PlaceIs starts clips xs ys blocks m times values marks ends (place .start) (place .window)
+      → FillIs starts clips xs ys blocks m times values marks ends from top o p (record { count = g .count; cursor = record { key = g .key; last = g .last; place = place }; done = g .done })
+  filled from top room K o p e g W place P = record {
     passed = record {
       order = W .stands .from;
-      cursor = record { keys = record { low = let a = W .stands .from in omega (arith, K .low); order = W .upto; high = K .high }; last = W .stands .last; spot = P };
+      cursor = record { keys = record { low = let a = W .stands .from in omega (arith, K .low); order = W .upto; high = K .high }; last = W .stands .last; place = P };
       count = W .stands .count ∙ omega arith;
       whole = W .whole;
       more = λ d. W .more d .1;

@@ -20,7 +20,7 @@ use Rattle.track.specs.declared.fill.Filled.{Filled}
 pub record CursorIs (starts : List Float) (clips : List ℕ) (xs ys blocks : List Float) (m : Missing) (times values : List Float) (marks ends : List ℕ) (top : ℕ) (c : Cursor) : Type 0 where
   pub keys : Keys (c .key) top
   pub last : entryIs (c .last) ≡ entryAtKey (setOf (length ends) starts clips xs ys blocks m) (samplesOf times values marks ends) (c .key)
-  pub spot : PlaceIs starts clips xs ys blocks m times values marks ends (c .spot .p) (c .spot .w)
+  pub place : PlaceIs starts clips xs ys blocks m times values marks ends (c .place .start) (c .place .window)
 
 -- a walk from a key on has passed the changes up to its cursor, so many in number: it came to top, or there are further ones up to there
 pub record PassedTo (starts : List Float) (clips : List ℕ) (xs ys blocks : List Float) (m : Missing) (times values : List Float) (marks ends : List ℕ) (from top : ℕ) (r : Filled) : Type 0 where

@@ -1,5 +1,5 @@
 -- What contracts cite.
--- The stretch of keys in one cell
+-- The span of keys in one cell
 pub mod Runs
 -- The cell of a window without knots
 pub mod Plains

@@ -74,7 +74,7 @@ fn bake_by_pages(
     values: &[f64],
     marks: &[u8],
     ends: &[u64],
-    tops: &[f64],
+    latest: &[f64],
     from: Cursor,
     pagetimes: &mut [f64],
     pagevalues: &mut [f64],
@@ -84,7 +84,7 @@ fn bake_by_pages(
     outmarks: &mut [u8],
 ) -> Baked
     requires { ⌜ AcceptedLists (now starts) (now clips) (now xs) (now ys) (now blocks) m (now times) (now values) (now marks) (now ends) ⌝ }
-    requires { ⌜ LatestOf (now xs) (now ys) (now tops) ⌝ }
+    requires { ⌜ LatestOf (now xs) (now ys) (now latest) ⌝ }
     requires { ⌜ CursorIs (now starts) (now clips) (now xs) (now ys) (now blocks) m (now times) (now values) (now marks) (now ends) Key.most from ⌝ ∗ ⌜ from .key ≡ Key.least ⌝ }
     requires { ⌜ 0 < slots (outputs (now pagetimes) (now pagevalues) (now pagemarks)) ⌝ }
     ensures { λ r. ⌜ BakeIs (setOf (length (now (ends .entry))) (now (starts .entry)) (now (clips .entry)) (now (xs .entry)) (now (ys .entry)) (now (blocks .entry)) m) (samplesOf (now (times .entry)) (now (values .entry)) (now (marks .entry)) (now (ends .entry))) (outputs (now (outtimes .entry)) (now (outvalues .entry)) (now (outmarks .entry))) (outputs (now (outtimes .exit)) (now (outvalues .exit)) (now (outmarks .exit))) r ⌝ }
@@ -102,7 +102,7 @@ fn bake_by_pages(
         values,
         marks,
         ends,
-        tops,
+        latest,
         from,
         MOST,
         pagetimes,
@@ -141,7 +141,7 @@ fn bake_by_pages(
         values,
         marks,
         ends,
-        tops,
+        latest,
         first.cursor,
         MOST,
         room - count,
@@ -162,7 +162,7 @@ fn bake_by_pages(
         values,
         marks,
         ends,
-        tops,
+        latest,
         from,
         MOST,
         outtimes,
@@ -210,12 +210,12 @@ pub fn bake(
         ends,
         LEAST,
     );
-    let tops = latest_inverses(xs, ys);
-    let spot = no_place(starts);
+    let latest = latest_inverses(xs, ys);
+    let place = no_place(starts);
     let from = Cursor {
         key: LEAST,
         last: head,
-        spot,
+        place,
     };
     let mut pagetimes: [f64; 256] = [0.0; 256];
     let mut pagevalues: [f64; 256] = [0.0; 256];
@@ -231,7 +231,7 @@ pub fn bake(
         values,
         marks,
         ends,
-        &tops.items,
+        &latest.items,
         from,
         &mut pagetimes,
         &mut pagevalues,

@@ -26,7 +26,7 @@ pub fn has_room(
     values: &[f64],
     marks: &[u8],
     ends: &[u64],
-    tops: &[f64],
+    latest: &[f64],
     from: Cursor,
     top: u64,
     room: usize,
@@ -35,7 +35,7 @@ pub fn has_room(
     pagemarks: &mut [u8],
 ) -> bool
     requires { ⌜ AcceptedLists (now starts) (now clips) (now xs) (now ys) (now blocks) m (now times) (now values) (now marks) (now ends) ⌝ }
-    requires { ⌜ LatestOf (now xs) (now ys) (now tops) ⌝ }
+    requires { ⌜ LatestOf (now xs) (now ys) (now latest) ⌝ }
     requires { ⌜ CursorIs (now starts) (now clips) (now xs) (now ys) (now blocks) m (now times) (now values) (now marks) (now ends) top from ⌝ }
     requires { ⌜ 0 < slots (outputs (now pagetimes) (now pagevalues) (now pagemarks)) ⌝ }
     ensures { λ r. ⌜ r ≡ leb (length (changesOf (setOf (length (now (ends .entry))) (now (starts .entry)) (now (clips .entry)) (now (xs .entry)) (now (ys .entry)) (now (blocks .entry)) m) (samplesOf (now (times .entry)) (now (values .entry)) (now (marks .entry)) (now (ends .entry))) (from .key) top)) room ⌝ }
@@ -54,7 +54,7 @@ pub fn has_room(
             values,
             marks,
             ends,
-            tops,
+            latest,
             at,
             top,
             pagetimes,

@@ -16,7 +16,7 @@ ghost use Rattle.track.specs.Fills.{CursorIs, FillIs};
 pub struct Cursor {
     pub key: u64,
     pub last: Entry,
-    pub spot: WindowPlace,
+    pub place: WindowPlace,
 }
 
 // How many changes were written, where the walk stands, and whether there are no more.
@@ -54,7 +54,7 @@ pub fn fill(
     values: &[f64],
     marks: &[u8],
     ends: &[u64],
-    tops: &[f64],
+    latest: &[f64],
     from: Cursor,
     top: u64,
     outtimes: &mut [f64],
@@ -62,21 +62,21 @@ pub fn fill(
     outmarks: &mut [u8],
 ) -> Filled
     requires { ⌜ AcceptedLists (now starts) (now clips) (now xs) (now ys) (now blocks) m (now times) (now values) (now marks) (now ends) ⌝ }
-    requires { ⌜ LatestOf (now xs) (now ys) (now tops) ⌝ }
+    requires { ⌜ LatestOf (now xs) (now ys) (now latest) ⌝ }
     requires { ⌜ CursorIs (now starts) (now clips) (now xs) (now ys) (now blocks) m (now times) (now values) (now marks) (now ends) top from ⌝ }
     ensures { λ r. ⌜ FillIs (now (starts .entry)) (now (clips .entry)) (now (xs .entry)) (now (ys .entry)) (now (blocks .entry)) m (now (times .entry)) (now (values .entry)) (now (marks .entry)) (now (ends .entry)) (from .key) top (outputs (now (outtimes .entry)) (now (outvalues .entry)) (now (outmarks .entry))) (outputs (now (outtimes .exit)) (now (outvalues .exit)) (now (outmarks .exit))) r ⌝ }
 {
     let room = shortest(outtimes.len(), outvalues.len(), outmarks.len());
     let mut at = from.key;
     let mut last = from.last;
-    let mut spot = from.spot;
+    let mut place = from.place;
     let mut count: usize = 0;
     loop {
         if at == top {
             let cursor = Cursor {
                 key: at,
                 last,
-                spot,
+                place,
             };
             return Filled {
                 count,
@@ -96,19 +96,19 @@ pub fn fill(
             values,
             marks,
             ends,
-            tops,
-            spot,
+            latest,
+            place,
             k,
             top,
         );
-        let s = step.stretch;
+        let s = step.span;
         let here = s.here;
         let slot = offer(here, last, k, room, count, outtimes, outvalues, outmarks);
         if room < slot {
             let cursor = Cursor {
                 key: at,
                 last,
-                spot,
+                place,
             };
             return Filled {
                 count,
@@ -131,11 +131,11 @@ pub fn fill(
         );
         if !went.done {
             let end = went.last;
-            let reached = step.spot;
+            let reached = step.place;
             let cursor = Cursor {
                 key: went.key,
                 last: end,
-                spot: reached,
+                place: reached,
             };
             return Filled {
                 count: went.count,
@@ -145,7 +145,7 @@ pub fn fill(
         }
         at = s.hi;
         last = went.last;
-        spot = step.spot;
+        place = step.place;
         count = went.count;
     }
 }

@@ -1,6 +1,6 @@
-// The stretch of keys from a key on that lie in its cell or in a run of samples, and what is said at its beginning.
+// The span of keys from a key on that lie in its cell or in a run of samples, and what is said at its beginning.
 
-// The changes of one stretch, written while there is room.
+// The changes of one span, written while there is room.
 pub mod fill;
 // The cell of a window without knots.
 pub mod plain;
@@ -53,10 +53,10 @@ pub struct Span {
     pub hi: u64,
 }
 
-// A stretch, and the spot of the walk in it.
+// A span, and the place of the walk in it.
 pub struct Step {
-    pub stretch: Span,
-    pub spot: WindowPlace,
+    pub span: Span,
+    pub place: WindowPlace,
 }
 
 // What the cell reads at the key k.
@@ -83,7 +83,7 @@ fn read_on(
     }
 }
 
-// The stretch from the key k on in its cell. The spot is that of k.
+// The span from the key k on in its cell. The place is that of k.
 fn cell_step(
     starts: &[f64],
     clips: &[u64],
@@ -95,14 +95,14 @@ fn cell_step(
     values: &[f64],
     marks: &[u8],
     ends: &[u64],
-    tops: &[f64],
+    latest: &[f64],
     at: WindowPlace,
     k: u64,
     top: u64,
 ) -> Step
     requires { ⌜ AcceptedLists (now starts) (now clips) (now xs) (now ys) (now blocks) m (now times) (now values) (now marks) (now ends) ⌝ }
-    requires { ⌜ LatestOf (now xs) (now ys) (now tops) ⌝ }
-    requires { ⌜ PlaceAt (now starts) (now clips) (now xs) (now ys) (now blocks) m (now times) (now values) (now marks) (now ends) (ofKey k) (at .p) (at .w) ⌝ }
+    requires { ⌜ LatestOf (now xs) (now ys) (now latest) ⌝ }
+    requires { ⌜ PlaceAt (now starts) (now clips) (now xs) (now ys) (now blocks) m (now times) (now values) (now marks) (now ends) (ofKey k) (at .start) (at .window) ⌝ }
     requires { ⌜ Keys k top ⌝ }
     ensures { λ r. ⌜ StepIs (now (starts .entry)) (now (clips .entry)) (now (xs .entry)) (now (ys .entry)) (now (blocks .entry)) m (now (times .entry)) (now (values .entry)) (now (marks .entry)) (now (ends .entry)) k top r ⌝ }
 {
@@ -118,7 +118,7 @@ fn cell_step(
         values,
         marks,
         ends,
-        tops,
+        latest,
         at,
         t,
     );
@@ -129,21 +129,21 @@ fn cell_step(
     let source = read_on(times, values, marks, ends, cell, k, hi);
     let here = entry_of(answer_of(m, times, values, marks, ends, source));
     let way = ReadBy::ByCell(cell);
-    let stretch = Span { way, here, hi };
-    let w = at.w;
+    let span = Span { way, here, hi };
+    let w = at.window;
     let reached = WindowPlace {
-        p: at.p,
-        w,
+        start: at.start,
+        window: w,
         knot: piece.knot,
         sample: piece.sample,
     };
     Step {
-        stretch,
-        spot: reached,
+        span,
+        place: reached,
     }
 }
 
-// The stretch from the key k on in a window of a set without knots: to the next start.
+// The span from the key k on in a window of a set without knots: to the next start.
 fn plain_step(
     starts: &[f64],
     clips: &[u64],
@@ -160,24 +160,24 @@ fn plain_step(
     top: u64,
 ) -> Step
     requires { ⌜ AcceptedLists (now starts) (now clips) (now xs) (now ys) (now blocks) m (now times) (now values) (now marks) (now ends) ⌝ }
-    requires { ⌜ PlaceAt (now starts) (now clips) (now xs) (now ys) (now blocks) m (now times) (now values) (now marks) (now ends) (ofKey k) (at .p) (at .w) ⌝ }
+    requires { ⌜ PlaceAt (now starts) (now clips) (now xs) (now ys) (now blocks) m (now times) (now values) (now marks) (now ends) (ofKey k) (at .start) (at .window) ⌝ }
     requires { ⌜ Keys k top ⌝ }
     requires { ⌜ length (now xs) ≡ 0 ⌝ }
     requires { ⌜ 1 < length (now starts) ⌝ }
     ensures { λ r. ⌜ StepIs (now (starts .entry)) (now (clips .entry)) (now (xs .entry)) (now (ys .entry)) (now (blocks .entry)) m (now (times .entry)) (now (values .entry)) (now (marks .entry)) (now (ends .entry)) k top r ⌝ }
 {
-    let w = at.w;
+    let w = at.window;
     let cell = plain_cell(w);
     let next = gf::key(w.max);
     let hi = lesser(top, next - 1);
     let read = read_on(times, values, marks, ends, cell, k, hi);
     let here = entry_of(answer_of(m, times, values, marks, ends, read));
     let way = ReadBy::ByCell(cell);
-    let stretch = Span { way, here, hi };
-    Step { stretch, spot: at }
+    let span = Span { way, here, hi };
+    Step { span, place: at }
 }
 
-// The stretch from the key k on past the samples of the segment from the knot at i on, up to the inverse time h. The lower
+// The span from the key k on past the samples of the segment from the knot at i on, up to the inverse time h. The lower
 // neighbour is l, and n is near the first sample.
 fn run_step(
     starts: &[f64],
@@ -190,7 +190,7 @@ fn run_step(
     values: &[f64],
     marks: &[u8],
     ends: &[u64],
-    tops: &[f64],
+    latest: &[f64],
     at: WindowPlace,
     i: usize,
     l: f64,
@@ -200,13 +200,13 @@ fn run_step(
     top: u64,
 ) -> Step
     requires { ⌜ AcceptedLists (now starts) (now clips) (now xs) (now ys) (now blocks) m (now times) (now values) (now marks) (now ends) ⌝ }
-    requires { ⌜ PlaceAt (now starts) (now clips) (now xs) (now ys) (now blocks) m (now times) (now values) (now marks) (now ends) (ofKey k) (at .p) (at .w) ⌝ }
+    requires { ⌜ PlaceAt (now starts) (now clips) (now xs) (now ys) (now blocks) m (now times) (now values) (now marks) (now ends) (ofKey k) (at .start) (at .window) ⌝ }
     requires { ⌜ 1 < length (now starts) ⌝ }
-    requires { ⌜ at .w .begin < at .w .end ⌝ ∗ ⌜ Passes.Onset (now xs) (now ys) (now tops) (samplesIn (now times) (at .w)) (at .w) (ofKey k) i l h ⌝ }
+    requires { ⌜ at .window .begin < at .window .end ⌝ ∗ ⌜ Passes.Onset (now xs) (now ys) (now latest) (samplesIn (now times) (at .window)) (at .window) (ofKey k) i l h ⌝ }
     requires { ⌜ Keys k top ⌝ }
     ensures { λ r. ⌜ StepIs (now (starts .entry)) (now (clips .entry)) (now (xs .entry)) (now (ys .entry)) (now (blocks .entry)) m (now (times .entry)) (now (values .entry)) (now (marks .entry)) (now (ends .entry)) k top r ⌝ }
 {
-    let w = at.w;
+    let w = at.window;
     let s = segment_at(xs, ys, i);
     let past = gf::key(h);
     let hi = lesser(top, past - 1);
@@ -216,20 +216,20 @@ fn run_step(
     let place = place_on(&times[a..b], line, gf::key(l));
     let here = entry_of_sample(&values[a..b], &marks[a..b], place);
     let way = ReadBy::ByRun(w.clip, l, s, n);
-    let stretch = Span { way, here, hi };
+    let span = Span { way, here, hi };
     let reached = WindowPlace {
-        p: at.p,
-        w,
+        start: at.start,
+        window: w,
         knot: i,
         sample: n,
     };
     Step {
-        stretch,
-        spot: reached,
+        span,
+        place: reached,
     }
 }
 
-// The stretch from the key k on, and the spot of the walk there: with several starts a run of samples, if one begins at k.
+// The span from the key k on, and the place of the walk there: with several starts a run of samples, if one begins at k.
 pub fn span_at(
     starts: &[f64],
     clips: &[u64],
@@ -241,14 +241,14 @@ pub fn span_at(
     values: &[f64],
     marks: &[u8],
     ends: &[u64],
-    tops: &[f64],
-    spot: WindowPlace,
+    latest: &[f64],
+    place: WindowPlace,
     k: u64,
     top: u64,
 ) -> Step
     requires { ⌜ AcceptedLists (now starts) (now clips) (now xs) (now ys) (now blocks) m (now times) (now values) (now marks) (now ends) ⌝ }
-    requires { ⌜ LatestOf (now xs) (now ys) (now tops) ⌝ }
-    requires { ⌜ PlaceIs (now starts) (now clips) (now xs) (now ys) (now blocks) m (now times) (now values) (now marks) (now ends) (spot .p) (spot .w) ⌝ }
+    requires { ⌜ LatestOf (now xs) (now ys) (now latest) ⌝ }
+    requires { ⌜ PlaceIs (now starts) (now clips) (now xs) (now ys) (now blocks) m (now times) (now values) (now marks) (now ends) (place .start) (place .window) ⌝ }
     requires { ⌜ Keys k top ⌝ }
     ensures { λ r. ⌜ StepIs (now (starts .entry)) (now (clips .entry)) (now (xs .entry)) (now (ys .entry)) (now (blocks .entry)) m (now (times .entry)) (now (values .entry)) (now (marks .entry)) (now (ends .entry)) k top r ⌝ }
 {
@@ -264,7 +264,7 @@ pub fn span_at(
         values,
         marks,
         ends,
-        spot,
+        place,
         t,
     );
     if is_plain(starts, xs) {
@@ -285,8 +285,8 @@ pub fn span_at(
         );
     }
     if 1 < starts.len() {
-        let w = at.w;
-        let found = run_begin(xs, ys, tops, times, w, t, at.knot, at.sample);
+        let w = at.window;
+        let found = run_begin(xs, ys, latest, times, w, t, at.knot, at.sample);
         if let RunBegin::At(i, l, h, n) = found {
             return run_step(
                 starts,
@@ -299,7 +299,7 @@ pub fn span_at(
                 values,
                 marks,
                 ends,
-                tops,
+                latest,
                 at,
                 i,
                 l,
@@ -321,7 +321,7 @@ pub fn span_at(
         values,
         marks,
         ends,
-        tops,
+        latest,
         at,
         k,
         top,

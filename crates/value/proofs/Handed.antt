@@ -187,8 +187,8 @@ module _ {starts : List Float} {clips : List ℕ} {xs ys blocks : List Float} {m
             go false q e = subst (λ (v : Float). T (lt t v)) (sym e) (inf-above t (ft .finitely))
 
         -- the premises of a search in it
-        pub window-nears : (tops : List Float) → LatestOf xs ys tops → Nearing xs ys tops (samplesIn times w) w t
-        window-nears tops O = record {
+        pub window-nears : (latest : List Float) → LatestOf xs ys latest → Nearing xs ys latest (samplesIn times w) w t
+        window-nears latest O = record {
           knots = ready-readable R .knots;
           paired = R .knots-paired;
           segments = ready-readable R .segments;

@@ -69,7 +69,7 @@ in-any-of x m (y ∷ l) h (inr i) = or-r (eq y m) (any (λ (z : Float). eq z m) 
 
 -- ---- the run
 
-module _ (xs ys tops cs : List Float) (w : Window) (t : Float) (i : ℕ) (l h : Float) (O : Onset xs ys tops cs w t i l h) where
+module _ (xs ys latest cs : List Float) (w : Window) (t : Float) (i : ℕ) (l h : Float) (O : Onset xs ys latest cs w t i l h) where
   abbrev v : Interval
   v = intervalOf w
 
@@ -82,7 +82,7 @@ module _ (xs ys tops cs : List Float) (w : Window) (t : Float) (i : ℕ) (l h : 
   abbrev g : List Float
   g = windowTimes xs ys cs w
 
-  abbrev A : Nearing xs ys tops cs w t
+  abbrev A : Nearing xs ys latest cs w t
   A = O .nears
 
   min-fits : Fits (w .min)
@@ -92,7 +92,7 @@ module _ (xs ys tops cs : List Float) (w : Window) (t : Float) (i : ℕ) (l h : 
   ]
 
   F : Facing (intervalOf w) t
-  F = near-faces xs ys tops cs w t A min-fits (O .most)
+  F = near-faces xs ys latest cs w t A min-fits (O .most)
 
   place : i < length xs
   place = omega (arith, O .here .place)
@@ -231,7 +231,7 @@ module _ (xs ys tops cs : List Float) (w : Window) (t : Float) (i : ℕ) (l h : 
             let p = O .past (omega arith) in
             let r = A .reach .above (i - 1) (p .0) (omega (arith, place)) in
             let x = inverse (segmentOf xs ys j .0) (segmentOf xs ys j .1) c in
-            let k = le→key x l (n .0) (nl .0) (n .1) (nl .1) (le-trans x (getD tops (i - 1) nan) l (n .0) (r .number .0) (nl .0) (r .last j (omega arith) c s) (p .1)) in
+            let k = le→key x l (n .0) (nl .0) (n .1) (nl .1) (le-trans x (getD latest (i - 1) nan) l (n .0) (r .number .0) (nl .0) (r .last j (omega arith) c s) (p .1)) in
             (n, λ y z. absurd (omega arith)))
         | yes o ↦ elim (decLe j i) [
           | yes o′ ↦ let z : i ≡ j = omega arith in subst (λ (k : ℕ). Every Fine (keep (inside v) (onSegment cs (segmentOf xs ys k)))) z own

@@ -19,14 +19,14 @@ use Rattle.window.specs.neighbours.Windowed.{windowTimes, Nearing}
 use Rattle.value.specs.ClipTimes.{OnSegment}
 
 -- what is known where a run begins at t: its segment is that from the knot at i, the lower neighbour there is l, and h is the inverse time up to which it goes
-pub record Onset (xs ys tops cs : List Float) (w : Window) (t : Float) (i : ℕ) (l h : Float) : Type 0 where
-  pub nears : Nearing xs ys tops cs w t
+pub record Onset (xs ys latest cs : List Float) (w : Window) (t : Float) (i : ℕ) (l h : Float) : Type 0 where
+  pub nears : Nearing xs ys latest cs w t
   pub least : (w .min ≡ inf true) ⊎ (w .min ≡ w .start)
   pub most : Fits (w .max)
   pub here : OnSegment xs t i
   pub begun : T (le (w .start) t)
   pub lower : IsLower (windowTimes xs ys cs w) t l
-  pub past : 0 < i → (i - 1 < length tops) × T (le (getD tops (i - 1) nan) l)
+  pub past : 0 < i → (i - 1 < length latest) × T (le (getD latest (i - 1) nan) l)
   pub above : T (lt t h)
   pub listed : In h (onSegment cs (segmentOf xs ys i))
   pub within : T (lt h (w .max))

@@ -30,7 +30,7 @@ pub record Valued (xs ys times : List Float) (w : Window) (t : Float) : Type 0 w
   pub knots : Ascending xs
   pub paired : length xs ≡ length ys
   pub lent : Lent times w
-  pub nears : (tops : List Float) → LatestOf xs ys tops → Nearing xs ys tops (samplesIn times w) w t
+  pub nears : (latest : List Float) → LatestOf xs ys latest → Nearing xs ys latest (samplesIn times w) w t
 
 -- r is read at the time that the neighbours tell
 pub record ValueIn (xs ys times : List Float) (w : Window) (t : Float) (r : Source) : Type 0 where

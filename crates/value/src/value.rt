@@ -28,7 +28,7 @@ fn value_in(xs: &[f64], ys: &[f64], times: &[f64], w: Window, t: StageTime) -> S
 {
     let begin = w.begin;
     let end = w.end;
-    // One question is not worth the tops of all segments.
+    // One question is not worth the latest of all segments.
     let found = near_in(xs, ys, &xs[0..0], &times[begin..end], w, t.0, 0, 0);
     let lower = found.lower;
     let upper = found.upper;

@@ -1,6 +1,6 @@
 -- What is shown of the definitions of `near`.
 -- How far the inverse times of the segments reach
-pub mod TopsLaws
+pub mod LatestLaws
 -- The inverse times of all segments by those near a time
 pub mod Reaches
 -- A window as it is handed on

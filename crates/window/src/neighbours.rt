@@ -86,21 +86,21 @@ fn near_before(
     held: Bounds,
     xs: &[f64],
     ys: &[f64],
-    tops: &[f64],
+    latest: &[f64],
     cs: &[f64],
     i: usize,
     w: Interval,
     t: f64,
     sample: usize,
 ) -> Bounds
-    requires { ⌜ Searchable (now xs) (now ys) (now cs) w t ⌝ ∗ ⌜ LatestOf (now xs) (now ys) (now tops) ⌝ ∗ ⌜ i < length (now xs) ⌝ ∗ ⌜ i ≡ lastAtMost (now xs) t ⌝ }
+    requires { ⌜ Searchable (now xs) (now ys) (now cs) w t ⌝ ∗ ⌜ LatestOf (now xs) (now ys) (now latest) ⌝ ∗ ⌜ i < length (now xs) ⌝ ∗ ⌜ i ≡ lastAtMost (now xs) t ⌝ }
     ensures { λ r. ⌜ Reached t w (now (xs .entry)) (now (ys .entry)) (now (cs .entry)) 0 i held r ⌝ }
 {
     let mut r = held;
     let mut j = i;
     while j > 0 {
         let low = r.lower;
-        if is_past(low, latest_before(xs, ys, tops, j)) {
+        if is_past(low, latest_before(xs, ys, latest, j)) {
             return r;
         }
         let before = j - 1;
@@ -121,14 +121,14 @@ fn near_around(
     held: Bounds,
     xs: &[f64],
     ys: &[f64],
-    tops: &[f64],
+    latest: &[f64],
     cs: &[f64],
     i: usize,
     w: Interval,
     t: f64,
     sample: usize,
 ) -> Near
-    requires { ⌜ Searchable (now xs) (now ys) (now cs) w t ⌝ ∗ ⌜ LatestOf (now xs) (now ys) (now tops) ⌝ ∗ ⌜ i < length (now xs) ⌝ ∗ ⌜ i ≡ lastAtMost (now xs) t ⌝ }
+    requires { ⌜ Searchable (now xs) (now ys) (now cs) w t ⌝ ∗ ⌜ LatestOf (now xs) (now ys) (now latest) ⌝ ∗ ⌜ i < length (now xs) ⌝ ∗ ⌜ i ≡ lastAtMost (now xs) t ⌝ }
     ensures { λ r. ⌜ Around t w (now (xs .entry)) (now (ys .entry)) (now (cs .entry)) held (boundsOf r) ⌝ }
 {
     let next = i + 1;
@@ -141,7 +141,7 @@ fn near_around(
             lower: low,
             upper: high,
         };
-        let all = near_before(both, xs, ys, tops, cs, i, w, t, place);
+        let all = near_before(both, xs, ys, latest, cs, i, w, t, place);
         let lower = all.lower;
         let upper = all.upper;
         return Near {
@@ -151,7 +151,7 @@ fn near_around(
             sample: place,
         };
     }
-    let all = near_before(held, xs, ys, tops, cs, i, w, t, sample);
+    let all = near_before(held, xs, ys, latest, cs, i, w, t, sample);
     let lower = all.lower;
     let upper = all.upper;
     Near {
@@ -183,14 +183,14 @@ fn near_starts(w: Window, t: f64) -> Bounds
 pub fn near_in(
     xs: &[f64],
     ys: &[f64],
-    tops: &[f64],
+    latest: &[f64],
     cs: &[f64],
     w: Window,
     t: f64,
     knot: usize,
     sample: usize,
 ) -> Near
-    requires { ⌜ Nearing (now xs) (now ys) (now tops) (now cs) w t ⌝ }
+    requires { ⌜ Nearing (now xs) (now ys) (now latest) (now cs) w t ⌝ }
     ensures { λ r. ⌜ NeighboursAre (windowTimes (now (xs .entry)) (now (ys .entry)) (now (cs .entry)) w) t (boundsOf r) ⌝ }
 {
     let min = w.min;
@@ -211,5 +211,5 @@ pub fn near_in(
     }
     let i = lists::near::last_at_most_near(xs, t, knot);
     let knots = near_times(starts, xs, i, inside, t);
-    near_around(knots, xs, ys, tops, cs, i, inside, t, sample)
+    near_around(knots, xs, ys, latest, cs, i, inside, t, sample)
 }

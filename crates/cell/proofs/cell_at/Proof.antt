@@ -6,7 +6,7 @@ use lib.ListN.{length}
 use Rattle.window.proofs.Parts.{ready-readable}
 use Rattle.value.specs.WindowOf.{WindowIs}
 use Rattle.value.proofs.Handed.{window-lent, window-nears}
-use Rattle.cell.proofs.Lent.{spot-window}
+use Rattle.cell.proofs.Lent.{place-window}
 use Rattle.cell.proofs.Ways.{piece-few, near-direct, near-held}
 use borrow.Author.Needs.{needs}
 use Rattle.cell.proofs.cell_at.Statement.{statement}
@@ -20,8 +20,8 @@ several c = let n = c .if1 .left in omega arith
 
 -- the window of the active start
 window : (c : tie.Else1)
-    → WindowIs (entry c .args .starts .now) (entry c .args .clips .now) (entry c .args .xs .now) (entry c .args .ys .now) (entry c .args .blocks .now) (entry c .args .m) (entry c .args .times .now) (entry c .args .values .now) (entry c .args .marks .now) (entry c .args .ends .now) (entry c .args .spot .p) (entry c .args .spot .w)
-window c = let a = entry c in let n = several c in spot-window (a .pre .0) (a .args .t) (a .pre .1 .1 .1) (a .args .spot .p) (a .args .spot .w) (a .pre .1 .1 .0) (omega arith)
+    → WindowIs (entry c .args .starts .now) (entry c .args .clips .now) (entry c .args .xs .now) (entry c .args .ys .now) (entry c .args .blocks .now) (entry c .args .m) (entry c .args .times .now) (entry c .args .values .now) (entry c .args .marks .now) (entry c .args .ends .now) (entry c .args .place .start) (entry c .args .place .window)
+window c = let a = entry c in let n = several c in place-window (a .pre .0) (a .args .t) (a .pre .1 .1 .1) (a .args .place .start) (a .args .place .window) (a .pre .1 .1 .0) (omega arith)
 
 direct-cell-requires : tie.Need-direct-cell-requires
 direct-cell-requires c κs = search needs
@@ -51,7 +51,7 @@ near-in-requires c κs =
     let e = c .before .before in
     let a = entry e in
     let n = several e in
-    window-nears (a .pre .0) (a .args .spot .p) (a .args .spot .w) (window e) (a .args .t) (a .pre .1 .1 .0 .place (omega arith)) (a .pre .1 .1 .1) (a .args .tops .now) (a .pre .1 .0)
+    window-nears (a .pre .0) (a .args .place .start) (a .args .place .window) (window e) (a .args .t) (a .pre .1 .1 .0 .place (omega arith)) (a .pre .1 .1 .1) (a .args .latest .now) (a .pre .1 .0)
 
 held-from-requires : tie.Need-held-from-requires
 held-from-requires c κs = let a = entry (c .before .before .before) in (ready-readable (a .pre .0) .knots, a .pre .0 .knots-paired)
@@ -71,7 +71,7 @@ returns-2 c =
     let e = n .before .before .before in
     let a = entry e in
     let s = several e in
-    near-direct (a .pre .0) (a .args .t) (a .pre .1 .1 .1) s (a .args .spot .p) (a .pre .1 .1 .0 .place (omega arith)) (a .args .spot .w) (window e) (n .near-in .result) (n .near-in .ensures) (c .direct-cell2 .result)
+    near-direct (a .pre .0) (a .args .t) (a .pre .1 .1 .1) s (a .args .place .start) (a .pre .1 .1 .0 .place (omega arith)) (a .args .place .window) (window e) (n .near-in .result) (n .near-in .ensures) (c .direct-cell2 .result)
     (sym (c .before .before .before .held-from .ensures) ∙ c .before .enum-told .given .1) (c .direct-cell2 .ensures)
 
 place-before-requires : tie.Need-place-before-requires
@@ -81,7 +81,7 @@ source-in-requires : tie.Need-source-in-requires
 source-in-requires c κs =
     let e = c .before .before .before .before .before .before .before .before in
     let a = entry e in
-    (ready-readable (a .pre .0) .knots, (a .pre .0 .knots-paired, window-lent (a .pre .0) (a .args .spot .p) (a .args .spot .w) (window e)))
+    (ready-readable (a .pre .0) .knots, (a .pre .0 .knots-paired, window-lent (a .pre .0) (a .args .place .start) (a .args .place .window) (window e)))
 
 returns-3 : tie.Need-returns-3
 returns-3 c =
@@ -89,7 +89,7 @@ returns-3 c =
     let e = n .before .before .before in
     let a = entry e in
     let s = several e in
-    near-held (a .pre .0) (a .args .t) (a .pre .1 .1 .1) s (a .args .spot .p) (a .pre .1 .1 .0 .place (omega arith)) (a .args .spot .w) (window e) (n .near-in .result) (n .near-in .ensures) (c .before .before .before .l .given .0 .0) (c .source-in .result)
+    near-held (a .pre .0) (a .args .t) (a .pre .1 .1 .1) s (a .args .place .start) (a .pre .1 .1 .0 .place (omega arith)) (a .args .place .window) (window e) (n .near-in .result) (n .near-in .ensures) (c .before .before .before .l .given .0 .0) (c .source-in .result)
     (sym (c .before .before .before .before .before .held-from .ensures) ∙ c .before .before .before .l .given .1) (c .source-in .ensures)
 
 pub cell-at-spec : {M : Type 1} → statement M

@@ -28,9 +28,9 @@ LastIs xs ys cs i max Bounds.Nothing = Unit {0}
 
 -- no inverse time of the segments before the knot at i is above l
 abbrev pub PastLatest : List Float → ℕ → Float → Type 0
-PastLatest tops i l = 0 < i → (i - 1 < length tops) × T (le (getD tops (i - 1) nan) l)
+PastLatest latest i l = 0 < i → (i - 1 < length latest) × T (le (getD latest (i - 1) nan) l)
 
 -- the run that begins at t, if one is said
 abbrev pub RunBeginIs : List Float → List Float → List Float → List Float → Window → Float → RunBegin → Type 0
-RunBeginIs xs ys tops times w t (At i l h n) = (w .begin < w .end) × Passes.Onset xs ys tops (samplesIn times w) w t i l h
-RunBeginIs xs ys tops times w t Nothing = Unit {0}
+RunBeginIs xs ys latest times w t (At i l h n) = (w .begin < w .end) × Passes.Onset xs ys latest (samplesIn times w) w t i l h
+RunBeginIs xs ys latest times w t Nothing = Unit {0}

@@ -47,7 +47,7 @@ use Rattle.cell.specs.declared.step.line.Line.{Line}
 use Rattle.cell.specs.step.Lines.{lineIs, placeOn}
 use Rattle.window.specs.declared.neighbours.Window.{Window}
 use Rattle.window.specs.neighbours.Latest.{segmentOf}
-use Rattle.window.proofs.neighbours.TopsLaws.{segment-here}
+use Rattle.window.proofs.neighbours.LatestLaws.{segment-here}
 use Rattle.window.specs.neighbours.Windowed.{samplesIn, windowTimes, windowSource}
 use Rattle.run.specs.Readings.{Reads, readingAt}
 use Rattle.run.specs.Runs.{lineOn, passedBy, passingAt, Passing}
@@ -163,7 +163,7 @@ module _ {starts : List Float} {clips : List ℕ} {xs ys blocks : List Float} {m
 
     -- ---- the run
 
-    module _ (many : 1 < length starts) (tops : List Float) (k : ℕ) (K : Keys k k) (i : ℕ) (l h : Float) (O : Onset xs ys tops (samplesIn times w) w (ofKey k) i l h) where
+    module _ (many : 1 < length starts) (latest : List Float) (k : ℕ) (K : Keys k k) (i : ℕ) (l h : Float) (O : Onset xs ys latest (samplesIn times w) w (ofKey k) i l h) where
       fit : Every Fits (windowTimes xs ys (samplesIn times w) w)
       fit = subst (Every Fits) (window-gathered R p w W) (gathered-fit set s (sound R) (samples R) p)
 
@@ -182,7 +182,7 @@ module _ {starts : List Float} {clips : List ℕ} {xs ys blocks : List Float} {m
       -- it ends above k
       pub run-above : k < key h
       run-above =
-          let n = nh xs ys tops (samplesIn times w) w (ofKey k) i l h O in
+          let n = nh xs ys latest (samplesIn times w) w (ofKey k) i l h O in
           let a = lt→key (ofKey k) h (ntk .0) (n .0) (ntk .1) (n .1) (O .above) in
           omega (arith, kk)
 
@@ -203,7 +203,7 @@ module _ {starts : List Float} {clips : List ℕ} {xs ys blocks : List Float} {m
           let a = le→key l (ofKey k) (n .0) (ntk .0) (n .1) (ntk .1) (O .lower .upto) in
           let x = finite-knot (i + 1) (O .here .place) in
           let b = lt→key (ofKey k) (getD xs (i + 1) nan) (ntk .0) (x .fitting) (ntk .1) (finite-no-nan (getD xs (i + 1) nan) (x .finitely)) (holds (lt (ofKey k) (getD xs (i + 1) nan)) (O .here .upto)) in
-          finite-by l n (knot-low xs ys tops (samplesIn times w) w (ofKey k) i l h O i (le-of-eq refl)) (omega arith)
+          finite-by l n (knot-low xs ys latest (samplesIn times w) w (ofKey k) i l h O i (le-of-eq refl)) (omega arith)
 
       segment-is : SoundSegment (segmentOf xs ys i)
       segment-is = segment-here xs ys (R .knots-paired) (ready-readable R .segments) i (O .here .place)
@@ -221,7 +221,7 @@ module _ {starts : List Float} {clips : List ℕ} {xs ys blocks : List Float} {m
         nj = (ofKey-fits j, ofKey-no-nan j jl g)
 
         H : HeldAt xs ys (samplesIn times w) w i l (ofKey j)
-        H = run-held xs ys tops (samplesIn times w) w (ofKey k) i l h O (ofKey j) nj (omega (arith, kj, kk)) (omega (arith, kj)) fit
+        H = run-held xs ys latest (samplesIn times w) w (ofKey k) i l h O (ofKey j) nj (omega (arith, kj, kk)) (omega (arith, kj)) fit
 
         nm : Number (H .m)
         nm = (H .lower .fits, le-no-nan (H .m) (ofKey j) (H .lower .upto) .0)
@@ -234,7 +234,7 @@ module _ {starts : List Float} {clips : List ℕ} {xs ys blocks : List Float} {m
 
         in-window : (x : Float) → Number x → key (w .start) ≤ key x → key x ≤ j → lastAtMost starts x ≡ p
         in-window x n c d =
-            let y = nh xs ys tops (samplesIn times w) w (ofKey k) i l h O in
+            let y = nh xs ys latest (samplesIn times w) w (ofKey k) i l h O in
             let e = lt→key h (w .max) (y .0) (max-number .0) (y .1) (max-number .1) (O .within) in
             active x n c (key→lt x (w .max) (n .0) (max-number .0) (n .1) (max-number .1) (omega arith))
 
@@ -323,7 +323,7 @@ module _ {starts : List Float} {clips : List ℕ} {xs ys blocks : List Float} {m
       run-begins =
           ap (readingAt (part times ends (w .clip)) (part values ends (w .clip)) (part marks ends (w .clip)) (lineOn (segmentOf xs ys i)))
           (ap (λ (x : List Float). key (passedBy x (segmentOf xs ys i) l (ofKey k))) (sym its-part)
-          ∙ passing-lower (samplesIn times w) (segmentOf xs ys i) l run-floor k (O .lower .upto) l (run-first xs ys tops (samplesIn times w) w (ofKey k) i l h O fit))
+          ∙ passing-lower (samplesIn times w) (segmentOf xs ys i) l run-floor k (O .lower .upto) l (run-first xs ys latest (samplesIn times w) w (ofKey k) i l h O fit))
 
       pub run-passing : (e : Entry) (hi : ℕ) → Keys k hi → e ≡ readingAt (part times ends (w .clip)) (part values ends (w .clip)) (part marks ends (w .clip)) (lineOn (segmentOf xs ys i)) (key l)
           → Passing (part times ends (w .clip)) (part values ends (w .clip)) (part marks ends (w .clip)) (segmentOf xs ys i) l e k hi

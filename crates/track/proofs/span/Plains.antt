@@ -51,7 +51,7 @@ use Rattle.window.proofs.nearest.Beside.{climb, last-reached}
 use Rattle.cell.specs.declared.step.line.Line.the-variants.{Plain}
 use Rattle.cell.specs.step.Lines.{placeOn}
 use Rattle.window.specs.declared.neighbours.Window.{Window}
-use Rattle.window.proofs.neighbours.TopsLaws.{no-tops}
+use Rattle.window.proofs.neighbours.LatestLaws.{no-latest}
 use Rattle.window.specs.neighbours.Windowed.{intervalOf, samplesIn, nextOf, startsOf, windowTimes, windowSource, Nearing}
 use Rattle.window.proofs.neighbours.Windowed.{near-faces, near-plain}
 use Rattle.value.specs.WindowOf.{WindowIs}
@@ -132,7 +132,7 @@ module _ {starts : List Float} {clips : List ℕ} {xs ys blocks : List Float} {m
 
   module _ (t : Float) (ft : FiniteDouble t) (at : p ≡ lastAtMost starts t) where
     nears : Nearing xs ys [] (samplesIn times w) w t
-    nears = window-nears R p w W t at ft [] (no-tops xs ys [] refl)
+    nears = window-nears R p w W t at ft [] (no-latest xs ys [] refl)
 
     pub plain-faces : Facing (intervalOf w) t
     plain-faces = near-faces xs ys [] (samplesIn times w) w t nears fits-min fits-max

@@ -1,4 +1,4 @@
--- The stretch of a piece: up to its last key its cell reads and says the value, and the place that it reads turns one way. Assumes nothing.
+-- The span of a piece: up to its last key its cell reads and says the value, and the place that it reads turns one way. Assumes nothing.
 use mathlib.Core.Path.{_≡_, refl, sym, ap, ap₂, _∙_, subst}
 use mathlib.Core.Logic.{inl, inr}
 use mathlib.Core.List.{List}
@@ -55,11 +55,11 @@ module _ (set : ClipSet) (s : Samples) (S : SoundSet set) (A : SoundSamples s) (
   inside : (k : ℕ) → lo ≤ k → k ≤ hi → Inside (ofKey lo) (ofKey hi) (ofKey k)
   inside k a b = record { ft = ofKey-fits k; from = ordered lo k (le-of-eq refl) a b; upto = ordered k hi a b (le-of-eq refl) }
 
-  stretch : Stretch set s (ofKey lo) (ofKey hi)
-  stretch = record { ft = ofKey-fits lo; fu = ofKey-fits hi; order = ordered lo hi (le-of-eq refl) (K .order) (le-of-eq refl); clear = clear }
+  span : Stretch set s (ofKey lo) (ofKey hi)
+  span = record { ft = ofKey-fits lo; fu = ofKey-fits hi; order = ordered lo hi (le-of-eq refl) (K .order) (le-of-eq refl); clear = clear }
 
   cell-turning : LeftOnce (cellPlaceAt set s lo) lo hi
-  cell-turning = elim (Cells-laws.cell-turns set s S A (ofKey lo) (ofKey hi) stretch) [
+  cell-turning = elim (Cells-laws.cell-turns set s S A (ofKey lo) (ofKey hi) span) [
     | inl r ↦ inl (λ j k a b d. r (ofKey j) (ofKey k) (inside j a (omega arith)) (inside k (omega arith) d) (ordered j k a b d))
     | inr r ↦ inr (λ j k a b d. r (ofKey j) (ofKey k) (inside j a (omega arith)) (inside k (omega arith) d) (ordered j k a b d))
   ]
@@ -184,7 +184,7 @@ module _ {starts : List Float} {clips : List ℕ} {xs ys blocks : List Float} {m
       go (Constant r) q j x y = constant-says r q j x y ∙ sym p
       go (Reading c line) q j x y = reading-says c line q j x y
 
--- ---- the stretch of a piece
+-- ---- the span of a piece
 
 module _ {starts : List Float} {clips : List ℕ} {xs ys blocks : List Float} {m : Missing} {times values : List Float} {marks ends : List ℕ} (R : AcceptedLists starts clips xs ys blocks m times values marks ends) (k top : ℕ) (K : Keys k top) where
   abbrev set : ClipSet

@@ -1,4 +1,4 @@
--- A stretch of keys in one cell or in a run of samples: what is said there, and what the search for it promises. Assumes nothing.
+-- A span of keys in one cell or in a run of samples: what is said there, and what the search for it promises. Assumes nothing.
 use mathlib.Core.Path.{_≡_}
 use mathlib.Core.List.{List}
 use Prim.Native.Nat.{ℕ, _-_, _≤_, _<_}
@@ -75,7 +75,7 @@ abbrev pub entryBy : List Float → List Float → List ℕ → List ℕ → Rea
 entryBy times values marks ends (ByCell c) here j = entryOn times values marks ends c here j
 entryBy times values marks ends (ByRun c floor g n) here j = passingAt (part times ends c) (part values ends c) (part marks ends c) (g .a, g .b) floor j
 
--- the stretch from k on, up to top: the value there is what its way says
+-- the span from k on, up to top: the value there is what its way says
 pub record StretchIs (set : ClipSet) (s : Samples) (k top : ℕ) (r : Span) : Type 0 where
   pub keys : Keys k (r .hi)
   pub within : r .hi ≤ top
@@ -83,7 +83,7 @@ pub record StretchIs (set : ClipSet) (s : Samples) (k top : ℕ) (r : Span) : Ty
   pub runs : SpanIs (s .times) (s .values) (s .marks) (s .ends) (r .way) (entryIs (r .here)) k (r .hi)
   pub says : Agree k (r .hi) (entryAtKey set s) (entryBy (s .times) (s .values) (s .marks) (s .ends) (r .way) (entryIs (r .here)))
 
--- the stretch, and the spot of the walk
+-- the span, and the place of the walk
 pub record StepIs (starts : List Float) (clips : List ℕ) (xs ys blocks : List Float) (m : Missing) (times values : List Float) (marks ends : List ℕ) (k top : ℕ) (r : Step) : Type 0 where
-  pub stretch : StretchIs (setOf (length ends) starts clips xs ys blocks m) (samplesOf times values marks ends) k top (r .stretch)
-  pub spot : PlaceIs starts clips xs ys blocks m times values marks ends (r .spot .p) (r .spot .w)
+  pub span : StretchIs (setOf (length ends) starts clips xs ys blocks m) (samplesOf times values marks ends) k top (r .span)
+  pub place : PlaceIs starts clips xs ys blocks m times values marks ends (r .place .start) (r .place .window)

@@ -1,4 +1,4 @@
-// The changes of one stretch, written while there is room.
+// The changes of one span, written while there is room.
 use crate::span::ReadBy;
 use crate::span::Span;
 use cell::Cell;
@@ -59,7 +59,7 @@ fn fill_cell(
     )
 }
 
-// Writes the changes above the key k in its stretch from slot n on.
+// Writes the changes above the key k in its span from slot n on.
 pub fn fill_in(
     times: &[f64],
     values: &[f64],

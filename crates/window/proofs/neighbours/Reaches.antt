@@ -39,7 +39,7 @@ use Rattle.window.specs.nearest.Nearest.{LowerMet, UpperMet, Met, LowerI
 use Rattle.window.specs.nearest.Beside.{Facing}
 use Rattle.window.proofs.nearest.Beside.{meet-above, number-at, climb, next-above}
 use Rattle.window.specs.neighbours.Latest.{segmentOf, ReachOf}
-use Rattle.window.proofs.neighbours.TopsLaws.{segment-here}
+use Rattle.window.proofs.neighbours.LatestLaws.{segment-here}
 use Rattle.window.specs.neighbours.Reaches.{PastAll, timesOf, Reached, Around}
 
 -- ---- what a search among knots and samples asks

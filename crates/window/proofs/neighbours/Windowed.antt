@@ -44,7 +44,7 @@ module _ (w : Window) (t : Float) {h : Bounds} (first : h ≡ withNear t nothing
 
 -- ---- a search among them
 
-module _ (xs ys tops cs : List Float) (w : Window) (t : Float) (A : Nearing xs ys tops cs w t) (fa : Fits (w .min)) (fb : Fits (w .max)) where
+module _ (xs ys latest cs : List Float) (w : Window) (t : Float) (A : Nearing xs ys latest cs w t) (fa : Fits (w .min)) (fb : Fits (w .max)) where
   abbrev in-window : Float → Bool
   in-window = inside (intervalOf w)
 

@@ -20,8 +20,8 @@ pub record ReachOf (xs ys : List Float) (i : ℕ) (r : Float) : Type 0 where
   pub last : (j : ℕ) → j < i → (c : Float) → T (spans (getD ys j nan) (getD ys (j + 1) nan) c) → T (le (inverse (knotAt xs ys j) (knotAt xs ys (j + 1)) c) r)
 
 -- each top, at k, is such a one for the segments up to k. There may be none.
-pub record LatestOf (xs ys tops : List Float) : Type 0 where
-  pub above : (k : ℕ) → k < length tops → k + 1 < length xs → ReachOf xs ys (k + 1) (getD tops k nan)
+pub record LatestOf (xs ys latest : List Float) : Type 0 where
+  pub above : (k : ℕ) → k < length latest → k + 1 < length xs → ReachOf xs ys (k + 1) (getD latest k nan)
 
 -- ---- one segment more
 

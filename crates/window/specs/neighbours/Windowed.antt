@@ -59,11 +59,11 @@ pub record Lent (times : List Float) (w : Window) : Type 0 where
 -- ---- a search among them
 
 -- what it asks
-pub record Nearing (xs ys tops cs : List Float) (w : Window) (t : Float) : Type 0 where
+pub record Nearing (xs ys latest cs : List Float) (w : Window) (t : Float) : Type 0 where
   pub knots : Ascending xs
   pub paired : length xs ≡ length ys
   pub segments : Every SoundSegment (pairs (knotsOf xs ys))
-  pub reach : LatestOf xs ys tops
+  pub reach : LatestOf xs ys latest
   pub samples : Ascending cs
   pub time : FiniteDouble t
   pub start : FiniteDouble (w .start)

@@ -56,19 +56,19 @@ fn latest_inverse(xs: &[f64], ys: &[f64], i: usize) -> f64
     top
 }
 
-// The same where tops may be at hand.
-pub fn latest_before(xs: &[f64], ys: &[f64], tops: &[f64], i: usize) -> f64
-    requires { ⌜ length (now xs) ≡ length (now ys) ⌝ ∗ ⌜ Every SoundSegment (pairs (knotsOf (now xs) (now ys))) ⌝ ∗ ⌜ LatestOf (now xs) (now ys) (now tops) ⌝ ∗ ⌜ i < length (now xs) ⌝ ∗ ⌜ 0 < i ⌝ }
+// The same where latest may be at hand.
+pub fn latest_before(xs: &[f64], ys: &[f64], latest: &[f64], i: usize) -> f64
+    requires { ⌜ length (now xs) ≡ length (now ys) ⌝ ∗ ⌜ Every SoundSegment (pairs (knotsOf (now xs) (now ys))) ⌝ ∗ ⌜ LatestOf (now xs) (now ys) (now latest) ⌝ ∗ ⌜ i < length (now xs) ⌝ ∗ ⌜ 0 < i ⌝ }
     ensures { λ r. ⌜ ReachOf (now (xs .entry)) (now (ys .entry)) i r ⌝ }
 {
     let last = i - 1;
-    if last < tops.len() {
-        return tops[last];
+    if last < latest.len() {
+        return latest[last];
     }
     latest_inverse(xs, ys, i)
 }
 
-// The tops of all segments.
+// The latest of all segments.
 pub fn latest_inverses(xs: &[f64], ys: &[f64]) -> LatestInverses
     requires { ⌜ length (now xs) ≡ length (now ys) ⌝ ∗ ⌜ length (now xs) ≤ maxKnots ⌝ ∗ ⌜ Every SoundSegment (pairs (knotsOf (now xs) (now ys))) ⌝ }
     ensures { λ r. ⌜ LatestOf (now (xs .entry)) (now (ys .entry)) (r .items) ⌝ }

@@ -5,17 +5,17 @@ use borrow.Author.Needs.{needs}
 use lib.Dec.{lit≤}
 use Rattle.gf.specs.Key as Key
 use Rattle.window.proofs.Parts.{ready-readable}
-use Rattle.cell.proofs.Lent.{no-spot-is, few-knots}
+use Rattle.cell.proofs.Lent.{no-place-is, few-knots}
 use Rattle.track.specs.Fills.{CursorIs}
 use Rattle.cases.proofs.track_hash.walk.Statement.{statement}
 use Rattle.cases.proofs.track_hash.walk.Tie as tie
 
 abbrev Inv-loop : tie.InvT-loop
-Inv-loop starts clips xs ys blocks m times values marks ends tops at₀ count₀ hash₀ at count hash =
+Inv-loop starts clips xs ys blocks m times values marks ends latest at₀ count₀ hash₀ at count hash =
     CursorIs starts clips xs ys blocks m times values marks ends Key.most at
 
 abbrev μ-loop : tie.MeasureT-loop
-μ-loop starts clips xs ys blocks m times values marks ends tops at₀ count₀ hash₀ at count hash = Key.most - at .key
+μ-loop starts clips xs ys blocks m times values marks ends latest at₀ count₀ hash₀ at count hash = Key.most - at .key
 
 latest-inverses-requires : tie.Need-latest-inverses-requires Inv-loop μ-loop
 latest-inverses-requires c κs = let a = c .before .before .before .before .before .before .before .before .before in (a .pre .0 .knots-paired, (few-knots (a .pre .0), ready-readable (a .pre .0) .segments))
@@ -26,7 +26,7 @@ no-place-requires c κs = search needs
 loop-holds : tie.Need-loop-holds Inv-loop μ-loop
 loop-holds c =
     let a = c .before .before .before .before .before .before .before .before .before .before .before in
-    record { keys = record { low = lit≤ tt; order = lit≤ tt; high = lit≤ tt }; last = a .pre .1; spot = no-spot-is (a .pre .0) (c .no-place .result .p) (c .no-place .result .w) (c .no-place .ensures) }
+    record { keys = record { low = lit≤ tt; order = lit≤ tt; high = lit≤ tt }; last = a .pre .1; place = no-place-is (a .pre .0) (c .no-place .result .start) (c .no-place .result .window) (c .no-place .ensures) }
 
 walk-page-requires : tie.Need-walk-page-requires Inv-loop μ-loop
 walk-page-requires c κs = let b = c .before .before .before in (b .before .before .before .before .before .before .before .before .before .before .before .before .pre .0, (b .before .before .latest-inverses .ensures, b .loop .inv))

@@ -1,4 +1,4 @@
--- `spot::follows` meets its contract. Assumes nothing.
+-- `place::follows` meets its contract. Assumes nothing.
 use mathlib.Core.Path.{sym, _∙_}
 use mathlib.Core.Bool.{false≢true}
 use native.Mathlib.Omega.{arith}

@@ -1,4 +1,4 @@
--- `spot::has_reading` meets its contract. Assumes nothing.
+-- `place::has_reading` meets its contract. Assumes nothing.
 use mathlib.Core.Path.{sym, ap, ap₂, _∙_}
 use mathlib.Core.Bool.{Bool, _&&_}
 use lib.Dec.{ltb}

@@ -1,4 +1,4 @@
--- `spot::spot_at` meets its contract. Assumes nothing.
+-- `place::spot_at` meets its contract. Assumes nothing.
 use native.Mathlib.Omega.{arith}
 use Rattle.laws.proofs.list.Places.{last-inside}
 use Rattle.window.proofs.Parts.{ready-starts}
@@ -31,7 +31,7 @@ returns-3 c =
     let a = l .before .before .before .before .before .before .before .before .before .before .before in
     let w = c .window-after .result in
     record {
-      spot = record {
+      place = record {
         window = λ _. c .window-after .ensures;
         gap = λ _ n. gap-stands (a .pre .0) (a .args .t) (l .last-at-most-near .result) w (c .window-after .ensures) (l .last-at-most-near .ensures) n;
       };

@@ -1,4 +1,4 @@
--- `spot::window_after` meets its contract: what stands in for two windows without samples is the same. Assumes nothing.
+-- `place::window_after` meets its contract: what stands in for two windows without samples is the same. Assumes nothing.
 use mathlib.Core.Path.{refl}
 use native.Mathlib.Omega.{arith}
 use Rattle.window.proofs.Parts.{ready-clip}
@@ -40,7 +40,7 @@ returns c =
     let n = F .next in
     let S = a .pre .1 .0 in
     let h = a .pre .1 .1 in
-    window-on (a .pre .0) (a .args .spot .p) (a .args .spot .w) (S .window (omega arith)) (F .none-before) (S .gap (omega arith) (F .none-before)) (a .args .p) (F .next) h (F .none-here)
+    window-on (a .pre .0) (a .args .place .start) (a .args .place .window) (S .window (omega arith)) (F .none-before) (S .gap (omega arith) (F .none-before)) (a .args .p) (F .next) h (F .none-here)
     _ refl refl (c .before .window-min .ensures) (c .window-max .ensures) (c .before .before .clip-begin .ensures) refl refl
 
 window-of-requires : tie.Need-window-of-requires

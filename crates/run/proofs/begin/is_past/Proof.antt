@@ -24,7 +24,7 @@ shared-slice-read-result c = search needs
 returns-2 : tie.Need-returns-2
 returns-2 c =
     let a = c .before .before .before .args in
-    λ e h. (omega arith, holds (le (getD (a .tops .now) (a .i - 1) nan) (a .l)) e)
+    λ e h. (omega arith, holds (le (getD (a .latest .now) (a .i - 1) nan) (a .l)) e)
 
 returns-3 : tie.Need-returns-3
 returns-3 c = λ e. absurd (false≢true e)

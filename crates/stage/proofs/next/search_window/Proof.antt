@@ -47,7 +47,7 @@ near-in-requires : tie.Need-near-in-requires
 near-in-requires c κs =
     let k = c .before in
     let s = entry k in
-    whole-nears (s .pre .0) (s .args .p) (s .pre .1 .1 .1 .0) (k .whole-window .result) (k .whole-window .ensures) (s .args .t) (s .pre .1 .1 .0) (time s) (now (s .args .tops)) (s .pre .1 .0)
+    whole-nears (s .pre .0) (s .args .p) (s .pre .1 .1 .1 .0) (k .whole-window .result) (k .whole-window .ensures) (s .args .t) (s .pre .1 .1 .0) (time s) (now (s .args .latest)) (s .pre .1 .0)
 
 returns : tie.Need-returns
 returns c =

@@ -18,12 +18,12 @@ use Rattle.stage.proofs.walk.fits.Statement.{statement}
 use Rattle.stage.proofs.walk.fits.Tie as tie
 
 abbrev Inv-loop : tie.InvT-loop
-Inv-loop starts clips xs ys blocks m times values marks ends tops room t₀ count₀ place₀ knot₀ sample₀ t count place knot sample =
+Inv-loop starts clips xs ys blocks m times values marks ends latest room t₀ count₀ place₀ knot₀ sample₀ t count place knot sample =
     FiniteDouble t × (count ≤ room)
     × (length (stageSampleTimes (setOf (length ends) starts clips xs ys blocks m) (samplesOf times values marks ends)) ≡ count + length (stageAfter (setOf (length ends) starts clips xs ys blocks m) (samplesOf times values marks ends) t))
 
 abbrev μ-loop : tie.MeasureT-loop
-μ-loop starts clips xs ys blocks m times values marks ends tops room t₀ count₀ place₀ knot₀ sample₀ t count place knot sample = room - count
+μ-loop starts clips xs ys blocks m times values marks ends latest room t₀ count₀ place₀ knot₀ sample₀ t count place knot sample = room - count
 
 abbrev entry : tie.At-loop Inv-loop μ-loop → tie.Start Inv-loop μ-loop
 entry k = k .before .before .before .before .before .before .before .before .before .before .before

@@ -18,12 +18,12 @@ use Rattle.stage.proofs.walk.write_times.Statement.{statement}
 use Rattle.stage.proofs.walk.write_times.Tie as tie
 
 abbrev Inv-loop : tie.InvT-loop
-Inv-loop starts clips xs ys blocks m times values marks ends tops out₀ t₀ count₀ place₀ knot₀ sample₀ out t count place knot sample =
+Inv-loop starts clips xs ys blocks m times values marks ends latest out₀ t₀ count₀ place₀ knot₀ sample₀ out t count place knot sample =
     FiniteDouble t
     × Wrote (stageSampleTimes (setOf (length ends) starts clips xs ys blocks m) (samplesOf times values marks ends)) (stageAfter (setOf (length ends) starts clips xs ys blocks m) (samplesOf times values marks ends) t) out₀ out count
 
 abbrev μ-loop : tie.MeasureT-loop
-μ-loop starts clips xs ys blocks m times values marks ends tops out₀ t₀ count₀ place₀ knot₀ sample₀ out t count place knot sample = length out₀ - count
+μ-loop starts clips xs ys blocks m times values marks ends latest out₀ t₀ count₀ place₀ knot₀ sample₀ out t count place knot sample = length out₀ - count
 
 abbrev entry : tie.At-loop Inv-loop μ-loop → tie.Start Inv-loop μ-loop
 entry k = k .before .before .before .before .before .before .before .before .before .before .before .before

@@ -2,7 +2,7 @@
 use mathlib.Core.Path.{refl}
 use lib.Dec.{lit≤}
 use Rattle.window.proofs.Parts.{ready-readable}
-use Rattle.cell.proofs.Lent.{no-spot-is, few-knots}
+use Rattle.cell.proofs.Lent.{no-place-is, few-knots}
 use Rattle.track.proofs.Walks.{slots-some}
 use borrow.Author.Needs.{needs}
 use Rattle.track.proofs.bake.bake.Statement.{statement}
@@ -34,7 +34,7 @@ bake-by-pages-requires c κs =
       (
         n .before .latest-inverses .ensures,
         (
-          record { keys = record { low = lit≤ tt; order = lit≤ tt; high = lit≤ tt }; last = n .before .before .entry-at .ensures; spot = no-spot-is (a .pre) (n .no-place .result .p) (n .no-place .result .w) (n .no-place .ensures) },
+          record { keys = record { low = lit≤ tt; order = lit≤ tt; high = lit≤ tt }; last = n .before .before .entry-at .ensures; place = no-place-is (a .pre) (n .no-place .result .start) (n .no-place .result .window) (n .no-place .ensures) },
           (refl, slots-some _ _ _ _ _ _),
         ),
       ),

@@ -20,11 +20,11 @@ use Rattle.track.proofs.count.has_room.Statement.{statement}
 use Rattle.track.proofs.count.has_room.Tie as tie
 
 abbrev Inv-loop : tie.InvT-loop
-Inv-loop starts clips xs ys blocks m times values marks ends tops top room pagetimes₀ pagevalues₀ pagemarks₀ at₀ count₀ pagetimes pagevalues pagemarks at count =
+Inv-loop starts clips xs ys blocks m times values marks ends latest top room pagetimes₀ pagevalues₀ pagemarks₀ at₀ count₀ pagetimes pagevalues pagemarks at count =
     (at₀ .key ≤ at .key) × CursorIs starts clips xs ys blocks m times values marks ends top at × (count ≡ length (changesOf (setOf (length ends) starts clips xs ys blocks m) (samplesOf times values marks ends) (at₀ .key) (at .key))) × (count ≤ room) × Long (outputs pagetimes₀ pagevalues₀ pagemarks₀) (outputs pagetimes pagevalues pagemarks)
 
 abbrev μ-loop : tie.MeasureT-loop
-μ-loop starts clips xs ys blocks m times values marks ends tops top room pagetimes₀ pagevalues₀ pagemarks₀ at₀ count₀ pagetimes pagevalues pagemarks at count =
+μ-loop starts clips xs ys blocks m times values marks ends latest top room pagetimes₀ pagevalues₀ pagemarks₀ at₀ count₀ pagetimes pagevalues pagemarks at count =
     top - at .key
 
 -- the set and the samples that are lent

@@ -1,4 +1,4 @@
--- `fill::fill` meets its contract. The invariant: the walk stands at the key at, and the spot is one of the set's. The measure is what is left up to top. Assumes nothing.
+-- `fill::fill` meets its contract. The invariant: the walk stands at the key at, and the place is one of the set's. The measure is what is left up to top. Assumes nothing.
 use mathlib.Core.Path.{_≡_, sym, _∙_, subst}
 use Prim.Native.Nat.{ℕ, _+_, _-_, _≤_, _<_}
 use native.Mathlib.Omega.{arith}
@@ -20,12 +20,12 @@ use Rattle.track.proofs.fill.fill.Statement.{statement}
 use Rattle.track.proofs.fill.fill.Tie as tie
 
 abbrev Inv-loop : tie.InvT-loop
-Inv-loop starts clips xs ys blocks m times values marks ends tops top outtimes₀ outvalues₀ outmarks₀ room at₀ last₀ spot₀ count₀ outtimes outvalues outmarks at last spot count =
-    (at ≤ top) × PlaceIs starts clips xs ys blocks m times values marks ends (spot .p) (spot .w)
+Inv-loop starts clips xs ys blocks m times values marks ends latest top outtimes₀ outvalues₀ outmarks₀ room at₀ last₀ spot₀ count₀ outtimes outvalues outmarks at last place count =
+    (at ≤ top) × PlaceIs starts clips xs ys blocks m times values marks ends (place .start) (place .window)
     × Stands (entryAtKey (setOf (length ends) starts clips xs ys blocks m) (samplesOf times values marks ends)) at₀ room 0 (outputs outtimes₀ outvalues₀ outmarks₀) (outputs outtimes outvalues outmarks) at (entryIs last) count
 
 abbrev μ-loop : tie.MeasureT-loop
-μ-loop starts clips xs ys blocks m times values marks ends tops top outtimes₀ outvalues₀ outmarks₀ room at₀ last₀ spot₀ count₀ outtimes outvalues outmarks at last spot count =
+μ-loop starts clips xs ys blocks m times values marks ends latest top outtimes₀ outvalues₀ outmarks₀ room at₀ last₀ spot₀ count₀ outtimes outvalues outmarks at last place count =
     top - at
 
 -- the set and the samples that are lent, the value, the outputs
@@ -77,7 +77,7 @@ below c = let h = c .before .loop .inv .0 in let n = c .if1 .left in omega arith
 next-keys : (c : tie.Else1 Inv-loop μ-loop) → Keys (c .before .loop .at + 1) (entry (c .before) .args .top)
 next-keys c = let K = keys (entry (c .before)) in let l = below c in let f = c .before .loop .inv .2 .from in record { low = omega (arith, K .low); order = omega arith; high = K .high }
 
--- after the change there was offered: the loop's head, the stretch
+-- after the change there was offered: the loop's head, the span
 abbrev loop : tie.After-offer Inv-loop μ-loop → tie.At-loop Inv-loop μ-loop
 loop c = c .before .before .before .before .before .before .before .before
 
@@ -94,39 +94,39 @@ refused : (c : tie.Then2 Inv-loop μ-loop) → let g = offered (c .before) in le
 refused c =
     let g = offered (c .before) in
     let b = loop g in
-    stands-full (v (entry b)) (entry b .args .from .key) (room b) 0 (outs (entry b)) (has b) (b .loop .inv .2) (reaches b) (found g .span-at .ensures .stretch .here) (g .offer .ensures) (c .if2 .taken)
+    stands-full (v (entry b)) (entry b .args .from .key) (room b) 0 (outs (entry b)) (has b) (b .loop .inv .2) (reaches b) (found g .span-at .ensures .span .here) (g .offer .ensures) (c .if2 .taken)
 
-taken : (c : tie.Else2 Inv-loop μ-loop) → let g = offered (c .before) in let b = loop g in At b (after g) (b .loop .at + 1) (entryIs (found g .span-at .result .stretch .here)) (g .offer .result)
+taken : (c : tie.Else2 Inv-loop μ-loop) → let g = offered (c .before) in let b = loop g in At b (after g) (b .loop .at + 1) (entryIs (found g .span-at .result .span .here)) (g .offer .result)
 taken c =
     let g = offered (c .before) in
     let b = loop g in
     let h = c .if2 .left in
-    stands-next (v (entry b)) (entry b .args .from .key) (room b) 0 (outs (entry b)) (has b) (b .loop .inv .2) (reaches b) (found g .span-at .ensures .stretch .here) (g .offer .ensures) (omega arith)
+    stands-next (v (entry b)) (entry b .args .from .key) (room b) 0 (outs (entry b)) (has b) (b .loop .inv .2) (reaches b) (found g .span-at .ensures .span .here) (g .offer .ensures) (omega arith)
 
--- after the walk over the stretch
+-- after the walk over the span
 abbrev begun : tie.After-fill-in Inv-loop μ-loop → tie.Else2 Inv-loop μ-loop
 begun c = c .before .before .before .before
 
 abbrev first : tie.After-fill-in Inv-loop μ-loop → tie.After-offer Inv-loop μ-loop
 first c = offered (begun c .before)
 
-abbrev stretch : tie.After-fill-in Inv-loop μ-loop → tie.After-span-at Inv-loop μ-loop
-stretch c = found (first c)
+abbrev span : tie.After-fill-in Inv-loop μ-loop → tie.After-span-at Inv-loop μ-loop
+span c = found (first c)
 
 abbrev behind : tie.After-fill-in Inv-loop μ-loop → Outputs
 behind c = let o = c .fill-in .last .1 .1 .1 .1 .1 .1 .1 .1 in outputs (o .0) (o .1 .0) (o .1 .1 .0)
 
 walked : (c : tie.After-fill-in Inv-loop μ-loop) → let b = loop (first c) in
-    Walked (v (entry b)) (entry b .args .from .key) (stretch c .span-at .result .stretch .hi) (room b) 0 (outs (entry b)) (behind c) (c .fill-in .result)
+    Walked (v (entry b)) (entry b .args .from .key) (span c .span-at .result .span .hi) (room b) 0 (outs (entry b)) (behind c) (c .fill-in .result)
 walked c =
     let b = loop (first c) in
-    walked-join (v (entry b)) (entry b .args .from .key) (stretch c .span-at .result .stretch .hi) (room b) 0 (outs (entry b)) (has b) (taken (begun c)) (walked-agree (stretch c .span-at .ensures .stretch .says) (c .fill-in .ensures))
+    walked-join (v (entry b)) (entry b .args .from .key) (span c .span-at .result .span .hi) (room b) 0 (outs (entry b)) (has b) (taken (begun c)) (walked-agree (span c .span-at .ensures .span .says) (c .fill-in .ensures))
 
 abbrev went : tie.After-struct-known Inv-loop μ-loop → tie.After-fill-in Inv-loop μ-loop
 went c = c .before .before .before .before .before .before .before
 
-within : (c : tie.After-fill-in Inv-loop μ-loop) → (loop (first c) .loop .at < stretch c .span-at .result .stretch .hi) × (stretch c .span-at .result .stretch .hi ≤ entry (loop (first c)) .args .top)
-within c = let S = stretch c .span-at .ensures .stretch in (let o = S .keys .order in omega arith, S .within)
+within : (c : tie.After-fill-in Inv-loop μ-loop) → (loop (first c) .loop .at < span c .span-at .result .span .hi) × (span c .span-at .result .span .hi ≤ entry (loop (first c)) .args .top)
+within c = let S = span c .span-at .ensures .span in (let o = S .keys .order in omega arith, S .within)
 
 long-full : (c : tie.Then2 Inv-loop μ-loop) → Long (outs (entry (loop (offered (c .before))))) (after (offered (c .before)))
 long-full c = let b = loop (offered (c .before)) in long b _ _ _ _ (refused c)
@@ -145,7 +145,7 @@ loop-holds c =
     let a = c .before .before .before .before .before .before .before .before .before .before .before .before .before .before .before .before in
     let C = a .pre .1 .1 in
     let r = c .before .before .shortest in
-    (keys a .order, C .spot, stands-first (v a) (a .args .from .key) (r .result) 0 (outs a) (slots-room (a .args .outtimes .now) (a .args .outvalues .now) (a .args .outmarks .now) (r .result) (r .ensures)) (entryIs (a .args .from .last)) (C .last))
+    (keys a .order, C .place, stands-first (v a) (a .args .from .key) (r .result) 0 (outs a) (slots-room (a .args .outtimes .now) (a .args .outvalues .now) (a .args .outmarks .now) (r .result) (r .ensures)) (entryIs (a .args .from .last)) (C .last))
 
 same-length : tie.Need-same-length Inv-loop μ-loop
 same-length c = long-end c .times
@@ -160,7 +160,7 @@ returns : tie.Need-returns Inv-loop μ-loop
 returns c =
     let b = c .before in
     let a = entry b in
-    filled (a .args .from .key) (a .args .top) (room b) (keys a) (outs a) (now b) (all b) _ (walked-all (b .loop .inv .2) (c .if1 .taken)) (b .loop .spot) (b .loop .inv .1)
+    filled (a .args .from .key) (a .args .top) (room b) (keys a) (outs a) (now b) (all b) _ (walked-all (b .loop .inv .2) (c .if1 .taken)) (b .loop .place) (b .loop .inv .1)
 
 add-k : tie.Need-add-k Inv-loop μ-loop
 add-k c = let l = below c in let K = keys (entry (c .before)) in omega (arith, K .high)
@@ -192,15 +192,15 @@ returns-2 c =
     let l = below (found g .before) in
     filled (a .args .from .key) (a .args .top) (room b) (keys a) (outs a) (after g) (all b) _
     (walked-full (refused c) (b .loop .inv .0)
-    (full (v a) (a .args .from .key) (room b) 0 (outs a) (has b) (b .loop .inv .2) (reaches b) (found g .span-at .ensures .stretch .here) (g .offer .ensures) (omega arith) (c .if2 .taken)))
-    (b .loop .spot) (b .loop .inv .1)
+    (full (v a) (a .args .from .key) (room b) 0 (outs a) (has b) (b .loop .inv .2) (reaches b) (found g .span-at .ensures .span .here) (g .offer .ensures) (omega arith) (c .if2 .taken)))
+    (b .loop .place) (b .loop .inv .1)
 
 fill-in-requires : tie.Need-fill-in-requires Inv-loop μ-loop
 fill-in-requires c κs =
     let e = c .before .before .before in
     let g = offered (e .before) in
     let b = loop g in
-    let S = found g .span-at .ensures .stretch in
+    let S = found g .span-at .ensures .span in
     (S .keys, (S .runs, stands-room (v (entry b)) (entry b .args .from .key) (room b) 0 (outs (entry b)) (has b) (taken e)))
 
 same-length-7 : tie.Need-same-length-7 Inv-loop μ-loop
@@ -217,7 +217,7 @@ returns-3 c =
     let i = went (c .before .before .before) in
     let b = loop (first i) in
     let a = entry b in
-    filled (a .args .from .key) (a .args .top) (room b) (keys a) (outs a) (behind i) (all b) _ (walked-wider (within i .1) (not-true (i .fill-in .result .done) (c .before .before .if3 .taken)) (walked i)) (stretch i .span-at .result .spot) (stretch i .span-at .ensures .spot)
+    filled (a .args .from .key) (a .args .top) (room b) (keys a) (outs a) (behind i) (all b) _ (walked-wider (within i .1) (not-true (i .fill-in .result .done) (c .before .before .if3 .taken)) (walked i)) (span i .span-at .result .place) (span i .span-at .ensures .place)
 
 loop-less : tie.Need-loop-less Inv-loop μ-loop
 loop-less c = let i = went (c .before .before .before) in let h = within i in let l = loop (first i) .loop .inv .0 in omega (arith, h .0, h .1)
@@ -226,7 +226,7 @@ loop-again : tie.Need-loop-again Inv-loop μ-loop
 loop-again c =
     let i = went (c .before .before .before) in
     let b = loop (first i) in
-    (within i .1, stretch i .span-at .ensures .spot, subst (λ (j : ℕ). At b (behind i) j (entryIs (i .fill-in .result .last)) (i .fill-in .result .count)) (walked i .whole (not-false (i .fill-in .result .done) (c .before .before .if3 .left))) (walked i .stands))
+    (within i .1, span i .span-at .ensures .place, subst (λ (j : ℕ). At b (behind i) j (entryIs (i .fill-in .result .last)) (i .fill-in .result .count)) (walked i .whole (not-false (i .fill-in .result .done) (c .before .before .if3 .left))) (walked i .stands))
 
 pub fill-spec : {M : Type 1} → statement M
 fill-spec =

@@ -81,7 +81,7 @@ cell-at-requires c κs =
       (
         a .pre .1 .0,
         (
-          subst (λ (t : Float). PlaceAt (a .args .starts .now) (a .args .clips .now) (a .args .xs .now) (a .args .ys .now) (a .args .blocks .now) (a .args .m) (a .args .times .now) (a .args .values .now) (a .args .marks .now) (a .args .ends .now) t (a .args .at .p) (a .args .at .w)) e (a .pre .1 .1 .0),
+          subst (λ (t : Float). PlaceAt (a .args .starts .now) (a .args .clips .now) (a .args .xs .now) (a .args .ys .now) (a .args .blocks .now) (a .args .m) (a .args .times .now) (a .args .values .now) (a .args .marks .now) (a .args .ends .now) t (a .args .at .start) (a .args .at .window)) e (a .pre .1 .1 .0),
           subst FiniteDouble e (finite-key a),
         ),
       ),
@@ -118,7 +118,7 @@ returns c =
     let q = l .before .before in
     let a = entry q in
     record {
-      stretch = record {
+      span = record {
         keys = keys l;
         within = let e = hi-is l in omega arith;
         here = here x;
@@ -126,7 +126,7 @@ returns c =
         says = subst (λ (h : ℕ). Agree (a .args .k) h (entryAtKey (set a) (lent a)) (entryOn (a .args .times .now) (a .args .values .now) (a .args .marks .now) (a .args .ends .now) (q .cell-at .result .cell) (entryIs (x .entry-of .result)))) (hi-is l)
             (span-says (a .pre .0) (a .args .k) (a .args .top) (a .pre .1 .1 .1) (q .cell-at .result .cell) (q .cell-at .result .end) (piece q) (entryIs (x .entry-of .result)) (here x));
       };
-      spot = a .pre .1 .1 .0 .spot;
+      place = a .pre .1 .1 .0 .place;
     }
 
 pub cell-step-spec : {M : Type 1} → statement M

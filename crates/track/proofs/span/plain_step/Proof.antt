@@ -16,7 +16,7 @@ use Rattle.value.specs.Answers.{answerIn, Answerable}
 use Rattle.value.proofs.Says.{ready-marks}
 use Rattle.value.specs.WindowOf.{WindowIs}
 use Rattle.cell.specs.declared.Cell.{Cell}
-use Rattle.cell.proofs.Lent.{spot-window}
+use Rattle.cell.proofs.Lent.{place-window}
 use Rattle.track.proofs.span.Spans.{Told, told-sayable, told-here, told-runs, told-says}
 use Rattle.track.proofs.span.Plains.{plain-number, plain-later, plain-told}
 use borrow.Author.Needs.{needs}
@@ -37,18 +37,18 @@ some-start : (a : tie.Start) → 0 < length (a .args .starts .now)
 some-start a = let h = a .pre .1 .1 .1 .1 in omega arith
 
 -- the active start and its window
-at : (a : tie.Start) → a .args .at .p ≡ lastAtMost (a .args .starts .now) (ofKey (a .args .k))
+at : (a : tie.Start) → a .args .at .start ≡ lastAtMost (a .args .starts .now) (ofKey (a .args .k))
 at a = a .pre .1 .0 .place (some-start a)
 
 window : (a : tie.Start)
-    → WindowIs (a .args .starts .now) (a .args .clips .now) (a .args .xs .now) (a .args .ys .now) (a .args .blocks .now) (a .args .m) (a .args .times .now) (a .args .values .now) (a .args .marks .now) (a .args .ends .now) (a .args .at .p) (a .args .at .w)
+    → WindowIs (a .args .starts .now) (a .args .clips .now) (a .args .xs .now) (a .args .ys .now) (a .args .blocks .now) (a .args .m) (a .args .times .now) (a .args .values .now) (a .args .marks .now) (a .args .ends .now) (a .args .at .start) (a .args .at .window)
 window a =
     let K = a .pre .1 .1 .0 in
-    spot-window (a .pre .0) (ofKey (a .args .k)) record { fitting = ofKey-fits (a .args .k); finitely = ofKey-finite (a .args .k) (K .low) (omega (arith, K .order, K .high)) }
-    (a .args .at .p) (a .args .at .w) (a .pre .1 .0) (some-start a)
+    place-window (a .pre .0) (ofKey (a .args .k)) record { fitting = ofKey-fits (a .args .k); finitely = ofKey-finite (a .args .k) (K .low) (omega (arith, K .order, K .high)) }
+    (a .args .at .start) (a .args .at .window) (a .pre .1 .0) (some-start a)
 
 -- the last key
-hi-is : (c : tie.After-lesser) → min (entry (c .before .before) .args .top) (key (entry (c .before .before) .args .at .w .max) - 1) ≡ c .lesser .result
+hi-is : (c : tie.After-lesser) → min (entry (c .before .before) .args .top) (key (entry (c .before .before) .args .at .window .max) - 1) ≡ c .lesser .result
 hi-is c = sym (c .lesser .ensures ∙ ap (λ (e : ℕ). min (entry (c .before .before) .args .top) (e - 1)) (c .before .key .ensures))
 
 -- the cell reads the value up to there
@@ -57,8 +57,8 @@ told c =
     let q = c .before .before in
     let a = entry q in
     subst (λ (h : ℕ). Told (set a) (lent a) (a .args .k) h (q .plain-cell .result)) (hi-is c)
-    (subst (λ (d : Cell). Told (set a) (lent a) (a .args .k) (min (a .args .top) (key (a .args .at .w .max) - 1)) d) (sym (q .plain-cell .ensures))
-    (plain-told (a .pre .0) (a .pre .1 .1 .1 .0) (a .pre .1 .1 .1 .1) (a .args .at .p) (a .args .at .w) (window a) (a .args .k) (a .args .top) (a .pre .1 .1 .0) (at a)))
+    (subst (λ (d : Cell). Told (set a) (lent a) (a .args .k) (min (a .args .top) (key (a .args .at .window .max) - 1)) d) (sym (q .plain-cell .ensures))
+    (plain-told (a .pre .0) (a .pre .1 .1 .1 .0) (a .pre .1 .1 .1 .1) (a .args .at .start) (a .args .at .window) (window a) (a .args .k) (a .args .top) (a .pre .1 .1 .0) (at a)))
 
 -- what is said at k
 here : (c : tie.After-entry-of) → entryIs (c .entry-of .result) ≡ entryAtKey (set (entry (c .before .before .before .before .before))) (lent (entry (c .before .before .before .before .before))) (entry (c .before .before .before .before .before) .args .k)
@@ -74,12 +74,12 @@ plain-cell-requires : tie.Need-plain-cell-requires
 plain-cell-requires c κs = search needs
 
 key-requires : tie.Need-key-requires
-key-requires c κs = let a = entry c in plain-number (a .pre .0) (a .pre .1 .1 .1 .0) (a .pre .1 .1 .1 .1) (a .args .at .p) (a .args .at .w) (window a) (a .args .k) (a .args .top) (a .pre .1 .1 .0) (at a)
+key-requires c κs = let a = entry c in plain-number (a .pre .0) (a .pre .1 .1 .1 .0) (a .pre .1 .1 .1 .1) (a .args .at .start) (a .args .at .window) (window a) (a .args .k) (a .args .top) (a .pre .1 .1 .0) (at a)
 
 sub-lesser : tie.Need-sub-lesser
 sub-lesser c =
     let a = entry (c .before) in
-    omega (arith, c .key .ensures, plain-later (a .pre .0) (a .pre .1 .1 .1 .0) (a .pre .1 .1 .1 .1) (a .args .at .p) (a .args .at .w) (window a) (a .args .k) (a .args .top) (a .pre .1 .1 .0) (at a))
+    omega (arith, c .key .ensures, plain-later (a .pre .0) (a .pre .1 .1 .1 .0) (a .pre .1 .1 .1 .1) (a .args .at .start) (a .args .at .window) (window a) (a .args .k) (a .args .top) (a .pre .1 .1 .0) (at a))
 
 lesser-requires : tie.Need-lesser-requires
 lesser-requires c κs = search needs
@@ -107,14 +107,14 @@ returns c =
     let q = l .before .before in
     let a = entry q in
     record {
-      stretch = record {
+      span = record {
         keys = told l .keys;
         within = let e = hi-is l in omega arith;
         here = here c;
         runs = told-runs (a .pre .0) (a .args .k) (l .lesser .result) (q .plain-cell .result) (told l);
         says = told-says (a .pre .0) (a .args .k) (l .lesser .result) (q .plain-cell .result) (told l) (entryIs (c .entry-of .result)) (here c);
       };
-      spot = a .pre .1 .0 .spot;
+      place = a .pre .1 .0 .place;
     }
 
 pub plain-step-spec : {M : Type 1} → statement M

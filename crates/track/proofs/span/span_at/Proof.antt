@@ -13,7 +13,7 @@ use Rattle.laws.proofs.list.Tests.{holds, is-true}
 use Rattle.laws.proofs.cell.Every.{both-l, both-r}
 use Rattle.value.proofs.Handed.{window-lent, window-nears}
 use Rattle.cell.specs.WindowPlaces.{PlaceAt}
-use Rattle.cell.proofs.Lent.{spot-window}
+use Rattle.cell.proofs.Lent.{place-window}
 use Rattle.run.specs.begin.Begins.{RunBeginIs}
 use Rattle.track.proofs.span.Onsets.{window-least}
 use borrow.Author.Needs.{needs}
@@ -26,11 +26,11 @@ entry c = c .before .before .before .before .before .before .before .before .bef
 finite-key : (a : tie.Start) → FiniteDouble (ofKey (a .args .k))
 finite-key a = let K = a .pre .1 .1 .1 in record { fitting = ofKey-fits (a .args .k); finitely = ofKey-finite (a .args .k) (K .low) (omega (arith, K .order, K .high)) }
 
--- the spot is that of k
-spot : (c : tie.After-place-at) → PlaceAt (entry c .args .starts .now) (entry c .args .clips .now) (entry c .args .xs .now) (entry c .args .ys .now) (entry c .args .blocks .now) (entry c .args .m) (entry c .args .times .now) (entry c .args .values .now) (entry c .args .marks .now) (entry c .args .ends .now) (ofKey (entry c .args .k)) (c .place-at .result .p) (c .place-at .result .w)
-spot c =
+-- the place is that of k
+place : (c : tie.After-place-at) → PlaceAt (entry c .args .starts .now) (entry c .args .clips .now) (entry c .args .xs .now) (entry c .args .ys .now) (entry c .args .blocks .now) (entry c .args .m) (entry c .args .times .now) (entry c .args .values .now) (entry c .args .marks .now) (entry c .args .ends .now) (ofKey (entry c .args .k)) (c .place-at .result .start) (c .place-at .result .window)
+place c =
     let a = entry c .args in
-    subst (λ (t : Float). PlaceAt (a .starts .now) (a .clips .now) (a .xs .now) (a .ys .now) (a .blocks .now) (a .m) (a .times .now) (a .values .now) (a .marks .now) (a .ends .now) t (c .place-at .result .p) (c .place-at .result .w)) (c .before .of-key .ensures) (c .place-at .ensures)
+    subst (λ (t : Float). PlaceAt (a .starts .now) (a .clips .now) (a .xs .now) (a .ys .now) (a .blocks .now) (a .m) (a .times .now) (a .values .now) (a .marks .now) (a .ends .now) t (c .place-at .result .start) (c .place-at .result .window)) (c .before .of-key .ensures) (c .place-at .ensures)
 
 of-key-requires : tie.Need-of-key-requires
 of-key-requires c κs = search needs
@@ -48,7 +48,7 @@ plain-step-requires c κs =
     let b = holds (ltb 1 (length (a .args .starts .now)) && eqb (length (a .args .xs .now)) 0) (sym (c .before .is-plain .ensures) ∙ c .if1 .taken) in
     let m = both-l (ltb 1 (length (a .args .starts .now))) (eqb (length (a .args .xs .now)) 0) b in
     let e = both-r (ltb 1 (length (a .args .starts .now))) (eqb (length (a .args .xs .now)) 0) b in
-    (a .pre .0, (spot q, (a .pre .1 .1 .1, (eqb-true _ 0 (is-true _ e), ltb-true 1 _ (is-true _ m)))))
+    (a .pre .0, (place q, (a .pre .1 .1 .1, (eqb-true _ 0 (is-true _ e), ltb-true 1 _ (is-true _ m)))))
 
 returns : tie.Need-returns
 returns c = search needs
@@ -59,9 +59,9 @@ run-begin-requires c κs =
     let a = entry q in
     let n = c .before .if2 .taken in
     let f = subst FiniteDouble (sym (q .before .of-key .ensures)) (finite-key a) in
-    let W = spot-window (a .pre .0) (q .before .of-key .result) f (q .place-at .result .p) (q .place-at .result .w) (q .place-at .ensures) (omega arith) in (
-      window-nears (a .pre .0) (q .place-at .result .p) (q .place-at .result .w) W (q .before .of-key .result) (q .place-at .ensures .place (omega arith)) f (a .args .tops .now) (a .pre .1 .0),
-      (window-lent (a .pre .0) (q .place-at .result .p) (q .place-at .result .w) W, window-least (a .pre .0) (q .place-at .result .p) (q .place-at .result .w) W),
+    let W = place-window (a .pre .0) (q .before .of-key .result) f (q .place-at .result .start) (q .place-at .result .window) (q .place-at .ensures) (omega arith) in (
+      window-nears (a .pre .0) (q .place-at .result .start) (q .place-at .result .window) W (q .before .of-key .result) (q .place-at .ensures .place (omega arith)) f (a .args .latest .now) (a .pre .1 .0),
+      (window-lent (a .pre .0) (q .place-at .result .start) (q .place-at .result .window) W, window-least (a .pre .0) (q .place-at .result .start) (q .place-at .result .window) W),
     )
 
 enum-known-found : tie.Need-enum-known-found
@@ -73,9 +73,9 @@ run-step-requires c κs =
     let q = o .before .before .before .before .before in
     let a = entry q in
     let g = c .before .found .given in
-    let x = subst (λ (t : Float). RunBeginIs (a .args .xs .now) (a .args .ys .now) (a .args .tops .now) (a .args .times .now) (q .place-at .result .w) t (o .run-begin .result)) (q .before .of-key .ensures) (o .run-begin .ensures) in
-    let y = subst (RunBeginIs (a .args .xs .now) (a .args .ys .now) (a .args .tops .now) (a .args .times .now) (q .place-at .result .w) (ofKey (a .args .k))) (g .1) x in
-    (a .pre .0, (spot q, (o .before .before .if2 .taken, (y .0, (y .1, a .pre .1 .1 .1)))))
+    let x = subst (λ (t : Float). RunBeginIs (a .args .xs .now) (a .args .ys .now) (a .args .latest .now) (a .args .times .now) (q .place-at .result .window) t (o .run-begin .result)) (q .before .of-key .ensures) (o .run-begin .ensures) in
+    let y = subst (RunBeginIs (a .args .xs .now) (a .args .ys .now) (a .args .latest .now) (a .args .times .now) (q .place-at .result .window) (ofKey (a .args .k))) (g .1) x in
+    (a .pre .0, (place q, (o .before .before .if2 .taken, (y .0, (y .1, a .pre .1 .1 .1)))))
 
 returns-2 : tie.Need-returns-2
 returns-2 c = search needs
@@ -84,7 +84,7 @@ enum-told : tie.Need-enum-told
 enum-told c = search needs
 
 cell-step-requires : tie.Need-cell-step-requires
-cell-step-requires c κs = let q = c .before .before .before in let a = entry q in (a .pre .0, (a .pre .1 .0, (spot q, a .pre .1 .1 .1)))
+cell-step-requires c κs = let q = c .before .before .before in let a = entry q in (a .pre .0, (a .pre .1 .0, (place q, a .pre .1 .1 .1)))
 
 returns-3 : tie.Need-returns-3
 returns-3 c = search needs

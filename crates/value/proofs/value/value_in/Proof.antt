@@ -3,7 +3,7 @@ use mathlib.Core.Path.{refl, sym, _∙_}
 use mathlib.Core.List.{[]}
 use denote.Ref.{now}
 use borrow.Author.Needs.{needs}
-use Rattle.window.proofs.neighbours.TopsLaws.{no-tops}
+use Rattle.window.proofs.neighbours.LatestLaws.{no-latest}
 use Rattle.window.specs.neighbours.Windowed.{boundsOf}
 use Rattle.value.proofs.Values.{read-below, read-last, read-jump, read-held}
 use Rattle.value.proofs.value.value_in.Statement.{statement}
@@ -36,7 +36,7 @@ part-near-in-end-2 c = search needs
 near-in-requires : tie.Need-near-in-requires
 near-in-requires c κs =
     let s = c .before .before .before .before .before in
-    s .pre .nears [] (no-tops (now (s .args .xs)) (now (s .args .ys)) [] refl)
+    s .pre .nears [] (no-latest (now (s .args .xs)) (now (s .args .ys)) [] refl)
 
 enum-known-lower : tie.Need-enum-known-lower
 enum-known-lower c = search needs

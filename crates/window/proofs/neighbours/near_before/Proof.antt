@@ -10,10 +10,10 @@ use Rattle.window.proofs.neighbours.near_before.Statement.{statement}
 use Rattle.window.proofs.neighbours.near_before.Tie as tie
 
 abbrev Inv-loop : tie.InvT-loop
-Inv-loop xs ys tops cs i w t sample r₀ j₀ r j = (j ≤ i) × Reached t w xs ys cs j i r₀ r
+Inv-loop xs ys latest cs i w t sample r₀ j₀ r j = (j ≤ i) × Reached t w xs ys cs j i r₀ r
 
 abbrev μ-loop : tie.MeasureT-loop
-μ-loop xs ys tops cs i w t sample r₀ j₀ r j = j
+μ-loop xs ys latest cs i w t sample r₀ j₀ r j = j
 
 abbrev entry : tie.At-loop Inv-loop μ-loop → tie.Start Inv-loop μ-loop
 entry k = k .before .before .before .before .before

@@ -7,7 +7,7 @@ use Rattle.window.specs.Bounds.{inside}
 use Rattle.window.specs.Inverses.{onSegment}
 use Rattle.window.specs.Near.{SoundSegment}
 use Rattle.window.specs.nearest.Nearest.{Searched}
-use Rattle.window.proofs.neighbours.TopsLaws.{segment-here}
+use Rattle.window.proofs.neighbours.LatestLaws.{segment-here}
 use borrow.Author.Needs.{needs}
 use Rattle.window.proofs.neighbours.near_segment.Statement.{statement}
 use Rattle.window.proofs.neighbours.near_segment.Tie as tie

@@ -2,7 +2,7 @@
 use mathlib.Core.Path.{sym, ap, _∙_, subst}
 use lib.Ieee.{Float, lt}
 use Rattle.window.specs.neighbours.Latest.{NewTop}
-use Rattle.window.proofs.neighbours.TopsLaws.{top-flat, top-higher, top-lower}
+use Rattle.window.proofs.neighbours.LatestLaws.{top-flat, top-higher, top-lower}
 use borrow.Author.Needs.{needs}
 use Rattle.window.proofs.neighbours.latest.later_inverse.Statement.{statement}
 use Rattle.window.proofs.neighbours.latest.later_inverse.Tie as tie

@@ -24,7 +24,7 @@ returns c =
     let s = c .before .before .before .before .before in
     let a = s .args in
     let e : a .i - 1 + 1 ≡ a .i = omega (arith, s .pre .1 .1 .1 .1) in
-    subst (λ (n : ℕ). ReachOf (now (a .xs)) (now (a .ys)) n (getD (now (a .tops)) (a .i - 1) nan)) e (s .pre .1 .1 .0 .above (a .i - 1) (omega arith) (omega (arith, s .pre .1 .1 .1)))
+    subst (λ (n : ℕ). ReachOf (now (a .xs)) (now (a .ys)) n (getD (now (a .latest)) (a .i - 1) nan)) e (s .pre .1 .1 .0 .above (a .i - 1) (omega arith) (omega (arith, s .pre .1 .1 .1)))
 
 latest-inverse-requires : tie.Need-latest-inverse-requires
 latest-inverse-requires c κs = search needs

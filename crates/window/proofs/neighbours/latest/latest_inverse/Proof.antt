@@ -7,7 +7,7 @@ use denote.Ref.{now}
 use Rattle.definitions.specs.declared.Segment.{Segment}
 use Rattle.window.specs.Near.{SoundSegment}
 use Rattle.window.specs.neighbours.Latest.{NewTop, ReachOf}
-use Rattle.window.proofs.neighbours.TopsLaws.{reach-none, reach-next, segment-here}
+use Rattle.window.proofs.neighbours.LatestLaws.{reach-none, reach-next, segment-here}
 use Rattle.window.proofs.neighbours.latest.latest_inverse.Statement.{statement}
 use Rattle.window.proofs.neighbours.latest.latest_inverse.Tie as tie
 

@@ -1,4 +1,4 @@
--- `window::neighbours::latest::latest_inverses` meets its contract: the tops of the segments before i stand. Assumes nothing.
+-- `window::neighbours::latest::latest_inverses` meets its contract: the latest of the segments before i stand. Assumes nothing.
 use Prim.Native.Nat.{_-_, _≤_}
 use mathlib.Core.Path.{sym, subst}
 use native.Mathlib.Omega.{arith}
@@ -8,7 +8,7 @@ use denote.Ref.{now}
 use Rattle.definitions.specs.declared.Segment.{Segment}
 use Rattle.window.specs.Near.{SoundSegment}
 use Rattle.window.specs.neighbours.Latest.{NewTop}
-use Rattle.window.proofs.neighbours.TopsLaws.{TopsTo, tops-none, tops-next, tops-all, segment-here}
+use Rattle.window.proofs.neighbours.LatestLaws.{TopsTo, latest-none, latest-next, latest-all, segment-here}
 use borrow.Author.Needs.{needs}
 use Rattle.window.proofs.neighbours.latest.latest_inverses.Statement.{statement}
 use Rattle.window.proofs.neighbours.latest.latest_inverses.Tie as tie
@@ -27,7 +27,7 @@ some-times-requires c κs = search needs
 
 loop-holds : tie.Need-loop-holds Inv-loop μ-loop
 unfolding ofBits neg div fits isNan
-loop-holds c = (tops-none _ _ _ _ (c .some-times .ensures) (tt, tt), omega arith)
+loop-holds c = (latest-none _ _ _ _ (c .some-times .ensures) (tt, tt), omega arith)
 
 add-loop : tie.Need-add-loop Inv-loop μ-loop
 add-loop c = omega arith
@@ -59,13 +59,13 @@ loop-again c =
     let k = m .before .before in
     let s = entry k in
     let N = subst (λ (q : Segment). NewTop (q .a, q .b) (k .loop .top) (c .later-inverse .result)) (m .segment-at .ensures) (c .later-inverse .ensures) in
-    (tops-next (now (s .args .xs)) (now (s .args .ys)) (k .loop .items) (k .loop .top) (c .later-inverse .result) (k .loop .i) (omega (arith, k .loop .inv .0 .long, s .pre .1 .0)) (k .loop .inv .0) N, omega arith)
+    (latest-next (now (s .args .xs)) (now (s .args .ys)) (k .loop .items) (k .loop .top) (c .later-inverse .result) (k .loop .i) (omega (arith, k .loop .inv .0 .long, s .pre .1 .0)) (k .loop .inv .0) N, omega arith)
 
 returns : tie.Need-returns Inv-loop μ-loop
 returns c =
     let k = c .before in
     let s = entry k in
-    tops-all (now (s .args .xs)) (now (s .args .ys)) (k .loop .items) (k .loop .top) (k .loop .i) (omega arith) (k .loop .inv .0)
+    latest-all (now (s .args .xs)) (now (s .args .ys)) (k .loop .items) (k .loop .top) (k .loop .i) (omega arith) (k .loop .inv .0)
 
 pub latest-inverses-spec : {M : Type 1} → statement M
 latest-inverses-spec =

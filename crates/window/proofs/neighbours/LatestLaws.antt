@@ -30,8 +30,8 @@ use Rattle.window.specs.Near.{SoundSegment}
 use Rattle.window.proofs.Near.{segment-at, topOf, inverse-fits, range}
 use Rattle.window.specs.neighbours.Latest.{segmentOf, ReachOf, LatestOf, NewTop}
 
-pub no-tops : (xs ys tops : List Float) → length tops ≡ 0 → LatestOf xs ys tops
-no-tops xs ys tops e = record { above = λ k h. absurd (omega arith) }
+pub no-latest : (xs ys latest : List Float) → length latest ≡ 0 → LatestOf xs ys latest
+no-latest xs ys latest e = record { above = λ k h. absurd (omega arith) }
 
 -- of sound knots each is a segment
 pub segment-here : (xs ys : List Float) → length xs ≡ length ys → Every SoundSegment (pairs (knotsOf xs ys)) → (j : ℕ) → j + 1 < length xs → SoundSegment (segmentOf xs ys j)
@@ -111,19 +111,19 @@ module _ (xs ys : List Float) where
     ];
   }
 
-  -- ---- all tops
+  -- ---- all latest
 
-  -- the tops of the segments before i, and the last of them
+  -- the latest of the segments before i, and the last of them
   pub record TopsTo (items : List Float) (top : Float) (i : ℕ) : Type 0 where
     pub long : length items ≡ maxKnots
     pub here : ReachOf xs ys i top
     pub above : (k : ℕ) → k < i → ReachOf xs ys (k + 1) (getD items k nan)
 
-  pub tops-none : (items : List Float) (top : Float) → length items ≡ maxKnots → Number top → TopsTo items top 0
-  tops-none items top e n = record { long = e; here = reach-none top n; above = λ k h. absurd (omega arith) }
+  pub latest-none : (items : List Float) (top : Float) → length items ≡ maxKnots → Number top → TopsTo items top 0
+  latest-none items top e n = record { long = e; here = reach-none top n; above = λ k h. absurd (omega arith) }
 
-  pub tops-next : (items : List Float) (top r : Float) (i : ℕ) → i < length items → TopsTo items top i → NewTop (segmentOf xs ys i) top r → TopsTo (set items i r) r (i + 1)
-  tops-next items top r i h A N = record {
+  pub latest-next : (items : List Float) (top r : Float) (i : ℕ) → i < length items → TopsTo items top i → NewTop (segmentOf xs ys i) top r → TopsTo (set items i r) r (i + 1)
+  latest-next items top r i h A N = record {
     long = length-set items i r ∙ A .long;
     here = reach-next top r i (A .here) N;
     above = λ k b. elim (decLe i k) [
@@ -134,5 +134,5 @@ module _ (xs ys : List Float) where
     ];
   }
 
-  pub tops-all : (items : List Float) (top : Float) (i : ℕ) → length xs ≤ i + 1 → TopsTo items top i → LatestOf xs ys items
-  tops-all items top i h A = record { above = λ k b d. A .above k (omega arith) }
+  pub latest-all : (items : List Float) (top : Float) (i : ℕ) → length xs ≤ i + 1 → TopsTo items top i → LatestOf xs ys items
+  latest-all items top i h A = record { above = λ k b d. A .above k (omega arith) }
