@@ -1,8 +1,8 @@
 // Answers the case text of standard input on standard output.
 mod changes;
 mod lines;
-mod plain_questions;
 mod questions;
+mod setless;
 mod text;
 mod track_hash;
 

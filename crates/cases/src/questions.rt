@@ -68,9 +68,9 @@ fn answer(
         Question::Dump => dump::dump(line, at, resolver, out, full),
         Question::Active => timing::active(line, at, resolver, out, full),
         Question::ClipTime => timing::clip_time(line, at, resolver, out, full),
-        Question::Name => crate::plain_questions::name(line, at, out, full),
+        Question::Name => crate::setless::name(line, at, out, full),
         Question::Normalize => {
-            crate::plain_questions::normalize(line, at, outtimes, outvalues, outmarks, out, full)
+            crate::setless::normalize(line, at, outtimes, outvalues, outmarks, out, full)
         }
         Question::Value => {
             sampled::value(line, at, resolver, ends, times, values, marks, out, full)

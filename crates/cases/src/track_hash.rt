@@ -10,7 +10,7 @@ use track::entry::entry_at;
 use track::fill::Cursor;
 use track::fill::Filled;
 use track::fill::fill;
-use window::neighbours::latest::latest_inverses;
+use window::search::latest::latest_inverses;
 ghost use mathlib.Core.Path.{_≡_};
 ghost use Prim.Native.Nat.{_≤_};
 ghost use lib.ListN.{length};

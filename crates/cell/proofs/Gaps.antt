@@ -24,10 +24,10 @@ use Rattle.window.specs.Windows.{minOf, maxOf, ifOwn}
 use Rattle.value.specs.direct.Reads.{readStart}
 use Rattle.value.proofs.direct.ReadsLaws.{read-none, start-blocked, start-read, from-on, back-on}
 use Rattle.value.specs.direct.Sources.{standIn}
-use Rattle.window.specs.declared.neighbours.Window.{Window}
+use Rattle.window.specs.declared.search.Window.{Window}
 use Rattle.window.specs.neighbours.Windowed.{samplesIn}
 use Rattle.value.specs.WindowOf.{WindowIs}
-use Rattle.value.proofs.Handed.{window-gap}
+use Rattle.value.proofs.WindowOf.{window-gap}
 
 module _ {starts : List Float} {clips : List ℕ} {xs ys blocks : List Float} {m : Missing} {times values : List Float} {marks ends : List ℕ} (R : AcceptedLists starts clips xs ys blocks m times values marks ends) where
   abbrev set : ClipSet

@@ -18,9 +18,9 @@ use Rattle.laws.proofs.cell.Direct.{SoundSet, SoundSamples}
 use Rattle.laws.specs.cell.Stretches.{severalStarts}
 use Rattle.laws.proofs.cell.Tracks.{SoundValues}
 use Rattle.laws.specs.cell.Lent.{AcceptedLists, setOf, samplesOf, start}
-use Rattle.laws.proofs.cell.Unpacked.{active-times, zip-length, zip-here, sound-set, sound-samples}
+use Rattle.laws.proofs.cell.Lent.{active-times, zip-length, zip-here, sound-set, sound-samples}
 use Rattle.window.proofs.Parts.{ready-starts}
-use Rattle.window.specs.declared.neighbours.Window.{Window}
+use Rattle.window.specs.declared.search.Window.{Window}
 use Rattle.value.specs.WindowOf.{WindowIs}
 use Rattle.cell.specs.WindowPlaces.{PlaceIs, PlaceAt}
 

@@ -1,5 +1,5 @@
 -- Laws that the proofs of src/ cite.
-pub mod Gallops
+pub mod StepIn
 pub mod Segments
 pub mod Likeness
 -- A line as the program holds it

@@ -12,7 +12,7 @@ use Rattle.definitions.specs.Timing.{lastAtMost}
 use Rattle.definitions.specs.Samples.{clipBegin, clipEnd}
 use Rattle.laws.specs.cell.Lent.{setOf, samplesOf}
 use Rattle.value.specs.direct.Sources.{standIn}
-use Rattle.window.specs.declared.neighbours.Window.{Window}
+use Rattle.window.specs.declared.search.Window.{Window}
 use Rattle.value.specs.WindowOf.{WindowIs}
 
 -- w is the window of the start at the place p, if that is a place; without samples its gap is what stands in for them

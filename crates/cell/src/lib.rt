@@ -15,8 +15,8 @@ use place::WindowPlace;
 use value::jump::is_jump;
 use value::windowed::source_in;
 use window::Bound;
-use window::neighbours::Near;
-use window::neighbours::near_in;
+use window::search::NeighboursAndHints;
+use window::search::neighbours_in;
 ghost use mathlib.Core.Path.{_≡_};
 ghost use Prim.Native.Nat.{_-_};
 ghost use lib.ListN.{length};
@@ -95,7 +95,7 @@ fn direct_cell(
 
 // The time whose direct value is held between two neighbours: the lower one, unless one of them is
 // missing or two knots share an x between them.
-fn held_from(xs: &[f64], ys: &[f64], near: Near) -> Bound
+fn held_from(xs: &[f64], ys: &[f64], near: NeighboursAndHints) -> Bound
     requires { ⌜ Ascending (now xs) ⌝ }
     requires { ⌜ length (now xs) ≡ length (now ys) ⌝ }
     ensures { λ r. ⌜ r ≡ heldOf (knotsOf (now (xs .entry)) (now (ys .entry))) (near .lower) (near .upper) ⌝ }
@@ -172,7 +172,7 @@ pub fn cell_at(
     let w = place.window;
     let begin = w.begin;
     let end = w.end;
-    let found = near_in(
+    let found = neighbours_in(
         xs,
         ys,
         latest,

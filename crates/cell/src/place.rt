@@ -6,7 +6,7 @@ use sdf::part::clip_begin;
 use sdf::part::clip_end;
 use value::direct::contributes;
 use value::windowed::window_of;
-use window::neighbours::Window;
+use window::search::Window;
 use window::window_max;
 use window::window_min;
 ghost use mathlib.Core.Path.{_≡_};

@@ -57,7 +57,7 @@ fn guess(ts: &[f64], line: Line, q: usize, k: u64, hi: u64) -> u64
 {
     let next = q + 1;
     match line {
-        Line::Plain => {
+        Line::Identity => {
             if next < ts.len() {
                 return key_within(ts[next], k, hi);
             }

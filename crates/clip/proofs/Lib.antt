@@ -1,7 +1,7 @@
 -- Laws that belong to no one function.
 pub mod Answers
 pub mod Packing
-pub mod Settled
+pub mod Stored
 pub mod Moved
 pub mod Standing
 pub mod Retimed

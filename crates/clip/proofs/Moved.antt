@@ -14,7 +14,7 @@ use Rattle.definitions.specs.Retime.{apply, moveActivation, moveKnot, moved, so
 use Rattle.laws.specs.set.Sound.{knotValues}
 use Rattle.laws.specs.cell.Lent.{activeOf, knotsOf, setOf}
 use Rattle.clip.specs.declared.ClipSet.{ClipSet}
-use Rattle.clip.specs.declared.Parsed.{Parsed}
+use Rattle.clip.specs.declared.Prepared.{Prepared}
 use Rattle.clip.specs.Holding.{activeIn, activeClips, knotsIn, blocksIn, clipSetOf, manifestOf}
 use Rattle.clip.specs.Storing.{Stores}
 use Rattle.clip.specs.Retiming.{movedAndSorted}
@@ -36,10 +36,10 @@ module _ (o : LayerOffset) where
   moved-is set times times′ numbers xs xs′ ys blocks blocks′ t n x y b t′ x′ b′ =
       rw (t′, x′, b′, t, n, x, y, b, active-moved (activeIn (set .active)), knots-moved (knotsIn (set .knots)))
 
-pub settles-sorted : (o : LayerOffset) (set w : Definitions.ClipSet) (r : Parsed) → lt (o .scale) 0·0 ≡ true → w ≡ moved o set → Stores (sorted w) r → Stores (movedAndSorted o set) r
+pub settles-sorted : (o : LayerOffset) (set w : Definitions.ClipSet) (r : Prepared) → lt (o .scale) 0·0 ≡ true → w ≡ moved o set → Stores (sorted w) r → Stores (movedAndSorted o set) r
 unfolding movedAndSorted
 settles-sorted o set w r e f s = rw e (subst (λ (x : Definitions.ClipSet). Stores (sorted x) r) f s)
 
-pub settles-unsorted : (o : LayerOffset) (set w : Definitions.ClipSet) (r : Parsed) → lt (o .scale) 0·0 ≡ false → w ≡ moved o set → Stores w r → Stores (movedAndSorted o set) r
+pub settles-unsorted : (o : LayerOffset) (set w : Definitions.ClipSet) (r : Prepared) → lt (o .scale) 0·0 ≡ false → w ≡ moved o set → Stores w r → Stores (movedAndSorted o set) r
 unfolding movedAndSorted
 settles-unsorted o set w r e f s = rw e (subst (λ (x : Definitions.ClipSet). Stores x r) f s)

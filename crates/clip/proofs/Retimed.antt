@@ -11,14 +11,14 @@ use Rattle.laws.specs.list.Places.{Fits}
 use Rattle.laws.specs.set.Sound.{Sound}
 use Rattle.laws.proofs.set.SoundRetime.{retime-sound}
 use Rattle.clip.specs.declared.ClipSet.{ClipSet}
-use Rattle.clip.specs.declared.Parsed.{Parsed}
+use Rattle.clip.specs.declared.Prepared.{Prepared}
 use Rattle.clip.specs.Holding.{ArraysWhole, clipSetOf}
 use Rattle.clip.specs.Storing.{settleNumber, Refuses, Stores}
 use Rattle.clip.specs.Retiming.{movedAndSorted, Retimes}
 use Rattle.clip.proofs.Standing.{sound-mark, sound-settles}
 
 module _ (set : ClipSet) (o : LayerOffset) where
-  pub retime-refuses : (r : Parsed) → (finite (o .offset) && finite (o .scale)) ≡ false → Refuses 2 r → Retimes set o r
+  pub retime-refuses : (r : Prepared) → (finite (o .offset) && finite (o .scale)) ≡ false → Refuses 2 r → Retimes set o r
   unfolding movedNumber
   retime-refuses r e f = record {
     number = f .number ∙ rw e;
@@ -62,7 +62,7 @@ module _ (set : ClipSet) (o : LayerOffset) where
       held = h;
     }
 
-    pub retime-settles : (r : Parsed) → Fits (o .scale) → isIdentity o ≡ false → Stores (movedAndSorted o (clipSetOf set)) r → Retimes set o r
+    pub retime-settles : (r : Prepared) → Fits (o .scale) → isIdentity o ≡ false → Stores (movedAndSorted o (clipSetOf set)) r → Retimes set o r
     retime-settles r f e t = record {
       number = n;
       moved = λ z. t .made z ∙ sym (is-moved e);

@@ -15,7 +15,7 @@ use Rattle.definitions.specs.ClipSet.{maxActive, maxKnots, maxBlocks}
 use Rattle.clip.specs.declared.storage.Active.{Active}
 use Rattle.clip.specs.declared.storage.Knots.{Knots}
 use Rattle.clip.specs.declared.storage.Blocks.{Blocks}
-use Rattle.clip.specs.declared.storage.Plain.{Plain}
+use Rattle.clip.specs.declared.storage.Scratch.{Scratch}
 use Rattle.clip.specs.declared.ClipSet.{ClipSet}
 
 -- an array of its length, and a count within it
@@ -61,7 +61,7 @@ pub record ArraysWhole (s : ClipSet) : Type 0 where
   pub knots : Room maxKnots (s .knots .items) (s .knots .count)
   pub blocks : Room maxBlocks (s .blocks .items) (s .blocks .count)
 
-pub record AllRoom (p : Plain) : Type 0 where
+pub record AllRoom (p : Scratch) : Type 0 where
   pub times : length (p .times) ≡ maxActive
   pub numbers : length (p .numbers) ≡ maxActive
   pub xs : length (p .xs) ≡ maxKnots

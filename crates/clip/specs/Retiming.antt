@@ -11,7 +11,7 @@ use Rattle.definitions.specs.ClipSet as Definitions
 use Rattle.definitions.specs.Retime.{moved, sorted, retimeStageTimes, movedNumber}
 use Rattle.laws.specs.set.Sound.{Sound}
 use Rattle.clip.specs.declared.ClipSet.{ClipSet}
-use Rattle.clip.specs.declared.Parsed.{Parsed}
+use Rattle.clip.specs.declared.Prepared.{Prepared}
 use Rattle.clip.specs.Holding.{ArraysWhole, clipSetOf}
 
 -- lists as long as the set's
@@ -26,7 +26,7 @@ pub record RoomForAll (set : ClipSet) (ts : List Float) (ns : List ℕ) (us vs b
 unfoldable pub movedAndSorted : LayerOffset → Definitions.ClipSet → Definitions.ClipSet
 movedAndSorted o set = cond (lt (o .scale) 0·0) (sorted (moved o set)) (moved o set)
 
-pub record Retimes (set : ClipSet) (o : LayerOffset) (r : Parsed) : Type 0 where
+pub record Retimes (set : ClipSet) (o : LayerOffset) (r : Prepared) : Type 0 where
   pub number : r .number ≡ movedNumber (clipSetOf set) o
   pub moved : r .number ≡ 0 → clipSetOf (r .set) ≡ retimeStageTimes o (clipSetOf set)
   pub sound : r .number ≡ 0 → Sound (clipSetOf (r .set))

@@ -10,7 +10,7 @@ use Rattle.definitions.specs.Lists.{_if_else_}
 use Rattle.definitions.specs.Doubles.{twoEqual, threeEqual}
 use Rattle.definitions.specs.ClipSet as Definitions
 use Rattle.definitions.specs.ClipSet.{maxActive, maxKnots, maxBlocks, anyUnstorable, beyondLimits, equalStarts, equalKnots, badDefaultMark}
-use Rattle.clip.specs.declared.Parsed.{Parsed}
+use Rattle.clip.specs.declared.Prepared.{Prepared}
 use Rattle.clip.specs.Holding.{ArraysWhole, clipSetOf}
 
 -- lists that pair, within their limits
@@ -38,11 +38,11 @@ listsNumber times xs blocks default =
     9 if badDefaultMark default else
     0
 
-pub record Refuses (n : ℕ) (r : Parsed) : Type 0 where
+pub record Refuses (n : ℕ) (r : Prepared) : Type 0 where
   pub number : r .number ≡ n
   pub held : ArraysWhole (r .set)
 
-pub record Stores (set : Definitions.ClipSet) (r : Parsed) : Type 0 where
+pub record Stores (set : Definitions.ClipSet) (r : Prepared) : Type 0 where
   pub number : r .number ≡ settleNumber set
   pub made : r .number ≡ 0 → clipSetOf (r .set) ≡ set
   pub held : ArraysWhole (r .set)

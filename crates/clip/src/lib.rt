@@ -24,7 +24,7 @@ pub struct ClipSet {
 
 // What an acceptance or a retiming replies: the number that refuses it and any set, or 0 and the set.
 #[repr(C)]
-pub struct Parsed {
+pub struct Prepared {
     pub number: u8,
     pub set: ClipSet,
 }
@@ -52,7 +52,7 @@ pub fn empty() -> ClipSet
 
 impl ClipSet {
     // The set with its stage times moved, unless 2, 4 or 5 refuses that.
-    pub fn retime_stage_times(self, o: LayerOffset) -> Parsed
+    pub fn retime_stage_times(self, o: LayerOffset) -> Prepared
         requires { ⌜ ArraysWhole self ⌝ ∗ ⌜ Sound (clipSetOf self) ⌝ }
         ensures { λ r. ⌜ Retimes self o r ⌝ }
     {
@@ -63,7 +63,7 @@ impl ClipSet {
             return storing::refused(2);
         }
         if retiming::is_identity(o) {
-            return Parsed {
+            return Prepared {
                 number: 0,
                 set: self,
             };

@@ -1,6 +1,6 @@
 // Retiming: the Rust's `retime_stage_times`. The lists of a set are moved in lists that are lent for it, and settle as any others.
 use crate::ClipSet;
-use crate::Parsed;
+use crate::Prepared;
 use crate::storage;
 use crate::storing;
 use definitions::LayerOffset;
@@ -55,7 +55,7 @@ pub fn retime_lists(
     xs: &mut [f64],
     ys: &mut [f64],
     blocks: &mut [f64],
-) -> Parsed
+) -> Prepared
     requires { ⌜ ArraysWhole set ⌝ ∗ ⌜ RoomForAll set (now times) (now numbers) (now xs) (now ys) (now blocks) ⌝ }
     ensures { λ r. ⌜ Stores (movedAndSorted o (clipSetOf set)) r ⌝ }
 {

@@ -29,7 +29,7 @@ pub struct Blocks {
 }
 
 // Room for a set's lists as plain ones. Each array is lent once, to a function that works on slices.
-pub struct Plain {
+pub struct Scratch {
     pub times: [f64; 256],
     pub numbers: [u64; 256],
     pub xs: [f64; 512],
@@ -37,7 +37,7 @@ pub struct Plain {
     pub blocks: [f64; 256],
 }
 
-pub fn blank() -> Plain
+pub fn blank() -> Scratch
     ensures { λ r. ⌜ AllRoom r ⌝ }
 {
     let times = [0.0; 256];
@@ -45,7 +45,7 @@ pub fn blank() -> Plain
     let xs = [0.0; 512];
     let ys = [0.0; 512];
     let blocks = [0.0; 256];
-    Plain {
+    Scratch {
         times,
         numbers,
         xs,

@@ -1,6 +1,6 @@
 // What every way to a set ends with: its lists are in their order, and 2, 4, 5, 9 may still refuse it.
 use crate::ClipSet;
-use crate::Parsed;
+use crate::Prepared;
 use crate::storage;
 use definitions::Default;
 use definitions::Missing;
@@ -11,11 +11,11 @@ ghost use Rattle.laws.specs.cell.Lent.{setOf};
 ghost use Rattle.clip.specs.Storing.{Fitting, Stores, Refuses, listsNumber};
 
 // A refusal carries its number alone; the set beside it is empty.
-pub fn refused(number: u8) -> Parsed
+pub fn refused(number: u8) -> Prepared
     ensures { λ r. ⌜ Refuses number r ⌝ }
 {
     let set = crate::empty();
-    Parsed { number, set }
+    Prepared { number, set }
 }
 
 // A NaN under the mark of a value.
@@ -60,7 +60,7 @@ pub fn check_and_store(
     ys: &[f64],
     blocks: &[f64],
     manifest: Missing,
-) -> Parsed
+) -> Prepared
     requires { ⌜ Fitting (now times) (now numbers) (now xs) (now ys) (now blocks) ⌝ }
     ensures { λ r. ⌜ Stores (setOf clips (now (times .entry)) (now (numbers .entry)) (now (xs .entry)) (now (ys .entry)) (now (blocks .entry)) manifest) r ⌝ }
 {
@@ -80,7 +80,7 @@ pub fn check_and_store(
         default,
         interpolate: manifest.interpolate,
     };
-    Parsed { number: 0, set }
+    Prepared { number: 0, set }
 }
 
 // The same of lists in any order.
@@ -92,7 +92,7 @@ pub fn sort_check_and_store(
     ys: &mut [f64],
     blocks: &[f64],
     manifest: Missing,
-) -> Parsed
+) -> Prepared
     requires { ⌜ Fitting (now times) (now numbers) (now xs) (now ys) (now blocks) ⌝ }
     ensures { λ r. ⌜ Stores (sorted (setOf clips (now (times .entry)) (now (numbers .entry)) (now (xs .entry)) (now (ys .entry)) (now (blocks .entry)) manifest)) r ⌝ }
 {

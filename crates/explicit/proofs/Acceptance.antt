@@ -20,7 +20,7 @@ use Rattle.laws.specs.set.Sound.{Sound}
 use Rattle.laws.proofs.set.Sound.{sorted-times, sorted-xs}
 use Rattle.laws.proofs.set.SoundExplicit.{ExplicitFits, ExplicitLimits, explicit-limits, explicit-sound}
 use Rattle.laws.specs.cell.Lent.{start, setOf}
-use Rattle.clip.specs.declared.Parsed.{Parsed}
+use Rattle.clip.specs.declared.Prepared.{Prepared}
 use Rattle.clip.specs.Storing.{settleNumber, Refuses, Stores}
 use Rattle.explicit.specs.Parsing.{explicitFields, anyNotClip, fieldsNumber, Parses}
 use Rattle.clip.proofs.Laws.{same-number, every-storable}
@@ -85,7 +85,7 @@ fields-first : (f : ExplicitFields) → (fieldsNumber f ≡ 0 → ⊥) → field
 unfolding fieldsNumber explicitNumber
 fields-first f h = same-number 1 (explicit1 f) _ _ h (λ h. same-number 2 (explicit2 f) _ _ h (λ h. same-number 3 (explicit3 f) _ _ h (λ h. absurd (h refl))))
 
-pub parse-refuses : (f : ExplicitFields) (n : ℕ) (r : Parsed) → n ≡ fieldsNumber f → (n ≡ 0 → ⊥) → Refuses n r → Parses f r
+pub parse-refuses : (f : ExplicitFields) (n : ℕ) (r : Prepared) → n ≡ fieldsNumber f → (n ≡ 0 → ⊥) → Refuses n r → Parses f r
 parse-refuses f n r e h q = record {
   number = q .number ∙ e ∙ fields-first f (λ z. h (e ∙ z));
   made = λ z. absurd (h (sym (q .number) ∙ z));
@@ -93,7 +93,7 @@ parse-refuses f n r e h q = record {
   held = q .held;
 }
 
-pub parse-settles : (f : ExplicitFields) (r : Parsed) → ExplicitFits f → fieldsNumber f ≡ 0 → Stores (explicitSet f) r → Parses f r
+pub parse-settles : (f : ExplicitFields) (r : Prepared) → ExplicitFits f → fieldsNumber f ≡ 0 → Stores (explicitSet f) r → Parses f r
 parse-settles f r h z s = record {
   number = n;
   made = s .made;

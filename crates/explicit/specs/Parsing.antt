@@ -12,7 +12,7 @@ use Rattle.definitions.specs.Lists.{_if_else_, any}
 use Rattle.definitions.specs.ClipSet.{maxClips, maxActive, maxKnots, maxBlocks}
 use Rattle.definitions.specs.Explicit.{ExplicitFields, explicitSet, explicit1, explicit2, explicit3, explicitNumber}
 use Rattle.laws.specs.set.Sound.{Sound}
-use Rattle.clip.specs.declared.Parsed.{Parsed}
+use Rattle.clip.specs.declared.Prepared.{Prepared}
 use Rattle.clip.specs.Holding.{ArraysWhole, clipSetOf}
 
 abbrev pub explicitFields : ℕ → List Float → List Float → List Float → List Float → List Float → Missing → ExplicitFields
@@ -57,7 +57,7 @@ pub record Lent (starts xs times : List Float) (indices : List ℕ) (us vs : Lis
   pub for-xs : length us ≡ length xs
   pub for-ys : length vs ≡ length xs
 
-pub record Parses (f : ExplicitFields) (r : Parsed) : Type 0 where
+pub record Parses (f : ExplicitFields) (r : Prepared) : Type 0 where
   pub number : r .number ≡ explicitNumber f
   pub made : r .number ≡ 0 → clipSetOf (r .set) ≡ explicitSet f
   pub sound : r .number ≡ 0 → Sound (clipSetOf (r .set))

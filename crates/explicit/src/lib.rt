@@ -2,7 +2,7 @@
 mod fields;
 mod parsing;
 
-use clip::Parsed;
+use clip::Prepared;
 use clip::storage;
 use clip::storing;
 use definitions::Default;
@@ -20,7 +20,7 @@ pub fn parse_set(
     blocks: &[f64],
     default: Default,
     interpolate: bool,
-) -> Parsed
+) -> Prepared
     ensures { λ r. ⌜ Parses (explicitFields clips (now (starts .entry)) (now (numbers .entry)) (now (xs .entry)) (now (ys .entry)) (now (blocks .entry)) (manifest default interpolate)) r ⌝ }
 {
     let manifest = Missing {

@@ -1,5 +1,5 @@
 // An explicit set's lists: the fields copied, sorted and settled.
-use clip::Parsed;
+use clip::Prepared;
 use clip::storing;
 use definitions::Missing;
 ghost use mathlib.Core.Path.{_≡_};
@@ -36,7 +36,7 @@ pub fn parse_lists(
     indices: &mut [u64],
     us: &mut [f64],
     vs: &mut [f64],
-) -> Parsed
+) -> Prepared
     requires { ⌜ fieldsNumber (explicitFields clips (now starts) (now numbers) (now xs) (now ys) (now blocks) manifest) ≡ 0 ⌝ ∗ ⌜ Lent (now starts) (now xs) (now times) (now indices) (now us) (now vs) ⌝ }
     ensures { λ r. ⌜ Stores (explicitSet (explicitFields clips (now (starts .entry)) (now (numbers .entry)) (now (xs .entry)) (now (ys .entry)) (now (blocks .entry)) manifest)) r ⌝ }
 {

@@ -28,4 +28,4 @@ pub mod Inverse
 -- Cells that are computed
 pub mod Figures
 -- A set and samples as plain lists
-pub mod Unpacked
+pub mod Lent

@@ -13,7 +13,7 @@ use Rattle.definitions.specs.Explicit.{knot}
 use Rattle.definitions.specs.Timing.{lastAtMost, lastKnot, onSegment, mapTime}
 use Rattle.laws.proofs.list.Every.{zip-at}
 use Rattle.laws.proofs.set.LastKnot.{last-knot-is}
-use Rattle.laws.proofs.cell.Unpacked.{knot-times, zip-length}
+use Rattle.laws.proofs.cell.Lent.{knot-times, zip-length}
 
 pub map-none : (xs ys : List Float) (t : Float) → length xs ≡ 0 → mapTime (zipWith knot xs ys) t ≡ t
 unfolding mapTime

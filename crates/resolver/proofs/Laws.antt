@@ -26,7 +26,7 @@ use Rattle.definitions.specs.Questions.{Reply, refused, replied, reply, ofSet, 
 use Rattle.gf.specs.Doubles.{0·0}
 use Rattle.definitions.specs.Track.{Track, Outputs, slots, bakeNumber}
 use Rattle.laws.specs.cell.Lent.{setOf, samplesOf}
-use Rattle.laws.proofs.cell.Unpacked.{active-times, knot-times, sound-set, sound-samples}
+use Rattle.laws.proofs.cell.Lent.{active-times, knot-times, sound-set, sound-samples}
 use Rattle.track.specs.declared.bake.Baked.{Baked}
 use Rattle.track.specs.Bakes.{BakeIs, bakedIs, bakedReply}
 use Rattle.track.proofs.Bakes.{bakes}
@@ -38,7 +38,7 @@ use Rattle.laws.proofs.set.Sound.{sound-active, sound-knots}
 use Rattle.laws.specs.set.Accepted.{Accepted as AcceptedSamples}
 use Rattle.standing.specs.declared.questions.ActiveClip.the-variants.{Clip, NoClip}
 use Rattle.clip.specs.declared.ClipSet as clip
-use Rattle.clip.specs.declared.Parsed.{Parsed}
+use Rattle.clip.specs.declared.Prepared.{Prepared}
 use Rattle.template.specs.Expanding as expanding
 use Rattle.explicit.specs.Parsing as parsing
 use Rattle.clip.specs.Retiming as sets
@@ -65,10 +65,10 @@ accepted-same : (n m : ℕ) (before a b : Model) → n ≡ m → (n ≡ 0 → a 
 accepted-same zero m c a b e h = h refl ∙ accepted-granted m c b (sym e)
 accepted-same (suc n) m c a b e h = ap (λ (k : ℕ). accepted k c b) e
 
-pub installs-not : (d : Resolver) (p : Parsed) (b : Bool) → Made d → (p .number ≡ 0 → ⊥) → Installs d p b (record { number = p .number; resolver = d })
+pub installs-not : (d : Resolver) (p : Prepared) (b : Bool) → Made d → (p .number ≡ 0 → ⊥) → Installs d p b (record { number = p .number; resolver = d })
 installs-not d p b m h = record { number = refl; after = accepted-refused (p .number) (model d) (standing (record { set = clipSetOf (p .set); retimed = b })) h; made = m }
 
-pub installs : (d : Resolver) (p : Parsed) (b : Bool) (set : StandingSet) → Installable p → p .number ≡ 0 → Installed (p .set) set → Installs d p b (record { number = 0; resolver = record { stands = true; retimed = b; set = set } })
+pub installs : (d : Resolver) (p : Prepared) (b : Bool) (set : StandingSet) → Installable p → p .number ≡ 0 → Installed (p .set) set → Installs d p b (record { number = 0; resolver = record { stands = true; retimed = b; set = set } })
 installs d p b set i e q = record {
   number = sym e;
   after = ap (λ (x : ClipSet). standing (record { set = x; retimed = b })) (q .is) ∙ accepted-granted (p .number) (model d) (standing (record { set = clipSetOf (p .set); retimed = b })) e;
@@ -77,7 +77,7 @@ installs d p b set i e q = record {
 
 -- ---- acceptance
 
-pub accepts : (d : Resolver) (f : ExplicitFields) (p : Parsed) (r : Accepted) → parsing.Parses f p → Installs d p false r → Accepts d f r
+pub accepts : (d : Resolver) (f : ExplicitFields) (p : Prepared) (r : Accepted) → parsing.Parses f p → Installs d p false r → Accepts d f r
 unfolding step
 accepts d f p r q i = record {
   number = i .number ∙ q .number;
@@ -85,7 +85,7 @@ accepts d f p r q i = record {
   made = i .made;
 }
 
-pub expands : (d : Resolver) (f : TemplateFields) (p : Parsed) (r : Accepted) → expanding.Expands f p → Installs d p false r → Expands d f r
+pub expands : (d : Resolver) (f : TemplateFields) (p : Prepared) (r : Accepted) → expanding.Expands f p → Installs d p false r → Expands d f r
 unfolding step
 expands d f p r q i = record {
   number = i .number ∙ q .number;
@@ -135,7 +135,7 @@ marked-number d o b e f = ap (λ (x : Bool). 21 if x else movedNumber (setIn (d 
 pub retimes-21 : (d : Resolver) (o : LayerOffset) → Made d → d .stands ≡ true → d .retimed ≡ true → Retimes d o (record { number = 21; resolver = d })
 retimes-21 d o m e f = refused-retime d o 21 m (marked-number d o true e f) (λ z. omega arith)
 
-pub retimes : (d : Resolver) (o : LayerOffset) (set : clip.ClipSet) (p : Parsed) (r : Accepted) → d .stands ≡ true → d .retimed ≡ false → Packed (setIn (d .set)) set → sets.Retimes set o p → Installs d p true r → Retimes d o r
+pub retimes : (d : Resolver) (o : LayerOffset) (set : clip.ClipSet) (p : Prepared) (r : Accepted) → d .stands ≡ true → d .retimed ≡ false → Packed (setIn (d .set)) set → sets.Retimes set o p → Installs d p true r → Retimes d o r
 unfolding step
 retimes d o set p r e f k q i =
     let n : p .number ≡ retimeNumber (model d) o = q .number ∙ ap (λ (x : ClipSet). movedNumber x o) (k .is) ∙ marked-number d o false e f in

@@ -23,7 +23,7 @@ use Rattle.definitions.specs.Track.{Outputs}
 use Rattle.definitions.specs.Calls as calls
 use Rattle.definitions.specs.Calls.{explicit, template, retime, step, accepted}
 use Rattle.laws.specs.set.Sound.{Sound}
-use Rattle.clip.specs.declared.Parsed.{Parsed}
+use Rattle.clip.specs.declared.Prepared.{Prepared}
 use Rattle.clip.specs.Holding.{clipSetOf, ArraysWhole}
 use Rattle.resolver.specs.declared.Resolver.{Resolver}
 use Rattle.resolver.specs.declared.Accepted.{Accepted}
@@ -111,11 +111,11 @@ BakesTrack d s before r now = calls.Bakes (model d) s before r now
 -- ---- within: a parsed set takes its place, or what stood still stands
 
 -- its arrays are whole, and if no number refuses it, it is well-formed
-pub record Installable (p : Parsed) : Type 0 where
+pub record Installable (p : Prepared) : Type 0 where
   pub held : ArraysWhole (p .set)
   pub sound : p .number ≡ 0 → Sound (clipSetOf (p .set))
 
-pub record Installs (d : Resolver) (p : Parsed) (retimed : Bool) (r : Accepted) : Type 0 where
+pub record Installs (d : Resolver) (p : Prepared) (retimed : Bool) (r : Accepted) : Type 0 where
   pub number : r .number ≡ p .number
   pub after : model (r .resolver) ≡ accepted (p .number) (model d) (standing (record { set = clipSetOf (p .set); retimed = retimed }))
   pub made : Made (r .resolver)

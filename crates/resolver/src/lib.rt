@@ -1,5 +1,5 @@
 // A resolver holds one clip set by value, or none, and answers questions about it: 01's desk.
-use clip::Parsed;
+use clip::Prepared;
 use definitions::Answer;
 use definitions::ClipTime;
 use definitions::Default;
@@ -373,7 +373,7 @@ impl Resolver {
 }
 
 // The parsed set stands, unless its number refuses it; then what stood still stands.
-fn install(d: Resolver, parsed: Parsed, retimed: bool) -> Accepted
+fn install(d: Resolver, parsed: Prepared, retimed: bool) -> Accepted
     requires { ⌜ Made d ⌝ }
     requires { ⌜ Installable parsed ⌝ }
     ensures { λ r. ⌜ Installs d parsed retimed r ⌝ }

@@ -28,8 +28,8 @@ use Rattle.window.specs.Inverses.{onSegment}
 use Rattle.cell.specs.step.Lines.{placeOn}
 use Rattle.run.specs.Readings.{readingAt}
 use Rattle.run.specs.Runs.{lineOn, passedBy, passingAt, Passing, spanned, inverseKey, InRunAt}
-use Rattle.run.proofs.PassagesLaws.{segment-fits, passing-lower}
-use Rattle.run.proofs.Passages.{span-number}
+use Rattle.run.proofs.RunLaws.{segment-fits, passing-lower}
+use Rattle.run.proofs.Runs.{span-number}
 use Rattle.run.proofs.Readings.{entry-alike}
 use Rattle.run.proofs.Walking.{Reaches}
 

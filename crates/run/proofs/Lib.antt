@@ -1,8 +1,8 @@
 -- Laws that the proofs of src/ cite.
 pub mod Readings
-pub mod Passages
+pub mod Runs
 pub mod Between
 pub mod Filling
 pub mod Walking
 -- A run of samples passed in one segment
-pub mod PassagesLaws
+pub mod RunLaws

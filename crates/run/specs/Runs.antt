@@ -16,11 +16,11 @@ use Rattle.definitions.specs.Track.{Entry}
 use Rattle.laws.specs.list.Every.{Every}
 use Rattle.laws.specs.cell.Keys.{Keys}
 use Rattle.window.specs.Inverses.{onSegment}
-use Rattle.window.specs.Near.{SoundSegment}
+use Rattle.window.specs.SoundSegments.{SoundSegment}
 use Rattle.cell.specs.declared.step.line.Line.{Line}
 use Rattle.cell.specs.declared.step.line.Line.the-variants as lines
-use Rattle.run.specs.declared.passing.NextInRun.{NextInRun}
-use Rattle.run.specs.declared.passing.NextInRun.the-variants.{At, Nothing}
+use Rattle.run.specs.declared.inside.NextInRun.{NextInRun}
+use Rattle.run.specs.declared.inside.NextInRun.the-variants.{At, Nothing}
 use Rattle.run.specs.Readings.{Reads, readingAt}
 
 -- ---- what is read

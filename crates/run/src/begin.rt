@@ -8,8 +8,8 @@ use lists::segment::stage_time;
 use value::windowed::is_between;
 use window::Bound;
 use window::crossing::crossing;
-use window::neighbours::Window;
-use window::neighbours::near_in;
+use window::search::Window;
+use window::search::neighbours_in;
 ghost use mathlib.Core.Path.{_≡_};
 ghost use mathlib.Core.Logic.{_⊎_};
 ghost use mathlib.Core.Bool.{true, not, cond};
@@ -142,7 +142,7 @@ pub fn run_begin(
     if !is_below(w.start, t, h) {
         return RunBegin::Nothing;
     }
-    let near = near_in(xs, ys, latest, &times[begin..end], w, t, i, sample);
+    let near = neighbours_in(xs, ys, latest, &times[begin..end], w, t, i, sample);
     let lower = near.lower;
     let Bound::At(l) = lower else {
         return RunBegin::Nothing;

@@ -2,7 +2,7 @@
 // in registers.
 
 // The changes over a run of samples that are passed in one segment.
-pub mod passing;
+pub mod inside;
 // One change offered to the outputs, and where a walk stands.
 pub mod begin;
 pub mod walk;

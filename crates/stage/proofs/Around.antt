@@ -27,7 +27,7 @@ use Rattle.laws.proofs.list.Places.{atMost, at-most-is, last-is, last-later}
 use Rattle.laws.proofs.cell.Every.{every-map, every-zip, every-append, every-left, every-right, every-gather, both-l, both-r}
 use Rattle.laws.specs.cell.Places.{Fits}
 use Rattle.laws.specs.cell.Lent.{setOf, samplesOf, AcceptedLists}
-use Rattle.laws.proofs.cell.Unpacked.{zip-length}
+use Rattle.laws.proofs.cell.Lent.{zip-length}
 use Rattle.window.specs.declared.Bound.{Bound}
 use Rattle.window.specs.declared.Bound.the-variants.{At, Nothing}
 use Rattle.window.proofs.Parts.{ready-starts}

@@ -19,7 +19,7 @@ use Rattle.definitions.specs.Track.{markOf}
 use Rattle.definitions.specs.StageSamples.{StageSample, readMark, markIn, suppliedAt, stageSampleTimes, stageSamples}
 use Rattle.laws.proofs.cell.Every.{every-getD}
 use Rattle.laws.specs.cell.Lent.{start, activeOf, knotsOf, setOf, samplesOf, AcceptedLists}
-use Rattle.laws.proofs.cell.Unpacked.{zip-here}
+use Rattle.laws.proofs.cell.Lent.{zip-here}
 use Rattle.lists.proofs.Fronts.{front, no-front}
 use Rattle.window.specs.Parts.{partOf}
 use Rattle.window.proofs.Parts.{ready-active, ready-position}

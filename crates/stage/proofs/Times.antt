@@ -31,13 +31,13 @@ use Rattle.laws.proofs.cell.Every.{every-map, every-append, every-left, every-r
 use Rattle.laws.specs.cell.Places.{Fits}
 use Rattle.laws.proofs.cell.Inverse.{inverse-fin-up, inverse-fin-down}
 use Rattle.laws.specs.cell.Lent.{start, activeOf, knotsOf, setOf, samplesOf, AcceptedLists}
-use Rattle.laws.proofs.cell.Unpacked.{zip-here, zip-length, active-times, knot-times}
+use Rattle.laws.proofs.cell.Lent.{zip-here, zip-length, active-times, knot-times}
 use Rattle.window.specs.declared.Bound.{Bound}
 use Rattle.window.specs.declared.Bound.the-variants.{At, Nothing}
 use Rattle.window.specs.Parts.{partOf}
 use Rattle.window.proofs.Parts.{ready-readable}
-use Rattle.window.specs.Near.{SoundSegment}
-use Rattle.window.proofs.Near.{inverse-fits}
+use Rattle.window.specs.SoundSegments.{SoundSegment}
+use Rattle.window.proofs.SoundSegments.{inverse-fits}
 use Rattle.window.specs.Bounds.{inside, In}
 use Rattle.window.proofs.BoundsLaws.{every-in, in-every}
 use Rattle.window.specs.Inverses.{inversesOf}

@@ -19,14 +19,14 @@ use Rattle.laws.proofs.list.Every.{every-at}
 use Rattle.laws.specs.list.Places.{Ascending}
 use Rattle.laws.proofs.cell.Window.{inf-below, inf-above}
 use Rattle.laws.specs.cell.Lent.{knotsOf, AcceptedLists}
-use Rattle.window.specs.declared.Bounds.{Bounds}
+use Rattle.window.specs.declared.Neighbours.{Neighbours}
 use Rattle.window.specs.Parts.{partOf}
 use Rattle.window.proofs.Parts.{ready-starts, ready-clip, ready-readable}
 use Rattle.window.specs.Bounds.{inside, UpperIs, NeighboursAre}
 use Rattle.window.specs.Inverses.{inversesOf}
 use Rattle.window.specs.Windows.{minOf, maxOf, windowPart}
 use Rattle.window.proofs.nearest.Beside.{finite-number, number-at, next-above, last-reached}
-use Rattle.window.specs.declared.neighbours.Window.{Window}
+use Rattle.window.specs.declared.search.Window.{Window}
 use Rattle.window.specs.neighbours.Latest.{LatestOf}
 use Rattle.window.specs.neighbours.Windowed.{samplesIn, nextOf, windowTimes, Nearing}
 use Rattle.stage.specs.Whole.{wholeTimes, nextStart, Windows, WholeWindow}
@@ -114,5 +114,5 @@ module _ {starts : List Float} {clips : List ℕ} {xs ys times : List Float} {en
       mk a b = record { min = a; max = b }
 
   -- what a search finds
-  pub whole-found : (t : Float) (r : Bounds) → NeighboursAre (windowTimes xs ys (samplesIn times w) w) t r → UpperIs (wholeTimes starts clips xs ys times ends p ++ nextStart starts p) t (r .upper)
+  pub whole-found : (t : Float) (r : Neighbours) → NeighboursAre (windowTimes xs ys (samplesIn times w) w) t r → UpperIs (wholeTimes starts clips xs ys times ends p ++ nextStart starts p) t (r .upper)
   whole-found t r N = subst (λ (l : List Float). NeighboursAre l t r) times-are N .upper

@@ -28,10 +28,10 @@ use Rattle.laws.proofs.list.Places.{atMost, at-most-length, beyond, up-to, last
 use Rattle.laws.proofs.cell.Every.{any-with, every-map, every-zip, every-append, every-left, every-right, every-keep, every-kept, every-by, every-gather, both, both-l, both-r, or-l, or-r, or-split}
 use Rattle.laws.specs.cell.Places.{Fits}
 use Rattle.laws.specs.cell.Lent.{knotsOf, AcceptedLists}
-use Rattle.laws.proofs.cell.Unpacked.{knot-times}
+use Rattle.laws.proofs.cell.Lent.{knot-times}
 use Rattle.window.specs.Parts.{partOf}
 use Rattle.window.proofs.Parts.{ready-starts, ready-clip, ready-readable}
-use Rattle.window.specs.Near.{SoundSegment}
+use Rattle.window.specs.SoundSegments.{SoundSegment}
 use Rattle.window.specs.Bounds.{inside, In}
 use Rattle.window.proofs.BoundsLaws.{every-in}
 use Rattle.window.specs.Inverses.{inversesOf}

@@ -10,7 +10,7 @@ use Rattle.definitions.specs.Samples.{clipBegin, clipEnd}
 use Rattle.laws.specs.list.Places.{Ascending}
 use Rattle.window.specs.Parts.{partOf, Readable}
 use Rattle.window.specs.Windows.{minOf, maxOf, windowPart}
-use Rattle.window.specs.declared.neighbours.Window.{Window}
+use Rattle.window.specs.declared.search.Window.{Window}
 
 -- the times of the window at the place p
 abbrev pub wholeTimes : List Float → List ℕ → List Float → List Float → List Float → List ℕ → ℕ → List Float

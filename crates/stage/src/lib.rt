@@ -9,7 +9,7 @@ use definitions::Missing;
 use mark::write_marks;
 use walk::fits;
 use walk::write_times;
-use window::neighbours::latest::latest_inverses;
+use window::search::latest::latest_inverses;
 ghost use mathlib.Core.Path.{_≡_};
 ghost use Prim.Native.Nat.{min};
 ghost use lib.ListN.{length};

@@ -6,9 +6,9 @@ use definitions::Source;
 use sdf::part::clip_begin;
 use sdf::part::clip_end;
 use window::Bound;
-use window::neighbours::Near;
-use window::neighbours::Window;
-use window::neighbours::near_in;
+use window::search::NeighboursAndHints;
+use window::search::Window;
+use window::search::neighbours_in;
 use window::window_max;
 use window::window_min;
 ghost use mathlib.Core.Path.{_≡_};
@@ -67,14 +67,14 @@ fn search_window(
     t: f64,
     knot: usize,
     sample: usize,
-) -> Near
+) -> NeighboursAndHints
     requires { ⌜ Windows (now starts) (now clips) (now xs) (now ys) (now times) (now ends) ⌝ ∗ ⌜ LatestOf (now xs) (now ys) (now latest) ⌝ ∗ ⌜ p ≡ lastAtMost (now starts) t ⌝ ∗ ⌜ p < length (now starts) ⌝ ∗ ⌜ T (finite t) ⌝ }
     ensures { λ r. ⌜ UpperIs (wholeTimes (now (starts .entry)) (now (clips .entry)) (now (xs .entry)) (now (ys .entry)) (now (times .entry)) (now (ends .entry)) p ++ nextStart (now (starts .entry)) p) t (r .upper) ⌝ }
 {
     let w = whole_window(starts, clips, ends, p);
     let begin = w.begin;
     let end = w.end;
-    near_in(xs, ys, latest, &times[begin..end], w, t, knot, sample)
+    neighbours_in(xs, ys, latest, &times[begin..end], w, t, knot, sample)
 }
 
 // The first stage sample time above `t`. The hints are any numbers.

@@ -16,7 +16,7 @@ use Rattle.clip.specs.declared.ClipSet.{ClipSet}
 use Rattle.clip.specs.declared.storage.Active.{Active}
 use Rattle.clip.specs.declared.storage.Knots.{Knots}
 use Rattle.clip.specs.declared.storage.Blocks.{Blocks}
-use Rattle.clip.specs.declared.storage.Plain.{Plain}
+use Rattle.clip.specs.declared.storage.Scratch.{Scratch}
 use Rattle.clip.specs.Holding.{Room, Holds, ArraysWhole, AllRoom, activeIn, activeClips, knotsIn, blocksIn, manifestOf}
 use Rattle.standing.specs.declared.Counts.{Counts}
 use Rattle.standing.specs.Standing.{lentSet, Installed, Packed}
@@ -49,7 +49,7 @@ knots-back (k ∷ l) = ap (λ (m : List Knot). k ∷ m) (knots-back l)
 
 -- ---- a prepared set is installed
 
-module _ (set : ClipSet) (H : ArraysWhole set) (p : Plain) (P : AllRoom p) (starts : List Float) (numbers : List ℕ) (xs ys : List Float)
+module _ (set : ClipSet) (H : ArraysWhole set) (p : Scratch) (P : AllRoom p) (starts : List Float) (numbers : List ℕ) (xs ys : List Float)
     (starts-are : starts ≡ activeTimes (activeIn (set .active))) (numbers-are : numbers ≡ activeClips (activeIn (set .active)))
     (xs-are : xs ≡ knotTimes (knotsIn (set .knots))) (ys-are : ys ≡ knotValues (knotsIn (set .knots))) where
   abbrev n : ℕ

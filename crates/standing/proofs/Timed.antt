@@ -13,7 +13,7 @@ use Rattle.definitions.specs.declared.StageTime.{StageTime}
 use Rattle.definitions.specs.Lists.{any}
 use Rattle.definitions.specs.Timing.{lastAtMost, activePosition, activeEntry, clipOf}
 use Rattle.laws.specs.cell.Lent.{start, activeOf}
-use Rattle.laws.proofs.cell.Unpacked.{active-times, zip-here}
+use Rattle.laws.proofs.cell.Lent.{active-times, zip-here}
 use Rattle.standing.specs.declared.questions.ActiveClip.the-variants.{Clip, NoClip}
 use Rattle.definitions.specs.ClipSet.{maxActive}
 use Rattle.clip.specs.Holding.{Room}

@@ -11,7 +11,7 @@ use Rattle.definitions.specs.Template.{TemplateFields, activeOffset, promoted, 
 use Rattle.laws.proofs.list.Tests.{or-false, passed}
 use Rattle.laws.specs.set.Sound.{Sound}
 use Rattle.laws.proofs.set.SoundTemplate.{TemplateFits, template-sound}
-use Rattle.clip.specs.declared.Parsed.{Parsed}
+use Rattle.clip.specs.declared.Prepared.{Prepared}
 use Rattle.clip.specs.Storing.{settleNumber, Refuses, Stores}
 use Rattle.clip.specs.Holding.{manifest}
 use Rattle.template.specs.Expanding.{templateFieldsNumber, expandedSet, Expands}
@@ -45,7 +45,7 @@ fields-first f h =
     same-number 1 (template1 f) _ _ h
     (λ h. same-number 2 (template2 f) _ _ h (λ h. same-number 7 (template7 f) _ _ h (λ h. same-number 6 (template6 f) _ _ h (λ h. absurd (h refl)))))
 
-refuses : (f : TemplateFields) (n : ℕ) (r : Parsed) → n ≡ templateNumber f → (n ≡ 0 → ⊥) → Refuses n r → Expands f r
+refuses : (f : TemplateFields) (n : ℕ) (r : Prepared) → n ≡ templateNumber f → (n ≡ 0 → ⊥) → Refuses n r → Expands f r
 refuses f n r e h q = record {
   number = q .number ∙ e;
   made = λ z. absurd (h (sym (q .number) ∙ z));
@@ -53,7 +53,7 @@ refuses f n r e h q = record {
   held = q .held;
 }
 
-pub template-refuses : (f : TemplateFields) (n : ℕ) (r : Parsed) → n ≡ templateFieldsNumber f → (n ≡ 0 → ⊥) → Refuses n r → Expands f r
+pub template-refuses : (f : TemplateFields) (n : ℕ) (r : Prepared) → n ≡ templateFieldsNumber f → (n ≡ 0 → ⊥) → Refuses n r → Expands f r
 template-refuses f n r e h q = refuses f n r (e ∙ fields-first f (λ z. h (e ∙ z))) h q
 
 -- ---- the 257th clip, and at most 256
@@ -62,7 +62,7 @@ eight : (f : TemplateFields) → FieldsPass f → 256 < length (promoted (f .tim
 unfolding templateNumber template8
 eight f p l = rw (p .not1, p .not2, p .not7, p .not6, lt-ltb maxClips (length (promoted (f .times))) l)
 
-pub template-beyond : (f : TemplateFields) (r : Parsed) → templateFieldsNumber f ≡ 0 → 256 < length (promoted (f .times)) → Refuses 8 r → Expands f r
+pub template-beyond : (f : TemplateFields) (r : Prepared) → templateFieldsNumber f ≡ 0 → 256 < length (promoted (f .times)) → Refuses 8 r → Expands f r
 template-beyond f r z l q = refuses f 8 r (eight f (fields-pass f z) l) (λ n. omega arith) q
 
 number-is : (f : TemplateFields) → FieldsPass f → length (promoted (f .times)) ≤ 256 → settleNumber (templateSet f) ≡ templateNumber f
@@ -74,7 +74,7 @@ set-is : (f : TemplateFields) → expandedSet (promoted (f .times)) (f .times) (
 unfolding expandedSet templateSet
 set-is f = refl
 
-pub template-settles : (f : TemplateFields) (r : Parsed) → TemplateFits f → templateFieldsNumber f ≡ 0 → length (promoted (f .times)) ≤ 256
+pub template-settles : (f : TemplateFields) (r : Prepared) → TemplateFits f → templateFieldsNumber f ≡ 0 → length (promoted (f .times)) ≤ 256
     → Stores (expandedSet (promoted (f .times)) (f .times) (activeOffset f) (f .blocks) (manifest (f .default) (f .interpolateMissing))) r → Expands f r
 template-settles f r h z l t = record {
   number = n;

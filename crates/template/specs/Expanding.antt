@@ -15,7 +15,7 @@ use Rattle.definitions.specs.ClipSet as Definitions
 use Rattle.definitions.specs.ClipSet.{maxClips, maxBlocks, sortActive, sortKnots}
 use Rattle.definitions.specs.Template.{TemplateFields, promoted, activations, clipKnots, withBounds, offsetNotFinite, offsetBeyond, templateSet, template1, template2, template7, template6, templateNumber}
 use Rattle.laws.specs.set.Sound.{Sound}
-use Rattle.clip.specs.declared.Parsed.{Parsed}
+use Rattle.clip.specs.declared.Prepared.{Prepared}
 use Rattle.template.specs.declared.expanding.Promoted.{Promoted}
 use Rattle.clip.specs.Holding.{ArraysWhole, clipSetOf}
 
@@ -76,7 +76,7 @@ numbered i [] = []
 numbered i (x ∷ xs) = i ∷ numbered (suc i) xs
 
 -- lists as long as the clips, and as their knots
-pub record Prepared (offset : Bool) (ts times : List Float) (numbers : List ℕ) (xs ys blocks : List Float) : Type 0 where
+pub record RoomForLists (offset : Bool) (ts times : List Float) (numbers : List ℕ) (xs ys blocks : List Float) : Type 0 where
   pub for-times : length times ≡ length ts
   pub for-numbers : length numbers ≡ length ts
   pub for-xs : length xs ≡ knotCount offset (length ts)
@@ -95,7 +95,7 @@ expandedSet ts x o blocks m = record {
   interpolateMissing = m .interpolate;
 }
 
-pub record Expands (f : TemplateFields) (r : Parsed) : Type 0 where
+pub record Expands (f : TemplateFields) (r : Prepared) : Type 0 where
   pub number : r .number ≡ templateNumber f
   pub made : r .number ≡ 0 → clipSetOf (r .set) ≡ templateSet f
   pub sound : r .number ≡ 0 → Sound (clipSetOf (r .set))

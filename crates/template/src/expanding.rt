@@ -1,5 +1,5 @@
 // The expansion of a template: the times t of its clips, and the set's lists of them.
-use clip::Parsed;
+use clip::Prepared;
 use clip::storage;
 use clip::storing;
 use definitions::Missing;
@@ -10,7 +10,7 @@ ghost use Prim.Native.Nat.{_≤_, _+_};
 ghost use lib.ListN.{length};
 ghost use Rattle.definitions.specs.Template.{stageTime};
 ghost use Rattle.clip.specs.Storing.{Stores};
-ghost use Rattle.template.specs.Expanding.{offsetOf, Promotes, timesOfClips, bounded, knotXs, knotCount, numbered, Prepared, expandedSet};
+ghost use Rattle.template.specs.Expanding.{offsetOf, Promotes, timesOfClips, bounded, knotXs, knotCount, numbered, RoomForLists, expandedSet};
 
 // The times t and their number; of a 257th only the number tells.
 pub struct Promoted {
@@ -128,8 +128,8 @@ pub fn expand_lists(
     numbers: &mut [u64],
     xs: &mut [f64],
     ys: &mut [f64],
-) -> Parsed
-    requires { ⌜ Prepared offset (now ts) (now starts) (now numbers) (now xs) (now ys) (now blocks) ⌝ }
+) -> Prepared
+    requires { ⌜ RoomForLists offset (now ts) (now starts) (now numbers) (now xs) (now ys) (now blocks) ⌝ }
     ensures { λ r. ⌜ Stores (expandedSet (now (ts .entry)) times (offsetOf times offset) (now (blocks .entry)) manifest) r ⌝ }
 {
     write_starts(ts, times, offset, starts);

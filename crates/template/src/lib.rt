@@ -2,7 +2,7 @@
 mod expanding;
 mod fields;
 
-use clip::Parsed;
+use clip::Prepared;
 use clip::storage;
 use clip::storing;
 use definitions::Default;
@@ -19,7 +19,7 @@ pub fn expand_template(
     blocks: &[f64],
     default: Default,
     interpolate: bool,
-) -> Parsed
+) -> Prepared
     ensures { λ r. ⌜ Expands (templateFields (now (template .entry)) times offset (now (blocks .entry)) (manifest default interpolate)) r ⌝ }
 {
     let manifest = Missing {

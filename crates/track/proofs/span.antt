@@ -1,5 +1,5 @@
 -- Laws that the proofs of src/ cite.
 pub mod Spans
 pub mod Cuts
-pub mod Onsets
-pub mod Plains
+pub mod RunsFrom
+pub mod KnotlessLaws

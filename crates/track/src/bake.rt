@@ -10,7 +10,7 @@ use definitions::Missing;
 use gf::LEAST;
 use gf::MOST;
 use lists::writing::copy;
-use window::neighbours::latest::latest_inverses;
+use window::search::latest::latest_inverses;
 ghost use mathlib.Core.Path.{_≡_};
 ghost use Prim.Native.Nat.{_<_};
 ghost use lib.ListN.{length};

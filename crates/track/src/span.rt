@@ -3,7 +3,7 @@
 // The changes of one span, written while there is room.
 pub mod fill;
 // The cell of a window without knots.
-pub mod plain;
+pub mod knotless;
 
 use cell::Cell;
 use cell::cell_at;
@@ -18,9 +18,9 @@ use cell::step::line::place_on;
 use definitions::Missing;
 use definitions::Segment;
 use definitions::Source;
+use knotless::is_knotless;
+use knotless::knotless_cell;
 use lists::segment::segment_at;
-use plain::is_plain;
-use plain::plain_cell;
 use run::begin::RunBegin;
 use run::begin::run_begin;
 use run::entry_of_sample;
@@ -35,7 +35,7 @@ ghost use Rattle.laws.specs.cell.Keys.{Keys};
 ghost use Rattle.laws.specs.cell.Lent.{AcceptedLists};
 ghost use Rattle.window.specs.neighbours.Latest.{LatestOf};
 ghost use Rattle.window.specs.neighbours.Windowed.{samplesIn};
-ghost use Rattle.value.specs.Passes as Passes;
+ghost use Rattle.value.specs.RunsFrom as Passes;
 ghost use Rattle.cell.specs.WindowPlaces.{PlaceIs, PlaceAt};
 ghost use Rattle.track.specs.span.Runs.{Runs, readOn, StepIs};
 
@@ -144,7 +144,7 @@ fn cell_step(
 }
 
 // The span from the key k on in a window of a set without knots: to the next start.
-fn plain_step(
+fn knotless_step(
     starts: &[f64],
     clips: &[u64],
     xs: &[f64],
@@ -167,7 +167,7 @@ fn plain_step(
     ensures { λ r. ⌜ StepIs (now (starts .entry)) (now (clips .entry)) (now (xs .entry)) (now (ys .entry)) (now (blocks .entry)) m (now (times .entry)) (now (values .entry)) (now (marks .entry)) (now (ends .entry)) k top r ⌝ }
 {
     let w = at.window;
-    let cell = plain_cell(w);
+    let cell = knotless_cell(w);
     let next = gf::key(w.max);
     let hi = lesser(top, next - 1);
     let read = read_on(times, values, marks, ends, cell, k, hi);
@@ -267,8 +267,8 @@ pub fn span_at(
         place,
         t,
     );
-    if is_plain(starts, xs) {
-        return plain_step(
+    if is_knotless(starts, xs) {
+        return knotless_step(
             starts,
             clips,
             xs,

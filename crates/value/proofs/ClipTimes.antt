@@ -17,7 +17,7 @@ use Rattle.laws.specs.list.Places.{Ascending}
 use Rattle.laws.proofs.list.Places.{beyond, up-to, last-is}
 use Rattle.laws.specs.cell.Places.{Fits}
 use Rattle.laws.specs.cell.Lent.{knotsOf}
-use Rattle.laws.proofs.cell.Unpacked.{knot-times, zip-length}
+use Rattle.laws.proofs.cell.Lent.{knot-times, zip-length}
 use Rattle.lists.specs.Segments.{knotAt}
 use Rattle.window.proofs.nearest.Beside.{number-at}
 use Rattle.value.proofs.Jumps.{step-le}

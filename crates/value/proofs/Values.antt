@@ -32,22 +32,22 @@ use Rattle.laws.proofs.cell.Stretches.{readAs, boundaries-fit, value-by, held-m
 use Rattle.laws.specs.cell.Neighbours.{IsLower, IsUpper}
 use Rattle.laws.proofs.cell.Neighbours.{lower-found, lower-none, upper-found, upper-none, jump-alike}
 use Rattle.laws.specs.cell.Lent.{activeOf, knotsOf, setOf, samplesOf, AcceptedLists}
-use Rattle.laws.proofs.cell.Unpacked.{sound-set, sound-samples}
+use Rattle.laws.proofs.cell.Lent.{sound-set, sound-samples}
 use Rattle.window.specs.declared.Bound.{Bound}
 use Rattle.window.specs.declared.Bound.the-variants.{At, Nothing}
-use Rattle.window.specs.declared.Bounds.{Bounds}
+use Rattle.window.specs.declared.Neighbours.{Neighbours}
 use Rattle.window.specs.Bounds.{LowerIs, UpperIs, NeighboursAre}
 use Rattle.window.proofs.Parts.{ready-active, ready-position, ready-readable}
-use Rattle.window.specs.declared.neighbours.Window.{Window}
+use Rattle.window.specs.declared.search.Window.{Window}
 use Rattle.window.specs.neighbours.Windowed.{samplesIn, windowTimes, windowSource}
 use Rattle.value.specs.WindowOf.{WindowIs}
-use Rattle.value.proofs.Handed.{window-gathered, window-lent, window-nears, window-held}
+use Rattle.value.proofs.WindowOf.{window-gathered, window-lent, window-nears, window-held}
 use Rattle.value.specs.Values.{heldAt, Valued, ValueIn}
 
 -- ---- the value in a window
 
 -- the cases of the program
-module _ (xs ys times : List Float) (w : Window) (t : Float) (n : Bounds) (N : NeighboursAre (windowTimes xs ys (samplesIn times w) w) t n) (r : Source) where
+module _ (xs ys times : List Float) (w : Window) (t : Float) (n : Neighbours) (N : NeighboursAre (windowTimes xs ys (samplesIn times w) w) t n) (r : Source) where
   abbrev knots : List Knot
   knots = knotsOf xs ys
 

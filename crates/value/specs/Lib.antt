@@ -10,5 +10,5 @@ pub mod ClipTimes
 -- What is handed on of a window
 pub mod WindowOf
 -- The neighbours along a run of samples in one segment
-pub mod Passes
+pub mod RunsFrom
 pub mod direct

@@ -11,9 +11,9 @@ use Rattle.laws.specs.list.Places.{Ascending}
 use Rattle.laws.specs.cell.Lent.{knotsOf}
 use Rattle.window.specs.declared.Bound.{Bound}
 use Rattle.window.specs.declared.Bound.the-variants.{At, Nothing}
-use Rattle.window.specs.declared.Bounds.{Bounds}
+use Rattle.window.specs.declared.Neighbours.{Neighbours}
 use Rattle.window.specs.Bounds.{NeighboursAre}
-use Rattle.window.specs.declared.neighbours.Window.{Window}
+use Rattle.window.specs.declared.search.Window.{Window}
 use Rattle.window.specs.neighbours.Latest.{LatestOf}
 use Rattle.window.specs.neighbours.Windowed.{samplesIn, windowTimes, windowSource, Lent, Nearing}
 
@@ -34,6 +34,6 @@ pub record Valued (xs ys times : List Float) (w : Window) (t : Float) : Type 0 w
 
 -- r is read at the time that the neighbours tell
 pub record ValueIn (xs ys times : List Float) (w : Window) (t : Float) (r : Source) : Type 0 where
-  pub bounds : Bounds
+  pub bounds : Neighbours
   pub near : NeighboursAre (windowTimes xs ys (samplesIn times w) w) t bounds
   pub reads : r ≡ windowSource xs ys times w (heldAt (knotsOf xs ys) t (bounds .lower) (bounds .upper))

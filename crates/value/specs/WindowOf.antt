@@ -13,7 +13,7 @@ use Rattle.definitions.specs.Value.{directSource}
 use Rattle.laws.specs.cell.Lent.{setOf, samplesOf}
 use Rattle.window.specs.Parts.{partOf}
 use Rattle.window.specs.Windows.{minOf, maxOf, ifOwn}
-use Rattle.window.specs.declared.neighbours.Window.{Window}
+use Rattle.window.specs.declared.search.Window.{Window}
 use Rattle.window.specs.neighbours.Windowed.{samplesIn, windowSource}
 
 -- the window of the start at the place p

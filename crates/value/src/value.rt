@@ -10,8 +10,8 @@ use definitions::StageTime;
 use sdf::part::clip_begin;
 use sdf::part::clip_end;
 use window::Bound;
-use window::neighbours::Window;
-use window::neighbours::near_in;
+use window::search::Window;
+use window::search::neighbours_in;
 ghost use mathlib.Core.Path.{_≡_};
 ghost use lib.Dec.{T};
 ghost use lib.ListN.{length};
@@ -29,7 +29,7 @@ fn value_in(xs: &[f64], ys: &[f64], times: &[f64], w: Window, t: StageTime) -> S
     let begin = w.begin;
     let end = w.end;
     // One question is not worth the latest of all segments.
-    let found = near_in(xs, ys, &xs[0..0], &times[begin..end], w, t.0, 0, 0);
+    let found = neighbours_in(xs, ys, &xs[0..0], &times[begin..end], w, t.0, 0, 0);
     let lower = found.lower;
     let upper = found.upper;
     let knot = found.knot;

@@ -9,7 +9,7 @@ use definitions::StageTime;
 use lists::segment::segment_at;
 use sdf::part::clip_begin;
 use sdf::part::clip_end;
-use window::neighbours::Window;
+use window::search::Window;
 use window::window_max;
 use window::window_min;
 ghost use mathlib.Core.Path.{_≡_};

@@ -15,7 +15,7 @@ use Rattle.laws.specs.list.Every.{Every}
 use Rattle.laws.proofs.list.Every.{zip-at}
 use Rattle.laws.proofs.cell.Every.{every-map, every-append, every-left, every-right, every-kept, every-swap}
 use Rattle.laws.specs.cell.Lent.{knotsOf}
-use Rattle.laws.proofs.cell.Unpacked.{zip-length}
+use Rattle.laws.proofs.cell.Lent.{zip-length}
 use Rattle.window.specs.Inverses.{onSegment, inversesOf}
 
 -- ---- lists of lists

@@ -6,7 +6,7 @@ pub mod Pairs
 -- The inverse times of a clip's samples, segment by segment
 pub mod Inverses
 -- Where the inverse times between two knots lie
-pub mod Near
+pub mod SoundSegments
 -- A window's gathered times over the lent lists
 pub mod Windows
 -- A clip's part of the lent times, and what lists that are ready tell

@@ -17,8 +17,8 @@ use Rattle.laws.specs.list.Places.{Ascending}
 use Rattle.laws.proofs.set.Sound.{sound-active, sound-knots}
 use Rattle.laws.proofs.set.Accepted.{clip-ascending}
 use Rattle.laws.specs.cell.Lent.{start, activeOf, knotsOf, setOf, samplesOf, AcceptedLists}
-use Rattle.laws.proofs.cell.Unpacked.{zip-length, active-times, knot-times, sound-set}
-use Rattle.window.proofs.Near.{segments}
+use Rattle.laws.proofs.cell.Lent.{zip-length, active-times, knot-times, sound-set}
+use Rattle.window.proofs.SoundSegments.{segments}
 use Rattle.window.specs.Parts.{Readable}
 
 -- ---- a clip's part of the lent times

@@ -17,7 +17,7 @@ use Rattle.definitions.specs.ClipSet.{ClipSet, knotTimes}
 use Rattle.definitions.specs.Samples.{Samples, clipTimes}
 use Rattle.definitions.specs.Value.{contains, timeOr, window, startOf, contributes, blockedAt, windowSampleTimes, contributedTimes, gathered}
 use Rattle.laws.specs.cell.Lent.{start, activeOf, knotsOf, setOf, samplesOf, AcceptedLists}
-use Rattle.laws.proofs.cell.Unpacked.{zip-here, zip-length, knot-times}
+use Rattle.laws.proofs.cell.Lent.{zip-here, zip-length, knot-times}
 use Rattle.window.specs.Parts.{partOf}
 use Rattle.window.specs.Bounds.{inside}
 use Rattle.window.specs.Inverses.{inversesOf}

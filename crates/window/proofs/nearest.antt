@@ -4,4 +4,4 @@ pub mod Nearest
 -- The times of an ascending list on either side of a time
 pub mod Beside
 -- The samples of a segment on either side of a time
-pub mod Turns
+pub mod CrossingLaws

@@ -10,7 +10,7 @@ use Rattle.laws.specs.list.Every.{Every}
 use Rattle.laws.specs.cell.Neighbours.{IsLower, IsUpper}
 use Rattle.window.specs.declared.Bound.{Bound}
 use Rattle.window.specs.declared.Bound.the-variants.{At, Nothing}
-use Rattle.window.specs.declared.Bounds.{Bounds}
+use Rattle.window.specs.declared.Neighbours.{Neighbours}
 
 -- ---- what the bounds are: the contracts
 
@@ -24,16 +24,16 @@ abbrev pub UpperIs : List Float → Float → Bound → Type 0
 UpperIs times t (At h) = IsUpper times t h
 UpperIs times t Nothing = Every (λ (x : Float). T (lt t x) → ⊥) times
 
-pub record NeighboursAre (times : List Float) (t : Float) (n : Bounds) : Type 0 where
+pub record NeighboursAre (times : List Float) (t : Float) (n : Neighbours) : Type 0 where
   pub lower : LowerIs times t (n .lower)
   pub upper : UpperIs times t (n .upper)
 
 -- ---- one time more
 
-abbrev pub withLower : Bounds → Bound → Bounds
+abbrev pub withLower : Neighbours → Bound → Neighbours
 withLower n b = record { lower = b; upper = n .upper }
 
-abbrev pub withUpper : Bounds → Bound → Bounds
+abbrev pub withUpper : Neighbours → Bound → Neighbours
 withUpper n b = record { lower = n .lower; upper = b }
 
 abbrev pub inside : Interval → Float → Bool
@@ -43,5 +43,5 @@ abbrev pub In : Float → List Float → Type 0
 In x [] = ⊥
 In x (y ∷ l) = (x ≡ y) ⊎ In x l
 
-abbrev pub nothing : Bounds
+abbrev pub nothing : Neighbours
 nothing = record { lower = Nothing; upper = Nothing }

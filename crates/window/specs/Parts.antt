@@ -9,7 +9,7 @@ use Rattle.definitions.specs.Samples.{clipBegin, clipEnd}
 use Rattle.laws.specs.list.Every.{Every}
 use Rattle.laws.specs.list.Places.{Ascending}
 use Rattle.laws.specs.cell.Lent.{knotsOf}
-use Rattle.window.specs.Near.{SoundSegment}
+use Rattle.window.specs.SoundSegments.{SoundSegment}
 
 -- ---- a clip's part of the lent times
 

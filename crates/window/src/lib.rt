@@ -2,7 +2,7 @@
 
 pub mod crossing;
 pub mod nearest;
-pub mod neighbours;
+pub mod search;
 
 ghost use mathlib.Core.Path.{_≡_};
 ghost use Prim.Native.Nat.{_<_};
@@ -16,7 +16,7 @@ pub enum Bound {
 }
 
 // The neighbours of a time, as far as they are found.
-pub struct Bounds {
+pub struct Neighbours {
     pub lower: Bound,
     pub upper: Bound,
 }

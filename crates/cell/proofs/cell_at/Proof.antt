@@ -5,9 +5,9 @@ use native.Mathlib.Omega.{arith}
 use lib.ListN.{length}
 use Rattle.window.proofs.Parts.{ready-readable}
 use Rattle.value.specs.WindowOf.{WindowIs}
-use Rattle.value.proofs.Handed.{window-lent, window-nears}
+use Rattle.value.proofs.WindowOf.{window-lent, window-nears}
 use Rattle.cell.proofs.Lent.{place-window}
-use Rattle.cell.proofs.Ways.{piece-few, near-direct, near-held}
+use Rattle.cell.proofs.CellsRead.{piece-few, near-direct, near-held}
 use borrow.Author.Needs.{needs}
 use Rattle.cell.proofs.cell_at.Statement.{statement}
 use Rattle.cell.proofs.cell_at.Tie as tie
@@ -34,20 +34,20 @@ returns c =
     let a = c .before .before .before .before .before .before .before .before .before .before .before .before .before in
     piece-few (a .pre .0) (a .args .t) (c .before .direct-cell .result) (c .first-above .result) (c .before .before .if1 .taken) (c .before .direct-cell .ensures) (c .first-above .ensures)
 
-mul-near-in : tie.Need-mul-near-in
-mul-near-in c = let W = window (c .before) in let o = W .order in let u = W .upto in omega (arith, entry (c .before) .good)
+mul-neighbours-in : tie.Need-mul-neighbours-in
+mul-neighbours-in c = let W = window (c .before) in let o = W .order in let u = W .upto in omega (arith, entry (c .before) .good)
 
-sub-near-in : tie.Need-sub-near-in
-sub-near-in c = window (c .before) .order
+sub-neighbours-in : tie.Need-sub-neighbours-in
+sub-neighbours-in c = window (c .before) .order
 
-part-near-in-start : tie.Need-part-near-in-start
-part-near-in-start c = window (c .before) .order
+part-neighbours-in-start : tie.Need-part-neighbours-in-start
+part-neighbours-in-start c = window (c .before) .order
 
-part-near-in-end : tie.Need-part-near-in-end
-part-near-in-end c = let W = window (c .before) in let o = W .order in let u = W .upto in search needs
+part-neighbours-in-end : tie.Need-part-neighbours-in-end
+part-neighbours-in-end c = let W = window (c .before) in let o = W .order in let u = W .upto in search needs
 
-near-in-requires : tie.Need-near-in-requires
-near-in-requires c κs =
+neighbours-in-requires : tie.Need-neighbours-in-requires
+neighbours-in-requires c κs =
     let e = c .before .before in
     let a = entry e in
     let n = several e in
@@ -71,7 +71,7 @@ returns-2 c =
     let e = n .before .before .before in
     let a = entry e in
     let s = several e in
-    near-direct (a .pre .0) (a .args .t) (a .pre .1 .1 .1) s (a .args .place .start) (a .pre .1 .1 .0 .place (omega arith)) (a .args .place .window) (window e) (n .near-in .result) (n .near-in .ensures) (c .direct-cell2 .result)
+    near-direct (a .pre .0) (a .args .t) (a .pre .1 .1 .1) s (a .args .place .start) (a .pre .1 .1 .0 .place (omega arith)) (a .args .place .window) (window e) (n .neighbours-in .result) (n .neighbours-in .ensures) (c .direct-cell2 .result)
     (sym (c .before .before .before .held-from .ensures) ∙ c .before .enum-told .given .1) (c .direct-cell2 .ensures)
 
 place-before-requires : tie.Need-place-before-requires
@@ -89,7 +89,7 @@ returns-3 c =
     let e = n .before .before .before in
     let a = entry e in
     let s = several e in
-    near-held (a .pre .0) (a .args .t) (a .pre .1 .1 .1) s (a .args .place .start) (a .pre .1 .1 .0 .place (omega arith)) (a .args .place .window) (window e) (n .near-in .result) (n .near-in .ensures) (c .before .before .before .l .given .0 .0) (c .source-in .result)
+    near-held (a .pre .0) (a .args .t) (a .pre .1 .1 .1) s (a .args .place .start) (a .pre .1 .1 .0 .place (omega arith)) (a .args .place .window) (window e) (n .neighbours-in .result) (n .neighbours-in .ensures) (c .before .before .before .l .given .0 .0) (c .source-in .result)
     (sym (c .before .before .before .before .before .held-from .ensures) ∙ c .before .before .before .l .given .1) (c .source-in .ensures)
 
 pub cell-at-spec : {M : Type 1} → statement M
@@ -99,11 +99,11 @@ cell-at-spec =
     direct-cell-requires
     first-above-requires
     returns
-    mul-near-in
-    sub-near-in
-    part-near-in-start
-    part-near-in-end
-    near-in-requires
+    mul-neighbours-in
+    sub-neighbours-in
+    part-neighbours-in-start
+    part-neighbours-in-end
+    neighbours-in-requires
     held-from-requires
     enum-known-l
     enum-told

@@ -6,7 +6,7 @@ use Rattle.gf.proofs.KeyLaws.{finite-no-nan}
 use Rattle.window.proofs.Parts.{ready-readable}
 use Rattle.value.specs.WindowOf.{WindowIs}
 use Rattle.cell.proofs.Lent.{place-window}
-use Rattle.cell.proofs.Ways.{direct-absent, direct-reads, direct-gap}
+use Rattle.cell.proofs.CellsRead.{direct-absent, direct-reads, direct-gap}
 use Rattle.cell.proofs.direct_cell.Statement.{statement}
 use Rattle.cell.proofs.direct_cell.Tie as tie
 

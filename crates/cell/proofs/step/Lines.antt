@@ -5,12 +5,12 @@ use Rattle.definitions.specs.declared.Segment as definitions
 use Rattle.definitions.specs.Timing.{onSegment}
 use Rattle.laws.specs.cell.Knots as Knots
 use Rattle.cell.specs.declared.step.line.Line.{Line}
-use Rattle.cell.specs.declared.step.line.Line.the-variants.{Plain, Flat, Segment}
+use Rattle.cell.specs.declared.step.line.Line.the-variants.{Identity, Flat, Segment}
 use Rattle.cell.specs.step.Lines.{lineIs}
 
 -- ---- the clip time by the line's form
 
-pub along-plain : (line : Line) (t : Float) → line ≡ Plain → Knots.along (lineIs line) t ≡ t
+pub along-plain : (line : Line) (t : Float) → line ≡ Identity → Knots.along (lineIs line) t ≡ t
 unfolding Knots.along
 along-plain line t e = ap (λ (l : Line). Knots.along (lineIs l) t) e
 

@@ -21,7 +21,7 @@ use Rattle.laws.specs.list.Places.{Fits, Ascending}
 use Rattle.laws.proofs.list.Places.{up-to, last-is, fitting}
 use Rattle.laws.specs.cell.Knots.{plain, flat, segment, lineOf}
 use Rattle.laws.specs.cell.Lent.{knotsOf}
-use Rattle.laws.proofs.cell.Unpacked.{knot-times}
+use Rattle.laws.proofs.cell.Lent.{knot-times}
 
 -- ---- the knot at a place
 

@@ -6,10 +6,10 @@ use Rattle.gf.specs.Key.{ofKey}
 use Rattle.definitions.specs.Timing.{lastAtMost}
 use Rattle.laws.specs.cell.Knots as Knots
 use Rattle.cell.specs.declared.step.line.Line.{Line}
-use Rattle.cell.specs.declared.step.line.Line.the-variants.{Plain, Flat, Segment}
+use Rattle.cell.specs.declared.step.line.Line.the-variants.{Identity, Flat, Segment}
 
 abbrev pub lineIs : Line → Knots.Line
-lineIs Plain = Knots.plain
+lineIs Identity = Knots.plain
 lineIs (Flat y) = Knots.flat y
 lineIs (Segment s) = Knots.segment (s .a) (s .b)
 

@@ -17,7 +17,7 @@ ghost use Rattle.cell.specs.step.Lines.{lineIs, placeOn};
 // How stage times lead to clip times in a cell: no knots, below the first or from the last on, or
 // between two knots.
 pub enum Line {
-    Plain,
+    Identity,
     Flat(f64),
     Segment(Segment),
 }
@@ -31,7 +31,7 @@ pub fn line_of(xs: &[f64], ys: &[f64], t: f64) -> Line
 {
     let n = xs.len();
     if n == 0 {
-        return Line::Plain;
+        return Line::Identity;
     }
     if t < xs[0] {
         return Line::Flat(ys[0]);
@@ -49,7 +49,7 @@ pub fn along(line: Line, t: f64) -> f64
     ensures { λ r. ⌜ r ≡ Knots.along (lineIs line) t ⌝ }
 {
     match line {
-        Line::Plain => t,
+        Line::Identity => t,
         Line::Flat(y) => y,
         Line::Segment(s) => clip_time(s, t),
     }

@@ -9,10 +9,10 @@ use Rattle.window.specs.declared.Bound.{Bound}
 use Rattle.window.specs.declared.Bound.the-variants as Bounds
 use Rattle.window.specs.Bounds.{In}
 use Rattle.window.specs.Inverses.{onSegment}
-use Rattle.window.specs.declared.neighbours.Window.{Window}
+use Rattle.window.specs.declared.search.Window.{Window}
 use Rattle.window.specs.neighbours.Latest.{segmentOf}
 use Rattle.window.specs.neighbours.Windowed.{samplesIn}
-use Rattle.value.specs.Passes as Passes
+use Rattle.value.specs.RunsFrom as Passes
 use Rattle.run.specs.declared.begin.RunBegin.{RunBegin}
 use Rattle.run.specs.declared.begin.RunBegin.the-variants.{At, Nothing}
 

@@ -37,7 +37,7 @@ use Rattle.cell.specs.declared.step.line.Line.{Line}
 use Rattle.cell.specs.step.Lines.{lineIs, placeOn}
 use Rattle.run.specs.Readings.{LeftOnce, readingAt}
 use Rattle.value.specs.Answers.{answerIn, Answerable}
-use Rattle.value.proofs.Says.{says-ready, value-in}
+use Rattle.value.proofs.Answers.{says-ready, value-in}
 use Rattle.cell.specs.declared.Cell.{Cell}
 use Rattle.cell.specs.declared.Cell.the-variants.{Constant, Reading}
 use Rattle.cell.specs.CellAndEnd.{cellIs, Sampled, CellAndEndIs}

@@ -4,7 +4,7 @@ use crate::span::Span;
 use cell::Cell;
 use cell::step::entry::Entry;
 use run::fill_changes;
-use run::passing::fill_run;
+use run::inside::fill_run;
 use run::walk::Went;
 use sdf::part::clip_begin;
 use sdf::part::clip_end;

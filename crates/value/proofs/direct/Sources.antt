@@ -19,7 +19,7 @@ use Rattle.definitions.specs.Timing.{lastAtMost, activePosition}
 use Rattle.definitions.specs.Samples.{Samples, clipTimes}
 use Rattle.definitions.specs.Value.{_orElse_, blockedAt, contributes, readClip, firstReading, interpolateMissingValue, sourceAt, directSource}
 use Rattle.laws.specs.cell.Lent.{start, activeOf, setOf, samplesOf, AcceptedLists}
-use Rattle.laws.proofs.cell.Unpacked.{zip-here}
+use Rattle.laws.proofs.cell.Lent.{zip-here}
 use Rattle.window.proofs.Parts.{ready-active, ready-position}
 use Rattle.value.proofs.direct.ReadsLaws.{readPart}
 use Rattle.value.specs.direct.Sources.{standIn}

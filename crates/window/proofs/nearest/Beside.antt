@@ -25,12 +25,12 @@ use Rattle.laws.specs.cell.Ends.{Number}
 use Rattle.laws.specs.cell.Places.{Fits}
 use Rattle.window.specs.declared.Bound.{Bound}
 use Rattle.window.specs.declared.Bound.the-variants.{At, Nothing}
-use Rattle.window.specs.declared.Bounds.{Bounds}
+use Rattle.window.specs.declared.Neighbours.{Neighbours}
 use Rattle.window.specs.Bounds.{In, inside}
 use Rattle.window.proofs.Inverses.{every-if}
 use Rattle.window.specs.nearest.Nearest.{LowerMet, UpperMet, Met, Searched, withInside}
 use Rattle.window.proofs.nearest.Nearest.{searched-none, searched-inside}
-use Rattle.window.specs.nearest.Beside.{withPlace, Facing}
+use Rattle.window.specs.nearest.Beside.{withPlace, TimeInside}
 
 pub finite-number : (x : Float) → FiniteDouble x → Number x
 finite-number x f = (f .fitting, finite-no-nan x (f .finitely))
@@ -41,7 +41,7 @@ timeAt xs i = cond (ltb i (length xs)) (getD xs i nan ∷ []) []
 
 -- ---- a time inside its window
 
-pub facing : (w : Interval) (t : Float) → Fits t → Fits (w .min) → Fits (w .max) → T (le (w .min) t) → T (lt t (w .max)) → Facing w t
+pub facing : (w : Interval) (t : Float) → Fits t → Fits (w .min) → Fits (w .max) → T (le (w .min) t) → T (lt t (w .max)) → TimeInside w t
 facing w t f a b h k =
     let n = le-no-nan (w .min) t h in
     let m = le-no-nan t (w .max) (lt→le t (w .max) k) in
@@ -55,7 +55,7 @@ upper-up : (b : Bound) (x y : Float) → key y ≤ key x → UpperMet b y → Up
 upper-up (At l) x y h m = omega arith
 upper-up Nothing x y h m = m
 
-module _ (w : Interval) (t : Float) (F : Facing w t) (r : Bounds) (x y : Float) (nx : Number x) (ny : Number y) where
+module _ (w : Interval) (t : Float) (F : TimeInside w t) (r : Neighbours) (x y : Float) (nx : Number x) (ny : Number y) where
   -- what lies up to a time that is known, on the same side of t
   pub meet-below : key x ≤ key y → key y ≤ key t → T (inside w x) → (T (inside w y) → Met t r y) → Met t r x
   meet-below h k i m =
@@ -99,7 +99,7 @@ module _ (xs : List Float) (a : Ascending xs) where
     pub last-reached : 0 < i → i < length xs → key (getD xs i nan) ≤ key t
     last-reached p h = key-at-most t ft nan xs a i h (omega (arith, counted))
 
-    pub times-met : (w : Interval) → Facing w t → (r : Bounds) → (i < length xs → T (inside w (getD xs i nan)) → Met t r (getD xs i nan))
+    pub times-met : (w : Interval) → TimeInside w t → (r : Neighbours) → (i < length xs → T (inside w (getD xs i nan)) → Met t r (getD xs i nan))
         → (i + 1 < length xs → T (inside w (getD xs (i + 1) nan)) → Met t r (getD xs (i + 1) nan)) → Every (Met t r) (keep (inside w) xs)
     times-met w F r here next = every-if (Met t r) (inside w) xs (every-by (λ (x : Float). T (inside w x) → Met t r x) xs nan each)
       where
@@ -124,7 +124,7 @@ module _ (xs : List Float) (a : Ascending xs) where
 -- ---- a search at those two places
 
 module _ (t : Float) (w : Interval) (xs : List Float) where
-  place-searched : (h : Bounds) (i : ℕ) → Searched t (keep (inside w) (timeAt xs i)) h (withPlace w t xs h i)
+  place-searched : (h : Neighbours) (i : ℕ) → Searched t (keep (inside w) (timeAt xs i)) h (withPlace w t xs h i)
   unfolding withPlace
   place-searched h i = go (ltb i (length xs))
     where
@@ -143,7 +143,7 @@ module _ (t : Float) (w : Interval) (xs : List Float) where
   place-known P i h l =
       every-kept P (inside w) (getD xs i nan ∷ []) (subst (λ (b : Bool). Every P (keep (inside w) (cond b (getD xs i nan ∷ []) []))) (lt-ltb i (length xs) l) h) .0
 
-  pub beside-searched : Facing w t → FiniteDouble t → Ascending xs → (i : ℕ) → i ≡ lastAtMost xs t → (h : Bounds) → Searched t (keep (inside w) xs) h (withPlace w t xs (withPlace w t xs h i) (i + 1))
+  pub beside-searched : TimeInside w t → FiniteDouble t → Ascending xs → (i : ℕ) → i ≡ lastAtMost xs t → (h : Neighbours) → Searched t (keep (inside w) xs) h (withPlace w t xs (withPlace w t xs h i) (i + 1))
   beside-searched F ft a i at h =
       let m = withPlace w t xs h i in
       let r = withPlace w t xs m (i + 1) in

@@ -17,7 +17,7 @@ use Rattle.laws.proofs.cell.Every.{every-map, every-zip, every-append, every-le
 use Rattle.laws.specs.cell.Ends.{Number}
 use Rattle.window.specs.declared.Bound.{Bound}
 use Rattle.window.specs.declared.Bound.the-variants.{At, Nothing}
-use Rattle.window.specs.declared.Bounds.{Bounds}
+use Rattle.window.specs.declared.Neighbours.{Neighbours}
 use Rattle.window.specs.Bounds.{In, inside, nothing, withLower, withUpper, LowerIs, UpperIs, NeighboursAre}
 use Rattle.window.proofs.BoundsLaws.{in-every, every-in, in-any}
 use Rattle.window.specs.nearest.Nearest.{greaterOf, lesserOf, withNear, withInside, LowerMet, UpperMet, Met, LowerIn, UpperIn, Sided, Nearer, Searched}
@@ -47,10 +47,10 @@ module _ (b : Bound) (x : Float) where
 -- ---- one after the other
 
 module _ (t : Float) where
-  pub searched-none : (h : Bounds) → Searched t [] h h
+  pub searched-none : (h : Neighbours) → Searched t [] h h
   searched-none h = record { run = λ nt g N i s. record { among = s; known = tt; kept = λ x m. m } }
 
-  pub searched-then : {a b : List Float} {h q r : Bounds} → Searched t a h q → Searched t b q r → Searched t (a ++ b) h r
+  pub searched-then : {a b : List Float} {h q r : Neighbours} → Searched t a h q → Searched t b q r → Searched t (a ++ b) h r
   searched-then {a} {b} {h} {q} {r} A B = record {
     run = λ nt g N i s.
         let u = A .run nt g N (every-left (λ (x : Float). In x g) a b i) s in
@@ -63,7 +63,7 @@ module _ (t : Float) where
   }
 
   -- the same times in another order
-  pub searched-same : {a b : List Float} {h r : Bounds} → ((P : Float → Type 0) → Every P a → Every P b) → ((P : Float → Type 0) → Every P b → Every P a) → Searched t a h r → Searched t b h r
+  pub searched-same : {a b : List Float} {h r : Neighbours} → ((P : Float → Type 0) → Every P a → Every P b) → ((P : Float → Type 0) → Every P b → Every P a) → Searched t a h r → Searched t b h r
   searched-same {a} {b} {h} {r} f g A = record {
     run = λ nt l N i s.
         let u = A .run nt l N (g (λ (x : Float). In x l) i) s in
@@ -97,7 +97,7 @@ module _ (t : Float) where
         go true e = (s, leb-true (key l) (key x) (sym (le-is l x (nl .0) (nx .0) (nl .1) (nx .1)) ∙ e), λ y m. m)
         go false e = let k = leb-false (key l) (key x) (sym (le-is l x (nl .0) (nx .0) (nl .1) (nx .1)) ∙ e) in ((i, h), omega arith, λ y m. omega arith)
 
-    one-near : (h : Bounds) (x : Float) (g : List Float) → Every Number g → Every (λ (y : Float). In y g) (x ∷ []) → Sided g t h → Nearer g t (x ∷ []) h (cond (le x t) (withLower h (greaterOf (h .lower) x)) (withUpper h (lesserOf (h .upper) x)))
+    one-near : (h : Neighbours) (x : Float) (g : List Float) → Every Number g → Every (λ (y : Float). In y g) (x ∷ []) → Sided g t h → Nearer g t (x ∷ []) h (cond (le x t) (withLower h (greaterOf (h .lower) x)) (withUpper h (lesserOf (h .upper) x)))
     one-near h x g N i s = go (le x t) refl
       where
         nx : Number x
@@ -113,12 +113,12 @@ module _ (t : Float) where
             let r = lesser-near g N (h .upper) x nx (i .0) k (s .1) in
             record { among = (s .0, r .0); known = ((λ u. absurd (omega arith), λ _. r .1), tt); kept = λ y m. (m .0, λ u. r .2 y (m .1 u)) }
 
-  pub searched-one : (h : Bounds) (x : Float) → Searched t (x ∷ []) h (withNear t h x)
+  pub searched-one : (h : Neighbours) (x : Float) → Searched t (x ∷ []) h (withNear t h x)
   unfolding withNear
   searched-one h x = record { run = λ nt g N i s. one-near nt h x g N i s }
 
   -- if it lies inside the window
-  pub searched-inside : (w : Interval) (h : Bounds) (x : Float) → Searched t (keep (inside w) (x ∷ [])) h (withInside w t h x)
+  pub searched-inside : (w : Interval) (h : Neighbours) (x : Float) → Searched t (keep (inside w) (x ∷ [])) h (withInside w t h x)
   unfolding withInside
   searched-inside w h x = go (inside w x)
     where
@@ -156,7 +156,7 @@ module _ (t : Float) (nt : Number t) (l : List Float) (N : Every Number l) where
         first = every-zip Number (λ (y : Float). key t < key y → key x ≤ key y) (λ (y : Float). T (lt t y) → T (le x y)) (λ y o c u. key→le x y (n .0) (o .0) (n .1) (o .1) (c (lt→key t y (nt .0) (o .0) (nt .1) (o .1) u))) l N k;
       }
 
-  pub nearest-of : (r : Bounds) → Searched t l nothing r → NeighboursAre l t r
+  pub nearest-of : (r : Neighbours) → Searched t l nothing r → NeighboursAre l t r
   nearest-of r S =
       let a = S .run nt l N (every-in l) (tt, tt) in
       record {

@@ -8,16 +8,16 @@ use lib.Ieee.{Float, nan}
 use Rattle.gf.specs.Key.{key}
 use Rattle.gf.specs.declared.interval.Interval.{Interval}
 use Rattle.laws.specs.cell.Ends.{Number}
-use Rattle.window.specs.declared.Bounds.{Bounds}
+use Rattle.window.specs.declared.Neighbours.{Neighbours}
 use Rattle.window.specs.Bounds.{inside}
 use Rattle.window.specs.nearest.Nearest.{withInside}
 
-unfoldable pub withPlace : Interval → Float → List Float → Bounds → ℕ → Bounds
+unfoldable pub withPlace : Interval → Float → List Float → Neighbours → ℕ → Neighbours
 withPlace w t xs h i = cond (ltb i (length xs)) (withInside w t h (getD xs i nan)) h
 
 -- ---- a time inside its window
 
-pub record Facing (w : Interval) (t : Float) : Type 0 where
+pub record TimeInside (w : Interval) (t : Float) : Type 0 where
   pub time : Number t
   pub min : Number (w .min)
   pub max : Number (w .max)

@@ -10,7 +10,7 @@ use Rattle.laws.specs.list.Every.{Every}
 use Rattle.laws.specs.cell.Ends.{Number}
 use Rattle.window.specs.declared.Bound.{Bound}
 use Rattle.window.specs.declared.Bound.the-variants.{At, Nothing}
-use Rattle.window.specs.declared.Bounds.{Bounds}
+use Rattle.window.specs.declared.Neighbours.{Neighbours}
 use Rattle.window.specs.Bounds.{In, inside, withLower, withUpper}
 
 -- ---- one time more
@@ -24,11 +24,11 @@ lesserOf Nothing x = At x
 lesserOf (At y) x = cond (le y x) (At y) (At x)
 
 -- what is not at most t counts as above it: of numbers, it is
-unfoldable pub withNear : Float → Bounds → Float → Bounds
+unfoldable pub withNear : Float → Neighbours → Float → Neighbours
 withNear t n x = cond (le x t) (withLower n (greaterOf (n .lower) x)) (withUpper n (lesserOf (n .upper) x))
 
 -- the same where the time lies inside the window
-unfoldable pub withInside : Interval → Float → Bounds → Float → Bounds
+unfoldable pub withInside : Interval → Float → Neighbours → Float → Neighbours
 withInside w t n x = cond (inside w x) (withNear t n x) n
 
 -- ---- what a search promises
@@ -42,7 +42,7 @@ UpperMet (At h) x = key h ≤ key x
 UpperMet Nothing x = ⊥
 
 -- x does not come between t and a bound
-abbrev pub Met : Float → Bounds → Float → Type 0
+abbrev pub Met : Float → Neighbours → Float → Type 0
 Met t n x = (key x ≤ key t → LowerMet (n .lower) x) × (key t < key x → UpperMet (n .upper) x)
 
 -- the bounds are among the times of g, on their sides of t
@@ -54,15 +54,15 @@ abbrev pub UpperIn : List Float → Float → Bound → Type 0
 UpperIn g t (At h) = In h g × (key t < key h)
 UpperIn g t Nothing = Unit {0}
 
-abbrev pub Sided : List Float → Float → Bounds → Type 0
+abbrev pub Sided : List Float → Float → Neighbours → Type 0
 Sided g t n = LowerIn g t (n .lower) × UpperIn g t (n .upper)
 
 -- from the bounds `held` to the bounds r, which none of the times of `part` comes between
-pub record Nearer (g : List Float) (t : Float) (part : List Float) (held r : Bounds) : Type 0 where
+pub record Nearer (g : List Float) (t : Float) (part : List Float) (held r : Neighbours) : Type 0 where
   pub among : Sided g t r
   pub known : Every (Met t r) part
   pub kept : (x : Float) → Met t held x → Met t r x
 
 -- the same among any times that have those of `part`
-pub record Searched (t : Float) (part : List Float) (held r : Bounds) : Type 0 where
+pub record Searched (t : Float) (part : List Float) (held r : Neighbours) : Type 0 where
   pub run : Number t → (g : List Float) → Every Number g → Every (λ (x : Float). In x g) part → Sided g t held → Nearer g t part held r

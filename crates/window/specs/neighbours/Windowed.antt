@@ -15,12 +15,12 @@ use Rattle.definitions.specs.Timing.{lastAtMost, mapTime}
 use Rattle.laws.specs.list.Every.{Every}
 use Rattle.laws.specs.list.Places.{Ascending}
 use Rattle.laws.specs.cell.Lent.{knotsOf}
-use Rattle.window.specs.declared.Bounds.{Bounds}
+use Rattle.window.specs.declared.Neighbours.{Neighbours}
 use Rattle.window.specs.Bounds.{inside}
 use Rattle.window.specs.Inverses.{inversesOf}
-use Rattle.window.specs.Near.{SoundSegment}
-use Rattle.window.specs.declared.neighbours.Window.{Window}
-use Rattle.window.specs.declared.neighbours.Near.{Near}
+use Rattle.window.specs.SoundSegments.{SoundSegment}
+use Rattle.window.specs.declared.search.Window.{Window}
+use Rattle.window.specs.declared.search.NeighboursAndHints.{NeighboursAndHints}
 use Rattle.window.specs.neighbours.Latest.{LatestOf}
 
 -- ---- the window's times
@@ -28,7 +28,7 @@ use Rattle.window.specs.neighbours.Latest.{LatestOf}
 abbrev pub intervalOf : Window → Interval
 intervalOf w = record { min = w .min; max = w .max }
 
-abbrev pub boundsOf : Near → Bounds
+abbrev pub boundsOf : NeighboursAndHints → Neighbours
 boundsOf n = record { lower = n .lower; upper = n .upper }
 
 -- the clip's samples: those from `begin` to `end`

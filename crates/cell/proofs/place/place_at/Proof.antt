@@ -2,7 +2,7 @@
 use native.Mathlib.Omega.{arith}
 use Rattle.laws.proofs.list.Places.{last-inside}
 use Rattle.window.proofs.Parts.{ready-starts}
-use Rattle.cell.proofs.Ways.{gap-stands}
+use Rattle.cell.proofs.CellsRead.{gap-stands}
 use borrow.Author.Needs.{needs}
 use Rattle.cell.proofs.place.place_at.Statement.{statement}
 use Rattle.cell.proofs.place.place_at.Tie as tie

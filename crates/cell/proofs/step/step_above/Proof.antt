@@ -6,7 +6,7 @@ use borrow.Author.Tests.{eqb-true, eqb-false, not-true, not-false}
 use Rattle.laws.specs.track.Steps.{Once}
 use Rattle.laws.specs.cell.Keys.{Keys}
 use Rattle.cell.specs.step.Lines.{placeOn}
-use Rattle.cell.proofs.step.Gallops.{once-part, step-part, level-whole}
+use Rattle.cell.proofs.step.StepIn.{once-part, step-part, level-whole}
 use Rattle.cell.proofs.step.step_above.Statement.{statement}
 use Rattle.cell.proofs.step.step_above.Tie as tie
 

@@ -6,7 +6,7 @@ use borrow.Author.Tests.{eqb-true, eqb-false}
 use Rattle.laws.specs.track.Steps.{Once}
 use Rattle.laws.specs.cell.Keys.{Keys}
 use Rattle.cell.specs.step.Lines.{placeOn}
-use Rattle.cell.proofs.step.Gallops.{once-part, step-part}
+use Rattle.cell.proofs.step.StepIn.{once-part, step-part}
 use Rattle.cell.proofs.step.step_below.Statement.{statement}
 use Rattle.cell.proofs.step.step_below.Tie as tie
 

@@ -9,7 +9,7 @@ use denote.Ref.{now}
 use Rattle.laws.proofs.list.Every.{zip-at}
 use Rattle.definitions.specs.ClipSet.{maxActive}
 use Rattle.laws.specs.cell.Lent.{start, activeOf}
-use Rattle.laws.proofs.cell.Unpacked.{zip-length}
+use Rattle.laws.proofs.cell.Lent.{zip-length}
 use Rattle.lists.proofs.Filled.{Filled, fill-start, fill-next}
 use Rattle.clip.proofs.Packing.{packed}
 use Rattle.clip.proofs.storage.pack_active.Statement.{statement}

@@ -10,7 +10,7 @@ use Rattle.laws.proofs.list.Every.{zip-at}
 use Rattle.definitions.specs.Explicit.{knot}
 use Rattle.definitions.specs.ClipSet.{maxKnots}
 use Rattle.laws.specs.cell.Lent.{knotsOf}
-use Rattle.laws.proofs.cell.Unpacked.{zip-length}
+use Rattle.laws.proofs.cell.Lent.{zip-length}
 use Rattle.lists.proofs.Filled.{Filled, fill-start, fill-next}
 use Rattle.clip.proofs.Packing.{packed}
 use Rattle.clip.proofs.storage.pack_knots.Statement.{statement}

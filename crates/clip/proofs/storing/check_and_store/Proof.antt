@@ -3,7 +3,7 @@ use mathlib.Core.Path.{sym, _∙_}
 use borrow.Author.Needs.{needs}
 use denote.Ref.{now}
 use Rattle.laws.specs.cell.Lent.{setOf}
-use Rattle.clip.proofs.Settled.{settle-refuses, lists-number-is, settle-makes}
+use Rattle.clip.proofs.Stored.{settle-refuses, lists-number-is, settle-makes}
 use Rattle.clip.proofs.storing.check_and_store.Statement.{statement}
 use Rattle.clip.proofs.storing.check_and_store.Tie as tie
 

@@ -4,7 +4,7 @@ use borrow.Author.Needs.{needs}
 use denote.Ref.{now}
 use Rattle.definitions.specs.ClipSet as Definitions
 use Rattle.clip.specs.Storing.{Stores}
-use Rattle.clip.proofs.Settled.{sorted-is}
+use Rattle.clip.proofs.Stored.{sorted-is}
 use Rattle.clip.proofs.storing.sort_check_and_store.Statement.{statement}
 use Rattle.clip.proofs.storing.sort_check_and_store.Tie as tie
 

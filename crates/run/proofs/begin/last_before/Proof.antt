@@ -6,7 +6,7 @@ use Rattle.definitions.specs.declared.Knot.{Knot}
 use Rattle.laws.proofs.list.Tests.{holds}
 use Rattle.window.specs.Bounds.{In}
 use Rattle.window.specs.Inverses.{onSegment}
-use Rattle.run.proofs.begin.Ahead.{in-segment}
+use Rattle.run.proofs.begin.LastInverse.{in-segment}
 use borrow.Author.Needs.{needs}
 use Rattle.run.proofs.begin.last_before.Statement.{statement}
 use Rattle.run.proofs.begin.last_before.Tie as tie

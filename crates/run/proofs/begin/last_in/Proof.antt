@@ -10,7 +10,7 @@ use Rattle.definitions.specs.declared.Segment.{Segment}
 use Rattle.laws.specs.cell.Ends.{Number}
 use Rattle.window.proofs.nearest.Beside.{number-at}
 use Rattle.run.specs.begin.Begins.{BeforeIs}
-use Rattle.run.proofs.begin.Ahead.{lesser-number, last-is-in}
+use Rattle.run.proofs.begin.LastInverse.{lesser-number, last-is-in}
 use borrow.Author.Needs.{needs}
 use Rattle.run.proofs.begin.last_in.Statement.{statement}
 use Rattle.run.proofs.begin.last_in.Tie as tie

@@ -72,20 +72,20 @@ is-below-requires c κs = search needs
 returns-4 : tie.Need-returns-4
 returns-4 c = search needs
 
-mul-near-in : tie.Need-mul-near-in
-mul-near-in c = search needs
+mul-neighbours-in : tie.Need-mul-neighbours-in
+mul-neighbours-in c = search needs
 
-sub-near-in : tie.Need-sub-near-in
-sub-near-in c = search needs
+sub-neighbours-in : tie.Need-sub-neighbours-in
+sub-neighbours-in c = search needs
 
-part-near-in-start : tie.Need-part-near-in-start
-part-near-in-start c = search needs
+part-neighbours-in-start : tie.Need-part-neighbours-in-start
+part-neighbours-in-start c = search needs
 
-part-near-in-end : tie.Need-part-near-in-end
-part-near-in-end c = search needs
+part-neighbours-in-end : tie.Need-part-neighbours-in-end
+part-neighbours-in-end c = search needs
 
-near-in-requires : tie.Need-near-in-requires
-near-in-requires c κs = search needs
+neighbours-in-requires : tie.Need-neighbours-in-requires
+neighbours-in-requires c κs = search needs
 
 enum-known-lower : tie.Need-enum-known-lower
 enum-known-lower c = search needs
@@ -118,7 +118,7 @@ returns-7 c =
         most = fits-max a;
         here = on e;
         begun = ahead .0;
-        lower = subst (LowerIs (windowTimes (now (a .args .xs)) (now (a .args .ys)) s (a .args .w)) (a .args .t)) (l .1) (c .before .before .before .before .before .near-in .ensures .lower);
+        lower = subst (LowerIs (windowTimes (now (a .args .xs)) (now (a .args .ys)) s (a .args .w)) (a .args .t)) (l .1) (c .before .before .before .before .before .neighbours-in .ensures .lower);
         past = c .before .is-past .ensures (passed (c .before .is-past .result) (c .if4 .left));
         above = ahead .1;
         listed = last .0;
@@ -145,11 +145,11 @@ run-begin-spec =
     returns-3
     is-below-requires
     returns-4
-    mul-near-in
-    sub-near-in
-    part-near-in-start
-    part-near-in-end
-    near-in-requires
+    mul-neighbours-in
+    sub-neighbours-in
+    part-neighbours-in-start
+    part-neighbours-in-end
+    neighbours-in-requires
     enum-known-lower
     enum-told-2
     returns-5

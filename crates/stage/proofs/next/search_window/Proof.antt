@@ -31,20 +31,20 @@ upto k = let s = entry k in whole-upto (s .pre .0) (s .args .p) (s .pre .1 .1 .1
 time : (s : tie.Start) → FiniteDouble (s .args .t)
 time s = record { fitting = subst T (sym (s .good .1 .1 .1 .1 .1 .1 .1 .1 .0 .1)) tt; finitely = s .pre .1 .1 .1 .1 }
 
-mul-near-in : tie.Need-mul-near-in
-mul-near-in c = let l = order c in let u = upto c in search needs
+mul-neighbours-in : tie.Need-mul-neighbours-in
+mul-neighbours-in c = let l = order c in let u = upto c in search needs
 
-sub-near-in : tie.Need-sub-near-in
-sub-near-in c = order c
+sub-neighbours-in : tie.Need-sub-neighbours-in
+sub-neighbours-in c = order c
 
-part-near-in-start : tie.Need-part-near-in-start
-part-near-in-start c = let l = order c in let u = upto c in search needs
+part-neighbours-in-start : tie.Need-part-neighbours-in-start
+part-neighbours-in-start c = let l = order c in let u = upto c in search needs
 
-part-near-in-end : tie.Need-part-near-in-end
-part-near-in-end c = let l = order c in let u = upto c in search needs
+part-neighbours-in-end : tie.Need-part-neighbours-in-end
+part-neighbours-in-end c = let l = order c in let u = upto c in search needs
 
-near-in-requires : tie.Need-near-in-requires
-near-in-requires c κs =
+neighbours-in-requires : tie.Need-neighbours-in-requires
+neighbours-in-requires c κs =
     let k = c .before in
     let s = entry k in
     whole-nears (s .pre .0) (s .args .p) (s .pre .1 .1 .1 .0) (k .whole-window .result) (k .whole-window .ensures) (s .args .t) (s .pre .1 .1 .0) (time s) (now (s .args .latest)) (s .pre .1 .0)
@@ -53,16 +53,16 @@ returns : tie.Need-returns
 returns c =
     let k = c .before .before in
     let s = entry k in
-    whole-found (s .pre .0) (s .args .p) (s .pre .1 .1 .1 .0) (k .whole-window .result) (k .whole-window .ensures) (s .args .t) (boundsOf (c .near-in .result)) (c .near-in .ensures)
+    whole-found (s .pre .0) (s .args .p) (s .pre .1 .1 .1 .0) (k .whole-window .result) (k .whole-window .ensures) (s .args .t) (boundsOf (c .neighbours-in .result)) (c .neighbours-in .ensures)
 
 pub search-window-spec : {M : Type 1} → statement M
 search-window-spec =
     tie.close
     (tie.spec
     whole-window-requires
-    mul-near-in
-    sub-near-in
-    part-near-in-start
-    part-near-in-end
-    near-in-requires
+    mul-neighbours-in
+    sub-neighbours-in
+    part-neighbours-in-start
+    part-neighbours-in-end
+    neighbours-in-requires
     returns)

@@ -15,7 +15,7 @@ use Rattle.laws.specs.cell.Keys.{Keys, entryAtKey}
 use Rattle.laws.specs.cell.Lent.{setOf, samplesOf}
 use Rattle.cell.specs.step.Entries.{entryIs}
 use Rattle.value.specs.Answers.{answerIn, Answerable}
-use Rattle.value.proofs.Says.{ready-marks}
+use Rattle.value.proofs.Answers.{ready-marks}
 use Rattle.cell.specs.CellAndEnd.{CellAndEndIs}
 use Rattle.cell.specs.EndKeys.{endKey}
 use Rattle.cell.specs.WindowPlaces.{PlaceAt}

@@ -22,13 +22,13 @@ use Rattle.window.specs.neighbours.Windowed.{samplesIn}
 use Rattle.run.specs.Runs.{lineOn}
 use Rattle.run.specs.Readings.{Reads, entryAt, readingAt}
 use Rattle.value.specs.WindowOf.{WindowIs}
-use Rattle.value.specs.Passes.{Onset}
-use Rattle.value.proofs.Passes.{nh}
+use Rattle.value.specs.RunsFrom.{RunFrom}
+use Rattle.value.proofs.RunsFrom.{nh}
 use Rattle.track.specs.declared.span.ReadBy.the-variants.{ByRun}
 use Rattle.track.specs.span.Runs.{part, StretchIs}
 use Rattle.track.proofs.span.Cuts.{cut, uncut, recut}
 use Rattle.cell.proofs.Lent.{place-window}
-use Rattle.track.proofs.span.Onsets.{clip-named, part-reads, place-short, run-above, run-floor, run-says, run-begins, run-passing}
+use Rattle.track.proofs.span.RunsFrom.{clip-named, part-reads, place-short, run-above, run-floor, run-says, run-begins, run-passing}
 use borrow.Author.Needs.{needs}
 use Rattle.track.proofs.span.run_step.Statement.{statement}
 use Rattle.track.proofs.span.run_step.Tie as tie
@@ -36,7 +36,7 @@ use Rattle.track.proofs.span.run_step.Tie as tie
 abbrev full : (a : tie.Start) → a .args .at .window .begin < a .args .at .window .end
 full a = a .pre .1 .1 .1 .0
 
-abbrev onset : (a : tie.Start) → Onset (a .args .xs .now) (a .args .ys .now) (a .args .latest .now) (samplesIn (a .args .times .now) (a .args .at .window)) (a .args .at .window) (ofKey (a .args .k)) (a .args .i) (a .args .l) (a .args .h)
+abbrev onset : (a : tie.Start) → RunFrom (a .args .xs .now) (a .args .ys .now) (a .args .latest .now) (samplesIn (a .args .times .now) (a .args .at .window)) (a .args .at .window) (ofKey (a .args .k)) (a .args .i) (a .args .l) (a .args .h)
 onset a = a .pre .1 .1 .1 .1 .0
 
 abbrev span : (a : tie.Start) → Keys (a .args .k) (a .args .top)

@@ -11,11 +11,11 @@ use Rattle.gf.proofs.KeyLaws.{ofKey-fits, ofKey-finite}
 use Rattle.definitions.specs.Doubles.{FiniteDouble}
 use Rattle.laws.proofs.list.Tests.{holds, is-true}
 use Rattle.laws.proofs.cell.Every.{both-l, both-r}
-use Rattle.value.proofs.Handed.{window-lent, window-nears}
+use Rattle.value.proofs.WindowOf.{window-lent, window-nears}
 use Rattle.cell.specs.WindowPlaces.{PlaceAt}
 use Rattle.cell.proofs.Lent.{place-window}
 use Rattle.run.specs.begin.Begins.{RunBeginIs}
-use Rattle.track.proofs.span.Onsets.{window-least}
+use Rattle.track.proofs.span.RunsFrom.{window-least}
 use borrow.Author.Needs.{needs}
 use Rattle.track.proofs.span.span_at.Statement.{statement}
 use Rattle.track.proofs.span.span_at.Tie as tie
@@ -38,14 +38,14 @@ of-key-requires c κs = search needs
 place-at-requires : tie.Need-place-at-requires
 place-at-requires c κs = let a = c .before .before .before .before .before .before .before .before .before .before .before in (a .pre .0, (a .pre .1 .1 .0, subst FiniteDouble (sym (c .of-key .ensures)) (finite-key a)))
 
-is-plain-requires : tie.Need-is-plain-requires
-is-plain-requires c κs = search needs
+is-knotless-requires : tie.Need-is-knotless-requires
+is-knotless-requires c κs = search needs
 
-plain-step-requires : tie.Need-plain-step-requires
-plain-step-requires c κs =
+knotless-step-requires : tie.Need-knotless-step-requires
+knotless-step-requires c κs =
     let q = c .before .before in
     let a = entry q in
-    let b = holds (ltb 1 (length (a .args .starts .now)) && eqb (length (a .args .xs .now)) 0) (sym (c .before .is-plain .ensures) ∙ c .if1 .taken) in
+    let b = holds (ltb 1 (length (a .args .starts .now)) && eqb (length (a .args .xs .now)) 0) (sym (c .before .is-knotless .ensures) ∙ c .if1 .taken) in
     let m = both-l (ltb 1 (length (a .args .starts .now))) (eqb (length (a .args .xs .now)) 0) b in
     let e = both-r (ltb 1 (length (a .args .starts .now))) (eqb (length (a .args .xs .now)) 0) b in
     (a .pre .0, (place q, (a .pre .1 .1 .1, (eqb-true _ 0 (is-true _ e), ltb-true 1 _ (is-true _ m)))))
@@ -95,8 +95,8 @@ span-at-spec =
     (tie.spec
     of-key-requires
     place-at-requires
-    is-plain-requires
-    plain-step-requires
+    is-knotless-requires
+    knotless-step-requires
     returns
     run-begin-requires
     enum-known-found

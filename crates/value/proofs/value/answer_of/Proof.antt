@@ -6,7 +6,7 @@ use lib.ListN.{length}
 use denote.Ref.{now}
 use Rattle.definitions.specs.Samples.{clipBegin}
 use Rattle.value.specs.Answers.{Answerable}
-use Rattle.value.proofs.Says.{says-sample, says-default, says-blocked, says-absent}
+use Rattle.value.proofs.Answers.{says-sample, says-default, says-blocked, says-absent}
 use borrow.Author.Needs.{needs}
 use Rattle.value.proofs.value.answer_of.Statement.{statement}
 use Rattle.value.proofs.value.answer_of.Tie as tie

@@ -5,7 +5,7 @@ use denote.Ref.{now}
 use Rattle.definitions.specs.Value.{says, valueInSet}
 use Rattle.laws.specs.cell.Lent.{setOf, samplesOf}
 use Rattle.value.specs.Answers.{Answerable}
-use Rattle.value.proofs.Says.{says-ready, ready-marks, value-in}
+use Rattle.value.proofs.Answers.{says-ready, ready-marks, value-in}
 use borrow.Author.Needs.{needs}
 use Rattle.value.proofs.value.value_in_set.Statement.{statement}
 use Rattle.value.proofs.value.value_in_set.Tie as tie

@@ -9,7 +9,7 @@ use denote.Ref.{now}
 use borrow.Author.Needs.{needs}
 use Rattle.window.proofs.Parts.{last-short, ready-starts, ready-readable}
 use Rattle.value.proofs.direct.Sources.{reads-absent}
-use Rattle.value.proofs.Handed.{window-lent}
+use Rattle.value.proofs.WindowOf.{window-lent}
 use Rattle.value.proofs.Values.{value-few, value-asks, value-in}
 use Rattle.value.proofs.value.value_source.Statement.{statement}
 use Rattle.value.proofs.value.value_source.Tie as tie

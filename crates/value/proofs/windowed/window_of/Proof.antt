@@ -10,7 +10,7 @@ use Rattle.definitions.specs.Lists.{any}
 use Rattle.laws.proofs.list.Tests.{holds, is-true}
 use Rattle.laws.proofs.cell.Every.{both-l, both-r}
 use Rattle.window.proofs.Parts.{ready-clip}
-use Rattle.value.proofs.Handed.{window-samples, window-gap}
+use Rattle.value.proofs.WindowOf.{window-samples, window-gap}
 use borrow.Author.Needs.{needs}
 use Rattle.value.proofs.windowed.window_of.Statement.{statement}
 use Rattle.value.proofs.windowed.window_of.Tie as tie

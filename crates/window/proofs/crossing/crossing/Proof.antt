@@ -3,7 +3,7 @@ use native.Mathlib.Omega.{arith}
 use denote.Ref.{now}
 use borrow.Author.Tests.{not-true, not-false}
 use Rattle.window.specs.nearest.Crossings.{isBeyond}
-use Rattle.window.proofs.nearest.Turns.{turn-next}
+use Rattle.window.proofs.nearest.CrossingLaws.{turn-next}
 use borrow.Author.Needs.{needs}
 use Rattle.window.proofs.crossing.crossing.Statement.{statement}
 use Rattle.window.proofs.crossing.crossing.Tie as tie

@@ -4,7 +4,7 @@ use Prim.Native.Nat.{_+_}
 use native.Mathlib.Omega.{arith}
 use denote.Ref.{now}
 use Rattle.definitions.specs.Lists.{keep}
-use Rattle.window.specs.declared.Bounds.{Bounds}
+use Rattle.window.specs.declared.Neighbours.{Neighbours}
 use Rattle.window.specs.Bounds.{inside}
 use Rattle.window.specs.nearest.Nearest.{Searched}
 use Rattle.window.specs.nearest.Beside.{withPlace}
@@ -28,9 +28,9 @@ returns : tie.Need-returns
 returns c =
     let s = c .before .before .before in
     let a = s .args in
-    subst (λ (n : Bounds). Searched (a .t) (keep (inside (a .w)) (now (a .xs))) (a .held) n)
-    (sym (c .near-place2 .ensures ∙ ap (λ (h : Bounds). withPlace (a .w) (a .t) (now (a .xs)) h (a .i + 1)) (c .before .near-place .ensures)))
-    (beside-searched (a .t) (a .w) (now (a .xs)) (s .pre .1 .1 .0) (s .pre .1 .0) (s .pre .0) (a .i) (s .pre .1 .1 .1) (a .held))
+    subst (λ (n : Neighbours). Searched (a .t) (keep (inside (a .w)) (now (a .xs))) (a .known) n)
+    (sym (c .near-place2 .ensures ∙ ap (λ (h : Neighbours). withPlace (a .w) (a .t) (now (a .xs)) h (a .i + 1)) (c .before .near-place .ensures)))
+    (beside-searched (a .t) (a .w) (now (a .xs)) (s .pre .1 .1 .0) (s .pre .1 .0) (s .pre .0) (a .i) (s .pre .1 .1 .1) (a .known))
 
 pub near-times-spec : {M : Type 1} → statement M
 near-times-spec =

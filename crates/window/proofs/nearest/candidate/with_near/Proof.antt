@@ -11,14 +11,14 @@ greater-requires c κs = search needs
 
 returns : tie.Need-returns
 unfolding withNear
-returns c = rw (c .before .if1 .taken) (ap (withLower (c .before .before .args .held)) (c .greater .ensures))
+returns c = rw (c .before .if1 .taken) (ap (withLower (c .before .before .args .known)) (c .greater .ensures))
 
 lesser-requires : tie.Need-lesser-requires
 lesser-requires c κs = search needs
 
 returns-2 : tie.Need-returns-2
 unfolding withNear
-returns-2 c = rw (c .before .if1 .left) (ap (withUpper (c .before .before .args .held)) (c .lesser .ensures))
+returns-2 c = rw (c .before .if1 .left) (ap (withUpper (c .before .before .args .known)) (c .lesser .ensures))
 
 pub with-near-spec : {M : Type 1} → statement M
 with-near-spec = tie.close (tie.spec greater-requires returns lesser-requires returns-2)
