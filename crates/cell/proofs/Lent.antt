@@ -59,7 +59,7 @@ module _ {starts : List Float} {clips : List ℕ} {xs ys blocks : List Float} {m
   -- ---- the window of the active start
 
   pub place-window : (t : Float) → FiniteDouble t → (p : ℕ) (w : Window) → PlaceAt starts clips xs ys blocks m times values marks ends t p w → 0 < length starts → WindowIs starts clips xs ys blocks m times values marks ends p w
-  place-window t ft p w A h = A .place .window (let e = A .place h in let l = last-inside t (ft .fitting) starts (ready-starts R) h in omega arith)
+  place-window t ft p w A h = A .is .window (let e = A .place h in let l = last-inside t (ft .fitting) starts (ready-starts R) h in omega arith)
 
   -- a walk that has not begun is in no window
   pub no-place-is : (p : ℕ) (w : Window) → p ≡ length starts → PlaceIs starts clips xs ys blocks m times values marks ends p w

@@ -22,7 +22,7 @@ pub record PlaceIs (starts : List Float) (clips : List ℕ) (xs ys blocks : List
 
 -- and, if there are starts, p is the place of the one that is active at t
 pub record PlaceAt (starts : List Float) (clips : List ℕ) (xs ys blocks : List Float) (m : Missing) (times values : List Float) (marks ends : List ℕ) (t : Float) (p : ℕ) (w : Window) : Type 0 where
-  pub place : PlaceIs starts clips xs ys blocks m times values marks ends p w
+  pub is : PlaceIs starts clips xs ys blocks m times values marks ends p w
   pub place : 0 < length starts → p ≡ lastAtMost starts t
 
 -- the start at p comes after the place's, neither of the two has samples that it contributes

@@ -31,7 +31,7 @@ returns-3 c =
     let a = l .before .before .before .before .before .before .before .before .before .before .before in
     let w = c .window-after .result in
     record {
-      place = record {
+      is = record {
         window = λ _. c .window-after .ensures;
         gap = λ _ n. gap-stands (a .pre .0) (a .args .t) (l .last-at-most-near .result) w (c .window-after .ensures) (l .last-at-most-near .ensures) n;
       };

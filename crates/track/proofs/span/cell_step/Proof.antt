@@ -126,7 +126,7 @@ returns c =
         says = subst (λ (h : ℕ). Agree (a .args .k) h (entryAtKey (set a) (lent a)) (entryOn (a .args .times .now) (a .args .values .now) (a .args .marks .now) (a .args .ends .now) (q .cell-at .result .cell) (entryIs (x .entry-of .result)))) (hi-is l)
             (span-says (a .pre .0) (a .args .k) (a .args .top) (a .pre .1 .1 .1) (q .cell-at .result .cell) (q .cell-at .result .end) (piece q) (entryIs (x .entry-of .result)) (here x));
       };
-      place = a .pre .1 .1 .0 .place;
+      place = a .pre .1 .1 .0 .is;
     }
 
 pub cell-step-spec : {M : Type 1} → statement M

@@ -114,7 +114,7 @@ returns c =
         runs = told-runs (a .pre .0) (a .args .k) (l .lesser .result) (q .knotless-cell .result) (told l);
         says = told-says (a .pre .0) (a .args .k) (l .lesser .result) (q .knotless-cell .result) (told l) (entryIs (c .entry-of .result)) (here c);
       };
-      place = a .pre .1 .0 .place;
+      place = a .pre .1 .0 .is;
     }
 
 pub knotless-step-spec : {M : Type 1} → statement M

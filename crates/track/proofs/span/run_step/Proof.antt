@@ -184,7 +184,7 @@ returns c =
             };
             says = λ j x y. run-says (a .pre .0) (a .args .at .start) (a .args .at .window) (window a) (full a) (a .pre .1 .1 .0) (a .args .latest .now) (a .args .k) (point a) (a .args .i) (a .args .l) (a .args .h) (onset a) j x (omega arith) (omega (arith, S .high));
           });
-      place = a .pre .1 .0 .place;
+      place = a .pre .1 .0 .is;
     }
 
 pub run-step-spec : {M : Type 1} → statement M
