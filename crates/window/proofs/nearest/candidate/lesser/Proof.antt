@@ -4,8 +4,8 @@ use borrow.Author.Needs.{needs}
 use Rattle.window.proofs.nearest.candidate.lesser.Statement.{statement}
 use Rattle.window.proofs.nearest.candidate.lesser.Tie as tie
 
-enum-known-held : tie.Need-enum-known-held
-enum-known-held c = search needs
+enum-known-known : tie.Need-enum-known-known
+enum-known-known c = search needs
 
 returns : tie.Need-returns
 returns c = let g = c .before .before .known .given in let a = c .before .before .before .before .args in lesser-keeps (a .known) (a .x) (g .0 .0) (g .1) (c .if1 .taken)
@@ -20,4 +20,4 @@ returns-3 : tie.Need-returns-3
 returns-3 c = let a = c .before .before .args in lesser-first (a .known) (a .x) (c .enum-told .given .1)
 
 pub lesser-spec : {M : Type 1} → statement M
-lesser-spec = tie.close (tie.spec enum-known-held returns enum-told returns-2 returns-3)
+lesser-spec = tie.close (tie.spec enum-known-known returns enum-told returns-2 returns-3)
