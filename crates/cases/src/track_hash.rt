@@ -15,6 +15,7 @@ ghost use mathlib.Core.Path.{_≡_};
 ghost use Prim.Native.Nat.{_≤_};
 ghost use lib.ListN.{length};
 ghost use Rattle.gf.specs.Key as Key;
+ghost use Rattle.definitions.specs.Moments.{was};
 ghost use Rattle.laws.specs.cell.Keys.{entryAtKey};
 ghost use Rattle.laws.specs.cell.Lent.{setOf, samplesOf, AcceptedLists};
 ghost use Rattle.window.specs.neighbours.Latest.{LatestOf};
@@ -101,7 +102,7 @@ fn walk_page(
     requires { ⌜ AcceptedLists (now starts) (now clips) (now xs) (now ys) (now blocks) m (now times) (now values) (now marks) (now ends) ⌝ }
     requires { ⌜ LatestOf (now xs) (now ys) (now latest) ⌝ }
     requires { ⌜ CursorIs (now starts) (now clips) (now xs) (now ys) (now blocks) m (now times) (now values) (now marks) (now ends) Key.most from ⌝ }
-    ensures { λ r. ⌜ PageIs (now (starts .entry)) (now (clips .entry)) (now (xs .entry)) (now (ys .entry)) (now (blocks .entry)) m (now (times .entry)) (now (values .entry)) (now (marks .entry)) (now (ends .entry)) (from .key) Key.most (r .filled) ⌝ }
+    ensures { λ r. ⌜ PageIs (was starts) (was clips) (was xs) (was ys) (was blocks) m (was times) (was values) (was marks) (was ends) (from .key) Key.most (r .filled) ⌝ }
 {
     let mut pagetimes: [f64; 256] = [0.0; 256];
     let mut pagevalues: [f64; 256] = [0.0; 256];

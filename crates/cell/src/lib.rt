@@ -21,6 +21,7 @@ ghost use mathlib.Core.Path.{_≡_};
 ghost use Prim.Native.Nat.{_-_};
 ghost use lib.ListN.{length};
 ghost use Rattle.definitions.specs.Doubles.{FiniteDouble};
+ghost use Rattle.definitions.specs.Moments.{was};
 ghost use Rattle.laws.specs.list.Places.{Ascending};
 ghost use Rattle.laws.specs.cell.Lent.{knotsOf, setOf, samplesOf, AcceptedLists};
 ghost use Rattle.window.specs.Bounds.{UpperIs};
@@ -47,7 +48,7 @@ pub struct CellAndEnd {
 fn first_above(xs: &[f64], t: f64) -> Bound
     requires { ⌜ Ascending (now xs) ⌝ }
     requires { ⌜ FiniteDouble t ⌝ }
-    ensures { λ r. ⌜ UpperIs (now (xs .entry)) t r ⌝ }
+    ensures { λ r. ⌜ UpperIs (was xs) t r ⌝ }
 {
     if xs.len() == 0 {
         return Bound::Nothing;
@@ -80,7 +81,7 @@ fn direct_cell(
     requires { ⌜ AcceptedLists (now starts) (now clips) (now xs) (now ys) (now blocks) m (now times) (now values) (now marks) (now ends) ⌝ }
     requires { ⌜ PlaceAt (now starts) (now clips) (now xs) (now ys) (now blocks) m (now times) (now values) (now marks) (now ends) t (place .start) (place .window) ⌝ }
     requires { ⌜ FiniteDouble t ⌝ }
-    ensures { λ r. ⌜ DirectIs (setOf (length (now (ends .entry))) (now (starts .entry)) (now (clips .entry)) (now (xs .entry)) (now (ys .entry)) (now (blocks .entry)) m) (samplesOf (now (times .entry)) (now (values .entry)) (now (marks .entry)) (now (ends .entry))) t r ⌝ }
+    ensures { λ r. ⌜ DirectIs (setOf (length (was ends)) (was starts) (was clips) (was xs) (was ys) (was blocks) m) (samplesOf (was times) (was values) (was marks) (was ends)) t r ⌝ }
 {
     if starts.len() == 0 {
         return Cell::Constant(Source::Absent);
@@ -98,7 +99,7 @@ fn direct_cell(
 fn held_from(xs: &[f64], ys: &[f64], near: NeighboursAndHints) -> Bound
     requires { ⌜ Ascending (now xs) ⌝ }
     requires { ⌜ length (now xs) ≡ length (now ys) ⌝ }
-    ensures { λ r. ⌜ r ≡ heldOf (knotsOf (now (xs .entry)) (now (ys .entry))) (near .lower) (near .upper) ⌝ }
+    ensures { λ r. ⌜ r ≡ heldOf (knotsOf (was xs) (was ys)) (near .lower) (near .upper) ⌝ }
 {
     let lower = near.lower;
     let upper = near.upper;
@@ -145,7 +146,7 @@ pub fn cell_at(
     requires { ⌜ LatestOf (now xs) (now ys) (now latest) ⌝ }
     requires { ⌜ PlaceAt (now starts) (now clips) (now xs) (now ys) (now blocks) m (now times) (now values) (now marks) (now ends) t (place .start) (place .window) ⌝ }
     requires { ⌜ FiniteDouble t ⌝ }
-    ensures { λ r. ⌜ CellAndEndIs (setOf (length (now (ends .entry))) (now (starts .entry)) (now (clips .entry)) (now (xs .entry)) (now (ys .entry)) (now (blocks .entry)) m) (samplesOf (now (times .entry)) (now (values .entry)) (now (marks .entry)) (now (ends .entry))) t (r .cell) (r .end) ⌝ }
+    ensures { λ r. ⌜ CellAndEndIs (setOf (length (was ends)) (was starts) (was clips) (was xs) (was ys) (was blocks) m) (samplesOf (was times) (was values) (was marks) (was ends)) t (r .cell) (r .end) ⌝ }
 {
     if starts.len() < 2 {
         let cell = direct_cell(

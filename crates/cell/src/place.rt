@@ -18,6 +18,7 @@ ghost use lib.Ieee.{Float, eq};
 ghost use Rattle.definitions.specs.Lists.{any};
 ghost use Rattle.definitions.specs.Doubles.{FiniteDouble};
 ghost use Rattle.definitions.specs.Samples.{clipBegin, clipEnd};
+ghost use Rattle.definitions.specs.Moments.{was};
 ghost use Rattle.laws.specs.cell.Lent.{AcceptedLists};
 ghost use Rattle.value.specs.WindowOf.{WindowIs};
 ghost use Rattle.cell.specs.WindowPlaces.{PlaceIs, PlaceAt, Follows};
@@ -32,7 +33,7 @@ pub struct WindowPlace {
 
 // The place of a walk that has not begun: in no window.
 pub fn no_place(starts: &[f64]) -> WindowPlace
-    ensures { λ r. ⌜ r .start ≡ length (now (starts .entry)) ⌝ }
+    ensures { λ r. ⌜ r .start ≡ length (was starts) ⌝ }
 {
     let w = Window {
         start: 0.0,
@@ -54,7 +55,7 @@ pub fn no_place(starts: &[f64]) -> WindowPlace
 // The clip contributes from this start, and it has samples.
 fn has_reading(blocks: &[f64], m: Missing, ends: &[u64], start: f64, clip: u64) -> bool
     requires { ⌜ clip < length (now ends) ⌝ }
-    ensures { λ r. ⌜ r ≡ (not (m .interpolate && any (λ (b : Float). eq b start) (now (blocks .entry))) && ltb (clipBegin (now (ends .entry)) clip) (clipEnd (now (ends .entry)) clip)) ⌝ }
+    ensures { λ r. ⌜ r ≡ (not (m .interpolate && any (λ (b : Float). eq b start) (was blocks)) && ltb (clipBegin (was ends) clip) (clipEnd (was ends) clip)) ⌝ }
 {
     if contributes(blocks, m, start) {
         return clip_begin(ends, clip) < clip_end(ends, clip);
@@ -73,7 +74,7 @@ fn follows(
     p: usize,
 ) -> bool
     requires { ⌜ clip < length (now ends) ⌝ }
-    ensures { λ r. ⌜ ((r ≡ true) → Follows (now (blocks .entry)) m (now (ends .entry)) start clip (place .start) (place .window) p) ⌝ }
+    ensures { λ r. ⌜ ((r ≡ true) → Follows (was blocks) m (was ends) start clip (place .start) (place .window) p) ⌝ }
 {
     if p == 0 {
         return false;
@@ -107,7 +108,7 @@ fn window_after(
     requires { ⌜ AcceptedLists (now starts) (now clips) (now xs) (now ys) (now blocks) m (now times) (now values) (now marks) (now ends) ⌝ }
     requires { ⌜ PlaceIs (now starts) (now clips) (now xs) (now ys) (now blocks) m (now times) (now values) (now marks) (now ends) (place .start) (place .window) ⌝ }
     requires { ⌜ p < length (now starts) ⌝ }
-    ensures { λ r. ⌜ WindowIs (now (starts .entry)) (now (clips .entry)) (now (xs .entry)) (now (ys .entry)) (now (blocks .entry)) m (now (times .entry)) (now (values .entry)) (now (marks .entry)) (now (ends .entry)) p r ⌝ }
+    ensures { λ r. ⌜ WindowIs (was starts) (was clips) (was xs) (was ys) (was blocks) m (was times) (was values) (was marks) (was ends) p r ⌝ }
 {
     let start = starts[p];
     let clip = clips[p];
@@ -158,7 +159,7 @@ pub fn place_at(
     requires { ⌜ AcceptedLists (now starts) (now clips) (now xs) (now ys) (now blocks) m (now times) (now values) (now marks) (now ends) ⌝ }
     requires { ⌜ PlaceIs (now starts) (now clips) (now xs) (now ys) (now blocks) m (now times) (now values) (now marks) (now ends) (place .start) (place .window) ⌝ }
     requires { ⌜ FiniteDouble t ⌝ }
-    ensures { λ r. ⌜ PlaceAt (now (starts .entry)) (now (clips .entry)) (now (xs .entry)) (now (ys .entry)) (now (blocks .entry)) m (now (times .entry)) (now (values .entry)) (now (marks .entry)) (now (ends .entry)) t (r .start) (r .window) ⌝ }
+    ensures { λ r. ⌜ PlaceAt (was starts) (was clips) (was xs) (was ys) (was blocks) m (was times) (was values) (was marks) (was ends) t (r .start) (r .window) ⌝ }
 {
     if starts.len() == 0 {
         return place;

@@ -16,6 +16,7 @@ ghost use Prim.Native.Nat.{_≤_, _<_};
 ghost use lib.Dec.{eqb};
 ghost use lib.ListN.{length};
 ghost use Rattle.gf.specs.Key as Key;
+ghost use Rattle.definitions.specs.Moments.{was};
 ghost use Rattle.laws.specs.list.Places.{Ascending};
 ghost use Rattle.laws.specs.track.Steps.{Once, StepAt, FirstStep};
 ghost use Rattle.laws.specs.cell.Keys.{Keys};
@@ -25,7 +26,7 @@ ghost use Rattle.cell.specs.step.Lines.{placeOn};
 fn is_read(ts: &[f64], line: Line, q: usize, k: u64) -> bool
     requires { ⌜ Ascending (now ts) ⌝ ∗ ⌜ q < length (now ts) ⌝ }
     requires { ⌜ (Key.least ≤ k) × (k ≤ Key.most) ⌝ }
-    ensures { λ r. ⌜ r ≡ eqb (placeOn (now (ts .entry)) line k) q ⌝ }
+    ensures { λ r. ⌜ r ≡ eqb (placeOn (was ts) line k) q ⌝ }
 {
     is_place(ts, q, along(line, gf::of_key(k)))
 }
@@ -83,7 +84,7 @@ fn step_between(ts: &[f64], line: Line, q: usize, k: u64, hi: u64) -> u64
     requires { ⌜ Once (placeOn (now ts) line) k hi ⌝ }
     requires { ⌜ placeOn (now ts) line k ≡ q ⌝ }
     requires { ⌜ (placeOn (now ts) line hi ≡ q → ⊥) ⌝ }
-    ensures { λ r. ⌜ StepAt (placeOn (now (ts .entry)) line) k hi r ⌝ }
+    ensures { λ r. ⌜ StepAt (placeOn (was ts) line) k hi r ⌝ }
 {
     let mut a = k;
     let mut b = hi;
@@ -104,7 +105,7 @@ fn step_above(ts: &[f64], line: Line, q: usize, k: u64, hi: u64) -> Next
     requires { ⌜ Keys k hi ⌝ }
     requires { ⌜ Once (placeOn (now ts) line) k hi ⌝ }
     requires { ⌜ placeOn (now ts) line k ≡ q ⌝ }
-    ensures { λ r. ⌜ FirstStep (placeOn (now (ts .entry)) line) k hi r ⌝ }
+    ensures { λ r. ⌜ FirstStep (placeOn (was ts) line) k hi r ⌝ }
 {
     let mut a = k;
     let mut width: u64 = 1;
@@ -130,7 +131,7 @@ fn step_below(ts: &[f64], line: Line, q: usize, k: u64, hi: u64) -> u64
     requires { ⌜ Once (placeOn (now ts) line) k hi ⌝ }
     requires { ⌜ placeOn (now ts) line k ≡ q ⌝ }
     requires { ⌜ (placeOn (now ts) line hi ≡ q → ⊥) ⌝ }
-    ensures { λ r. ⌜ StepAt (placeOn (now (ts .entry)) line) k hi r ⌝ }
+    ensures { λ r. ⌜ StepAt (placeOn (was ts) line) k hi r ⌝ }
 {
     let mut b = hi;
     let mut width: u64 = 1;
@@ -152,7 +153,7 @@ pub fn next_step(ts: &[f64], line: Line, q: usize, k: u64, hi: u64) -> Next
     requires { ⌜ Keys k hi ⌝ }
     requires { ⌜ Once (placeOn (now ts) line) k hi ⌝ }
     requires { ⌜ placeOn (now ts) line k ≡ q ⌝ }
-    ensures { λ r. ⌜ FirstStep (placeOn (now (ts .entry)) line) k hi r ⌝ }
+    ensures { λ r. ⌜ FirstStep (placeOn (was ts) line) k hi r ⌝ }
 {
     let g = guess(ts, line, q, k, hi);
     if is_read(ts, line, q, g) {

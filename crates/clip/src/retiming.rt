@@ -7,6 +7,7 @@ use definitions::LayerOffset;
 use definitions::Missing;
 ghost use mathlib.Core.Path.{_≡_};
 ghost use Rattle.definitions.specs.Retime.{isIdentity, moved};
+ghost use Rattle.definitions.specs.Moments.{after};
 ghost use Rattle.laws.specs.cell.Lent.{setOf};
 ghost use Rattle.clip.specs.Holding.{ArraysWhole, clipSetOf, manifestOf};
 ghost use Rattle.clip.specs.Storing.{Stores};
@@ -33,7 +34,7 @@ fn unpack_moved(
     blocks: &mut [f64],
 )
     requires { ⌜ ArraysWhole set ⌝ ∗ ⌜ RoomForAll set (now times) (now numbers) (now xs) (now ys) (now blocks) ⌝ }
-    ensures { λ _. ⌜ setOf (set .clips) (now (times .exit)) (now (numbers .exit)) (now (xs .exit)) (now (ys .exit)) (now (blocks .exit)) (manifestOf set) ≡ moved o (clipSetOf set) ⌝ }
+    ensures { λ _. ⌜ setOf (set .clips) (after times) (after numbers) (after xs) (after ys) (after blocks) (manifestOf set) ≡ moved o (clipSetOf set) ⌝ }
 {
     let active = set.active;
     let knots = set.knots;

@@ -6,6 +6,7 @@ ghost use mathlib.Core.List.{[]};
 ghost use Prim.Native.Nat.{_≤_};
 ghost use lib.ListN.{length};
 ghost use Rattle.definitions.specs.ClipSet.{maxActive, maxKnots, maxBlocks, activeTimes, knotTimes};
+ghost use Rattle.definitions.specs.Moments.{was, after};
 ghost use Rattle.laws.specs.set.Sound.{knotValues};
 ghost use Rattle.laws.specs.cell.Lent.{activeOf, knotsOf};
 ghost use Rattle.clip.specs.Holding.{Room, Holds, AllRoom, activeIn, activeClips, knotsIn, blocksIn};
@@ -79,7 +80,7 @@ pub fn no_blocks() -> Blocks
 
 pub fn pack_active(times: &[f64], clips: &[u64]) -> Active
     requires { ⌜ length (now times) ≡ length (now clips) ⌝ ∗ ⌜ length (now times) ≤ maxActive ⌝ }
-    ensures { λ r. ⌜ Holds maxActive (r .items) (r .count) (activeOf (now (times .entry)) (now (clips .entry))) ⌝ }
+    ensures { λ r. ⌜ Holds maxActive (r .items) (r .count) (activeOf (was times) (was clips)) ⌝ }
 {
     let none = no_active();
     let mut items = none.items;
@@ -97,7 +98,7 @@ pub fn pack_active(times: &[f64], clips: &[u64]) -> Active
 
 pub fn pack_knots(xs: &[f64], ys: &[f64]) -> Knots
     requires { ⌜ length (now xs) ≡ length (now ys) ⌝ ∗ ⌜ length (now xs) ≤ maxKnots ⌝ }
-    ensures { λ r. ⌜ Holds maxKnots (r .items) (r .count) (knotsOf (now (xs .entry)) (now (ys .entry))) ⌝ }
+    ensures { λ r. ⌜ Holds maxKnots (r .items) (r .count) (knotsOf (was xs) (was ys)) ⌝ }
 {
     let none = no_knots();
     let mut items = none.items;
@@ -112,7 +113,7 @@ pub fn pack_knots(xs: &[f64], ys: &[f64]) -> Knots
 
 pub fn pack_blocks(times: &[f64]) -> Blocks
     requires { ⌜ length (now times) ≤ maxBlocks ⌝ }
-    ensures { λ r. ⌜ Holds maxBlocks (r .items) (r .count) (now (times .entry)) ⌝ }
+    ensures { λ r. ⌜ Holds maxBlocks (r .items) (r .count) (was times) ⌝ }
 {
     let none = no_blocks();
     let mut items = none.items;
@@ -128,8 +129,8 @@ pub fn pack_blocks(times: &[f64]) -> Blocks
 // The times and the clip numbers of the starts, written over lists of their number.
 pub fn unpack_active(active: Active, times: &mut [f64], clips: &mut [u64])
     requires { ⌜ Room maxActive (active .items) (active .count) ⌝ ∗ ⌜ length (now times) ≡ active .count ⌝ ∗ ⌜ length (now clips) ≡ active .count ⌝ }
-    ensures { λ _. ⌜ now (times .exit) ≡ activeTimes (activeIn active) ⌝ }
-    ensures { λ _. ⌜ now (clips .exit) ≡ activeClips (activeIn active) ⌝ }
+    ensures { λ _. ⌜ after times ≡ activeTimes (activeIn active) ⌝ }
+    ensures { λ _. ⌜ after clips ≡ activeClips (activeIn active) ⌝ }
 {
     let n = active.count;
     let mut i: usize = 0;
@@ -143,8 +144,8 @@ pub fn unpack_active(active: Active, times: &mut [f64], clips: &mut [u64])
 
 pub fn unpack_knots(knots: Knots, xs: &mut [f64], ys: &mut [f64])
     requires { ⌜ Room maxKnots (knots .items) (knots .count) ⌝ ∗ ⌜ length (now xs) ≡ knots .count ⌝ ∗ ⌜ length (now ys) ≡ knots .count ⌝ }
-    ensures { λ _. ⌜ now (xs .exit) ≡ knotTimes (knotsIn knots) ⌝ }
-    ensures { λ _. ⌜ now (ys .exit) ≡ knotValues (knotsIn knots) ⌝ }
+    ensures { λ _. ⌜ after xs ≡ knotTimes (knotsIn knots) ⌝ }
+    ensures { λ _. ⌜ after ys ≡ knotValues (knotsIn knots) ⌝ }
 {
     let n = knots.count;
     let mut i: usize = 0;
@@ -158,7 +159,7 @@ pub fn unpack_knots(knots: Knots, xs: &mut [f64], ys: &mut [f64])
 
 pub fn unpack_blocks(blocks: Blocks, times: &mut [f64])
     requires { ⌜ Room maxBlocks (blocks .items) (blocks .count) ⌝ ∗ ⌜ length (now times) ≡ blocks .count ⌝ }
-    ensures { λ _. ⌜ now (times .exit) ≡ blocksIn blocks ⌝ }
+    ensures { λ _. ⌜ after times ≡ blocksIn blocks ⌝ }
 {
     let n = blocks.count;
     let mut i: usize = 0;

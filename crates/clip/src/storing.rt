@@ -7,6 +7,7 @@ use definitions::Missing;
 ghost use mathlib.Core.Path.{_≡_};
 ghost use Rattle.definitions.specs.ClipSet.{nanDefault};
 ghost use Rattle.definitions.specs.Retime.{sorted};
+ghost use Rattle.definitions.specs.Moments.{was};
 ghost use Rattle.laws.specs.cell.Lent.{setOf};
 ghost use Rattle.clip.specs.Storing.{Fitting, Stores, Refuses, listsNumber};
 
@@ -29,7 +30,7 @@ pub fn is_nan_default(default: Default) -> bool
 }
 
 fn lists_number(times: &[f64], xs: &[f64], blocks: &[f64], default: Default) -> u8
-    ensures { λ r. ⌜ r ≡ listsNumber (now (times .entry)) (now (xs .entry)) (now (blocks .entry)) default ⌝ }
+    ensures { λ r. ⌜ r ≡ listsNumber (was times) (was xs) (was blocks) default ⌝ }
 {
     if lists::any_unstorable(times) {
         return 2;
@@ -62,7 +63,7 @@ pub fn check_and_store(
     manifest: Missing,
 ) -> Prepared
     requires { ⌜ Fitting (now times) (now numbers) (now xs) (now ys) (now blocks) ⌝ }
-    ensures { λ r. ⌜ Stores (setOf clips (now (times .entry)) (now (numbers .entry)) (now (xs .entry)) (now (ys .entry)) (now (blocks .entry)) manifest) r ⌝ }
+    ensures { λ r. ⌜ Stores (setOf clips (was times) (was numbers) (was xs) (was ys) (was blocks) manifest) r ⌝ }
 {
     let default = manifest.default;
     let number = lists_number(times, xs, blocks, default);
@@ -94,7 +95,7 @@ pub fn sort_check_and_store(
     manifest: Missing,
 ) -> Prepared
     requires { ⌜ Fitting (now times) (now numbers) (now xs) (now ys) (now blocks) ⌝ }
-    ensures { λ r. ⌜ Stores (sorted (setOf clips (now (times .entry)) (now (numbers .entry)) (now (xs .entry)) (now (ys .entry)) (now (blocks .entry)) manifest)) r ⌝ }
+    ensures { λ r. ⌜ Stores (sorted (setOf clips (was times) (was numbers) (was xs) (was ys) (was blocks) manifest)) r ⌝ }
 {
     lists::sorting::sort_starts(times, numbers);
     lists::sorting::sort_knots(xs, ys);

@@ -2,6 +2,7 @@
 use clip::storing;
 use definitions::Missing;
 ghost use mathlib.Core.Path.{_≡_};
+ghost use Rattle.definitions.specs.Moments.{was};
 ghost use Rattle.explicit.specs.Parsing.{explicitFields, misshapen, anyNotClip, fieldsNumber};
 
 // 1 of the clip count and the lengths.
@@ -41,7 +42,7 @@ fn is_misshapen(
 
 // 3: a number that is none of a clip.
 fn any_not_clip(numbers: &[f64], clips: u64) -> bool
-    ensures { λ r. ⌜ r ≡ anyNotClip clips (now (numbers .entry)) ⌝ }
+    ensures { λ r. ⌜ r ≡ anyNotClip clips (was numbers) ⌝ }
 {
     let mut i: usize = 0;
     while i < numbers.len() {
@@ -63,7 +64,7 @@ pub fn fields_number(
     blocks: &[f64],
     manifest: Missing,
 ) -> u8
-    ensures { λ r. ⌜ r ≡ fieldsNumber (explicitFields clips (now (starts .entry)) (now (numbers .entry)) (now (xs .entry)) (now (ys .entry)) (now (blocks .entry)) manifest) ⌝ }
+    ensures { λ r. ⌜ r ≡ fieldsNumber (explicitFields clips (was starts) (was numbers) (was xs) (was ys) (was blocks) manifest) ⌝ }
 {
     if is_misshapen(
         clips,

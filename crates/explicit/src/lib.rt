@@ -7,6 +7,7 @@ use clip::storage;
 use clip::storing;
 use definitions::Default;
 use definitions::Missing;
+ghost use Rattle.definitions.specs.Moments.{was};
 ghost use Rattle.clip.specs.Holding.{manifest};
 ghost use Rattle.explicit.specs.Parsing.{explicitFields, Parses};
 
@@ -21,7 +22,7 @@ pub fn parse_set(
     default: Default,
     interpolate: bool,
 ) -> Prepared
-    ensures { λ r. ⌜ Parses (explicitFields clips (now (starts .entry)) (now (numbers .entry)) (now (xs .entry)) (now (ys .entry)) (now (blocks .entry)) (manifest default interpolate)) r ⌝ }
+    ensures { λ r. ⌜ Parses (explicitFields clips (was starts) (was numbers) (was xs) (was ys) (was blocks) (manifest default interpolate)) r ⌝ }
 {
     let manifest = Missing {
         default,

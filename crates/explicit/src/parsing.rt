@@ -8,13 +8,14 @@ ghost use mathlib.Core.List.{map};
 ghost use lib.ListN.{length};
 ghost use Rattle.gf.specs.Doubles.{truncated};
 ghost use Rattle.definitions.specs.Explicit.{explicitSet};
+ghost use Rattle.definitions.specs.Moments.{was, after};
 ghost use Rattle.clip.specs.Storing.{Stores};
 ghost use Rattle.explicit.specs.Parsing.{Lent, explicitFields, anyNotClip, fieldsNumber};
 
 // The clip numbers as indices. -0.0 is 0.
 fn copy_clips(numbers: &[f64], clips: u64, to: &mut [u64])
     requires { ⌜ anyNotClip clips (now numbers) ≡ false ⌝ ∗ ⌜ length (now to) ≡ length (now numbers) ⌝ }
-    ensures { λ _. ⌜ now (to .exit) ≡ map truncated (now (numbers .entry)) ⌝ }
+    ensures { λ _. ⌜ after to ≡ map truncated (was numbers) ⌝ }
 {
     let mut i: usize = 0;
     while i < numbers.len() {
@@ -38,7 +39,7 @@ pub fn parse_lists(
     vs: &mut [f64],
 ) -> Prepared
     requires { ⌜ fieldsNumber (explicitFields clips (now starts) (now numbers) (now xs) (now ys) (now blocks) manifest) ≡ 0 ⌝ ∗ ⌜ Lent (now starts) (now xs) (now times) (now indices) (now us) (now vs) ⌝ }
-    ensures { λ r. ⌜ Stores (explicitSet (explicitFields clips (now (starts .entry)) (now (numbers .entry)) (now (xs .entry)) (now (ys .entry)) (now (blocks .entry)) manifest)) r ⌝ }
+    ensures { λ r. ⌜ Stores (explicitSet (explicitFields clips (was starts) (was numbers) (was xs) (was ys) (was blocks) manifest)) r ⌝ }
 {
     lists::writing::copy(starts, times);
     copy_clips(numbers, clips, indices);

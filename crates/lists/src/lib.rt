@@ -18,6 +18,7 @@ ghost use Rattle.gf.specs.Doubles.{storable};
 ghost use Rattle.definitions.specs.Doubles.{twoEqual, threeEqual};
 ghost use Rattle.definitions.specs.ClipSet.{anyUnstorable};
 ghost use Rattle.definitions.specs.Timing.{lastAtMost, mapTime, mapStageToClip};
+ghost use Rattle.definitions.specs.Moments.{was};
 ghost use Rattle.laws.specs.list.Places.{Ascending};
 ghost use Rattle.laws.specs.cell.Lent.{knotsOf};
 
@@ -34,7 +35,7 @@ fn unstorable(time: f64) -> u64
 // A time that is not finite, or beyond 2^40, is among them. They are counted, and no count ends the loop, so that several
 // are tested at once.
 pub fn any_unstorable(times: &[f64]) -> bool
-    ensures { λ r. ⌜ r ≡ anyUnstorable (now (times .entry)) ⌝ }
+    ensures { λ r. ⌜ r ≡ anyUnstorable (was times) ⌝ }
 {
     let mut found: u64 = 0;
     let mut i: usize = 0;
@@ -47,7 +48,7 @@ pub fn any_unstorable(times: &[f64]) -> bool
 
 // Two neighbours are equal. In a sorted list all equals are neighbours.
 pub fn two_equal(times: &[f64]) -> bool
-    ensures { λ r. ⌜ r ≡ twoEqual (now (times .entry)) ⌝ }
+    ensures { λ r. ⌜ r ≡ twoEqual (was times) ⌝ }
 {
     let mut i: usize = 0;
     while i + 1 < times.len() {
@@ -70,7 +71,7 @@ fn are_equal(a: f64, b: f64, c: f64) -> bool
 
 // Three neighbours are equal.
 pub fn three_equal(times: &[f64]) -> bool
-    ensures { λ r. ⌜ r ≡ threeEqual (now (times .entry)) ⌝ }
+    ensures { λ r. ⌜ r ≡ threeEqual (was times) ⌝ }
 {
     let mut i: usize = 0;
     while i + 2 < times.len() {
@@ -85,7 +86,7 @@ pub fn three_equal(times: &[f64]) -> bool
 // The place of the last of the times that is at most `t`, and 0 if none is: the Rust's `partition_point` less one.
 pub fn last_at_most(times: &[f64], t: f64) -> usize
     requires { ⌜ Ascending (now times) ⌝ }
-    ensures { λ r. ⌜ r ≡ lastAtMost (now (times .entry)) t ⌝ }
+    ensures { λ r. ⌜ r ≡ lastAtMost (was times) t ⌝ }
 {
     let mut lo: usize = 0;
     let mut hi = times.len();
@@ -103,7 +104,7 @@ pub fn last_at_most(times: &[f64], t: f64) -> usize
 // The y at `t` of the knots (x, y), bare as the lists are.
 fn y_at(xs: &[f64], ys: &[f64], t: f64) -> f64
     requires { ⌜ Ascending (now xs) ⌝ ∗ ⌜ length (now xs) ≡ length (now ys) ⌝ }
-    ensures { λ r. ⌜ r ≡ mapTime (knotsOf (now (xs .entry)) (now (ys .entry))) t ⌝ }
+    ensures { λ r. ⌜ r ≡ mapTime (knotsOf (was xs) (was ys)) t ⌝ }
 {
     let n = xs.len();
     if n == 0 {
@@ -128,7 +129,7 @@ fn y_at(xs: &[f64], ys: &[f64], t: f64) -> f64
 // The knot mapping, which alone turns a stage time into a clip time: the Rust's `map_stage_to_clip`.
 pub fn map_time(xs: &[f64], ys: &[f64], t: StageTime) -> ClipTime
     requires { ⌜ Ascending (now xs) ⌝ ∗ ⌜ length (now xs) ≡ length (now ys) ⌝ }
-    ensures { λ r. ⌜ r ≡ mapStageToClip (knotsOf (now (xs .entry)) (now (ys .entry))) t ⌝ }
+    ensures { λ r. ⌜ r ≡ mapStageToClip (knotsOf (was xs) (was ys)) t ⌝ }
 {
     ClipTime(y_at(xs, ys, t.0))
 }

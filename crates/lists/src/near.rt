@@ -6,12 +6,13 @@ ghost use Prim.Native.Nat.{_<_};
 ghost use lib.Dec.{leb, ltb, eqb};
 ghost use lib.ListN.{length};
 ghost use Rattle.definitions.specs.Timing.{lastAtMost};
+ghost use Rattle.definitions.specs.Moments.{was};
 ghost use Rattle.laws.specs.list.Places.{Ascending};
 
 // Whether the last of the times that is at most `t` is at this place or behind it.
 fn is_reached(times: &[f64], place: usize, t: f64) -> bool
     requires { ⌜ Ascending (now times) ⌝ ∗ ⌜ place < length (now times) ⌝ }
-    ensures { λ r. ⌜ r ≡ leb place (lastAtMost (now (times .entry)) t) ⌝ }
+    ensures { λ r. ⌜ r ≡ leb place (lastAtMost (was times) t) ⌝ }
 {
     if place == 0 {
         return true;
@@ -22,7 +23,7 @@ fn is_reached(times: &[f64], place: usize, t: f64) -> bool
 // Whether it is behind this place.
 fn is_passed(times: &[f64], place: usize, t: f64) -> bool
     requires { ⌜ Ascending (now times) ⌝ ∗ ⌜ place < length (now times) ⌝ }
-    ensures { λ r. ⌜ r ≡ ltb place (lastAtMost (now (times .entry)) t) ⌝ }
+    ensures { λ r. ⌜ r ≡ ltb place (lastAtMost (was times) t) ⌝ }
 {
     let next = place + 1;
     if next < times.len() {
@@ -34,7 +35,7 @@ fn is_passed(times: &[f64], place: usize, t: f64) -> bool
 // Whether this is the place of the last of the times that is at most `t`, and 0 if none is.
 pub fn is_place(times: &[f64], place: usize, t: f64) -> bool
     requires { ⌜ Ascending (now times) ⌝ ∗ ⌜ place < length (now times) ⌝ }
-    ensures { λ r. ⌜ r ≡ eqb (lastAtMost (now (times .entry)) t) place ⌝ }
+    ensures { λ r. ⌜ r ≡ eqb (lastAtMost (was times) t) place ⌝ }
 {
     if is_passed(times, place, t) {
         return false;
@@ -45,7 +46,7 @@ pub fn is_place(times: &[f64], place: usize, t: f64) -> bool
 // Whether it is, of any number.
 fn is_near(times: &[f64], place: usize, t: f64) -> bool
     requires { ⌜ Ascending (now times) ⌝ }
-    ensures { λ r. ⌜ ((r ≡ true) → lastAtMost (now (times .entry)) t ≡ place) ⌝ }
+    ensures { λ r. ⌜ ((r ≡ true) → lastAtMost (was times) t ≡ place) ⌝ }
 {
     if place < times.len() {
         return is_place(times, place, t);
@@ -56,7 +57,7 @@ fn is_near(times: &[f64], place: usize, t: f64) -> bool
 // As `last_at_most`, wherever the search begins: at the hint, then behind it and before it.
 pub fn last_at_most_near(times: &[f64], t: f64, hint: usize) -> usize
     requires { ⌜ Ascending (now times) ⌝ }
-    ensures { λ r. ⌜ r ≡ lastAtMost (now (times .entry)) t ⌝ }
+    ensures { λ r. ⌜ r ≡ lastAtMost (was times) t ⌝ }
 {
     if is_near(times, hint, t) {
         return hint;

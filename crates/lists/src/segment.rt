@@ -7,12 +7,13 @@ ghost use Prim.Native.Nat.{_+_, _<_};
 ghost use lib.ListN.{length};
 ghost use Rattle.definitions.specs.Timing.{onSegment};
 ghost use Rattle.definitions.specs.Value as Value;
+ghost use Rattle.definitions.specs.Moments.{was};
 ghost use Rattle.lists.specs.Segments.{knotAt, segmentAt};
 
 // The knot at the place `i`.
 pub fn knot_at(xs: &[f64], ys: &[f64], i: usize) -> Knot
     requires { ⌜ length (now xs) ≡ length (now ys) ⌝ ∗ ⌜ i < length (now xs) ⌝ }
-    ensures { λ r. ⌜ r ≡ knotAt (now (xs .entry)) (now (ys .entry)) i ⌝ }
+    ensures { λ r. ⌜ r ≡ knotAt (was xs) (was ys) i ⌝ }
 {
     Knot { x: xs[i], y: ys[i] }
 }
@@ -20,7 +21,7 @@ pub fn knot_at(xs: &[f64], ys: &[f64], i: usize) -> Knot
 // The segment from the knot at the place `i` on.
 pub fn segment_at(xs: &[f64], ys: &[f64], i: usize) -> Segment
     requires { ⌜ length (now xs) ≡ length (now ys) ⌝ ∗ ⌜ i + 1 < length (now xs) ⌝ }
-    ensures { λ r. ⌜ r ≡ segmentAt (now (xs .entry)) (now (ys .entry)) i ⌝ }
+    ensures { λ r. ⌜ r ≡ segmentAt (was xs) (was ys) i ⌝ }
 {
     let a = knot_at(xs, ys, i);
     let b = knot_at(xs, ys, i + 1);

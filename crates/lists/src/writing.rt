@@ -4,10 +4,11 @@ ghost use mathlib.Core.Path.{_≡_};
 ghost use mathlib.Core.List.{map};
 ghost use lib.ListN.{length};
 ghost use Rattle.definitions.specs.Retime.{apply};
+ghost use Rattle.definitions.specs.Moments.{was, after};
 
 pub fn copy(from: &[f64], to: &mut [f64])
     requires { ⌜ length (now to) ≡ length (now from) ⌝ }
-    ensures { λ _. ⌜ now (to .exit) ≡ now (from .entry) ⌝ }
+    ensures { λ _. ⌜ after to ≡ was from ⌝ }
 {
     let mut i: usize = 0;
     while i < from.len() {
@@ -18,7 +19,7 @@ pub fn copy(from: &[f64], to: &mut [f64])
 
 pub fn copy_numbers(from: &[u64], to: &mut [u64])
     requires { ⌜ length (now to) ≡ length (now from) ⌝ }
-    ensures { λ _. ⌜ now (to .exit) ≡ now (from .entry) ⌝ }
+    ensures { λ _. ⌜ after to ≡ was from ⌝ }
 {
     let mut i: usize = 0;
     while i < from.len() {
@@ -29,7 +30,7 @@ pub fn copy_numbers(from: &[u64], to: &mut [u64])
 
 // Each time becomes offset + scale·time, two roundings: the Rust's `LayerOffset::apply`.
 pub fn move_times(times: &mut [f64], o: LayerOffset)
-    ensures { λ _. ⌜ now (times .exit) ≡ map (apply o) (now (times .entry)) ⌝ }
+    ensures { λ _. ⌜ after times ≡ map (apply o) (was times) ⌝ }
 {
     let mut i: usize = 0;
     while i < times.len() {

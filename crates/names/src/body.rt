@@ -9,6 +9,7 @@ ghost use lib.Dec.{T, ltb};
 ghost use lib.ListN.{length};
 ghost use Rattle.gf.specs.Doubles.{storable};
 ghost use Rattle.definitions.specs.Names as Names;
+ghost use Rattle.definitions.specs.Moments.{was, after};
 ghost use Rattle.names.specs.Pattern.{widthOf, withDot};
 ghost use Rattle.names.specs.Put.{put};
 ghost use Rattle.names.specs.Body.{bodyOf, signOf, pointed};
@@ -123,7 +124,7 @@ pub fn body_length(b: Body) -> usize
 
 fn put_sign(minus: bool, out: &mut [u8], at: usize)
     requires { ⌜ at + length (signOf minus) ≤ length (now out) ⌝ }
-    ensures { λ _. ⌜ now (out .exit) ≡ put (now (out .entry)) at (signOf minus) ⌝ }
+    ensures { λ _. ⌜ after out ≡ put (was out) at (signOf minus) ⌝ }
 {
     if minus {
         out[at] = b'-';
@@ -132,7 +133,7 @@ fn put_sign(minus: bool, out: &mut [u8], at: usize)
 
 fn put_fraction(k: usize, n: u64, out: &mut [u8], at: usize)
     requires { ⌜ at + withDot k ≤ length (now out) ⌝ }
-    ensures { λ _. ⌜ now (out .exit) ≡ put (now (out .entry)) at (pointed k n) ⌝ }
+    ensures { λ _. ⌜ after out ≡ put (was out) at (pointed k n) ⌝ }
 {
     if k == 0 {
         return;
@@ -144,7 +145,7 @@ fn put_fraction(k: usize, n: u64, out: &mut [u8], at: usize)
 // Writes a body from the slot `at` on.
 pub fn put_body(b: Body, out: &mut [u8], at: usize)
     requires { ⌜ at + length (bodyOf b) ≤ length (now out) ⌝ }
-    ensures { λ _. ⌜ now (out .exit) ≡ put (now (out .entry)) at (bodyOf b) ⌝ }
+    ensures { λ _. ⌜ after out ≡ put (was out) at (bodyOf b) ⌝ }
 {
     put_sign(b.minus, out, at);
     let whole = at + sign_length(b.minus);

@@ -4,12 +4,13 @@ ghost use mathlib.Core.Path.{_≡_};
 ghost use Prim.Native.Nat.{_+_, _-_, _≤_};
 ghost use lib.ListN.{length};
 ghost use lib.Seq.{slice};
+ghost use Rattle.definitions.specs.Moments.{was, after};
 ghost use Rattle.names.specs.Put.{put};
 
 // Copies the template's bytes from `from` up to `to` to the slots from `at` on.
 pub fn put_bytes(template: &[u8], from: usize, to: usize, out: &mut [u8], at: usize)
     requires { ⌜ (from ≤ to) × (to ≤ length (now template)) × (at + (to - from) ≤ length (now out)) ⌝ }
-    ensures { λ _. ⌜ now (out .exit) ≡ put (now (out .entry)) at (slice from to (now (template .entry))) ⌝ }
+    ensures { λ _. ⌜ after out ≡ put (was out) at (slice from to (was template)) ⌝ }
 {
     let mut i = from;
     while i < to {

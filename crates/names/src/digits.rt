@@ -4,6 +4,7 @@ ghost use mathlib.Core.Path.{_≡_};
 ghost use Prim.Native.Nat.{_+_, _≤_};
 ghost use lib.ListN.{length};
 ghost use Rattle.definitions.specs.Names as Names;
+ghost use Rattle.definitions.specs.Moments.{was, after};
 ghost use Rattle.names.specs.Put.{put};
 
 // How many decimal digits n has, 1 for 0.
@@ -22,7 +23,7 @@ pub fn places(n: u64) -> usize
 // Writes the last `width` digits of n from the slot `at` on, the last one first.
 pub fn put_digits(n: u64, width: usize, out: &mut [u8], at: usize)
     requires { ⌜ at + width ≤ length (now out) ⌝ }
-    ensures { λ _. ⌜ now (out .exit) ≡ put (now (out .entry)) at (Names.digits width n) ⌝ }
+    ensures { λ _. ⌜ after out ≡ put (was out) at (Names.digits width n) ⌝ }
 {
     let mut left = n;
     let mut i = width;

@@ -14,6 +14,7 @@ ghost use mathlib.Core.List.{_++_};
 ghost use Prim.Native.Nat.{_+_, _-_, _≤_};
 ghost use lib.ListN.{length, take, drop};
 ghost use Rattle.definitions.specs.Names.{split, readable};
+ghost use Rattle.definitions.specs.Moments.{was, after};
 ghost use Rattle.names.specs.Put.{put};
 ghost use Rattle.names.specs.Body.{bodyOf};
 ghost use Rattle.names.specs.Named.{Names};
@@ -26,7 +27,7 @@ pub enum Named {
 
 // Whether a template has a pattern that can be read.
 pub fn is_readable(template: &[u8]) -> bool
-    ensures { λ r. ⌜ r ≡ readable (split (now (template .entry))) ⌝ }
+    ensures { λ r. ⌜ r ≡ readable (split (was template)) ⌝ }
 {
     let p = pattern::parse(template);
     pattern::is_readable(template, p)
@@ -37,7 +38,7 @@ fn put_name(template: &[u8], p: Pattern, b: Body, out: &mut [u8])
     requires { ⌜ (p .first ≤ p .suffix) × (p .suffix ≤ length (now template)) ⌝ }
     requires { ⌜ p .first + length (bodyOf b) + (length (now template) - p .suffix) ≤ length (now out) ⌝ }
     requires { ⌜ length (bodyOf b) ≤ 268 ⌝ }
-    ensures { λ _. ⌜ now (out .exit) ≡ put (now (out .entry)) 0 (take (p .first) (now (template .entry)) ++ (bodyOf b ++ drop (p .suffix) (now (template .entry)))) ⌝ }
+    ensures { λ _. ⌜ after out ≡ put (was out) 0 (take (p .first) (was template) ++ (bodyOf b ++ drop (p .suffix) (was template))) ⌝ }
 {
     let first = p.first;
     let suffix = p.suffix;
@@ -50,7 +51,7 @@ fn put_name(template: &[u8], p: Pattern, b: Body, out: &mut [u8])
 
 // The name of the template at a clip time: 1, 2, 6, then 22.
 pub fn name(template: &[u8], time: ClipTime, out: &mut [u8]) -> Named
-    ensures { λ r. ⌜ Names (now (template .entry)) time (now (out .entry)) (now (out .exit)) r ⌝ }
+    ensures { λ r. ⌜ Names (was template) time (was out) (after out) r ⌝ }
 {
     if 255 < template.len() {
         return Named::Refused(1);

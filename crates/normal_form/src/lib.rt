@@ -2,6 +2,7 @@
 use sdf::Counted;
 use sdf::scans;
 ghost use mathlib.Core.Path.{_≡_};
+ghost use Rattle.definitions.specs.Moments.{was, after};
 ghost use Rattle.normal_form.specs.Normalizes.{Normalizes, outputs, listedNumber};
 
 mod merging;
@@ -9,7 +10,7 @@ mod sorting;
 
 // The number by which lists in any order are refused, before their normal form is looked at.
 fn listed_number(times: &[f64], values: &[f64], marks: &[u8]) -> u8
-    ensures { λ r. ⌜ r ≡ listedNumber (now (times .entry)) (now (values .entry)) (now (marks .entry)) ⌝ }
+    ensures { λ r. ⌜ r ≡ listedNumber (was times) (was values) (was marks) ⌝ }
 {
     if scans::unlike_lengths(times, values, marks) {
         return 1;
@@ -36,7 +37,7 @@ pub fn normalize_time_samples(
     outvalues: &mut [f64],
     outmarks: &mut [u8],
 ) -> Counted
-    ensures { λ r. ⌜ Normalizes (now (times .entry)) (now (values .entry)) (now (marks .entry)) (outputs (now (outtimes .entry)) (now (outvalues .entry)) (now (outmarks .entry))) (outputs (now (outtimes .exit)) (now (outvalues .exit)) (now (outmarks .exit))) r ⌝ }
+    ensures { λ r. ⌜ Normalizes (was times) (was values) (was marks) (outputs (was outtimes) (was outvalues) (was outmarks)) (outputs (after outtimes) (after outvalues) (after outmarks)) r ⌝ }
 {
     let number = listed_number(times, values, marks);
     if number != 0 {

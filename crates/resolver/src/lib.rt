@@ -13,6 +13,7 @@ use standing::questions::ActiveClip;
 use track::bake::Baked;
 use value::untimed::ValueState;
 ghost use mathlib.Core.Path.{_≡_};
+ghost use Rattle.definitions.specs.Moments.{was, after};
 ghost use Rattle.laws.specs.cell.Lent.{samplesOf};
 ghost use Rattle.clip.specs.Holding.{manifest};
 ghost use Rattle.explicit.specs.Parsing.{explicitFields};
@@ -82,7 +83,7 @@ impl Resolver {
         interpolate: bool,
     ) -> Accepted
         requires { ⌜ Made self ⌝ }
-        ensures { λ r. ⌜ Accepts self (explicitFields clips (now (starts .entry)) (now (numbers .entry)) (now (xs .entry)) (now (ys .entry)) (now (blocks .entry)) (manifest default interpolate)) r ⌝ }
+        ensures { λ r. ⌜ Accepts self (explicitFields clips (was starts) (was numbers) (was xs) (was ys) (was blocks) (manifest default interpolate)) r ⌝ }
     {
         let parsed = explicit::parse_set(
             clips,
@@ -109,7 +110,7 @@ impl Resolver {
         interpolate: bool,
     ) -> Accepted
         requires { ⌜ Made self ⌝ }
-        ensures { λ r. ⌜ Expands self (templateFields (now (template .entry)) times offset (now (blocks .entry)) (manifest default interpolate)) r ⌝ }
+        ensures { λ r. ⌜ Expands self (templateFields (was template) times offset (was blocks) (manifest default interpolate)) r ⌝ }
     {
         let parsed = template::expand_template(
             template,
@@ -205,7 +206,7 @@ impl Resolver {
         t: StageTime,
     ) -> ValueReply
         requires { ⌜ Made self ⌝ }
-        ensures { λ r. ⌜ TellsValue self (samplesOf (now (times .entry)) (now (values .entry)) (now (marks .entry)) (now (ends .entry))) t r ⌝ }
+        ensures { λ r. ⌜ TellsValue self (samplesOf (was times) (was values) (was marks) (was ends)) t r ⌝ }
     {
         if !self.stands {
             return ValueReply::Refused(20);
@@ -236,7 +237,7 @@ impl Resolver {
     // Whether there is a value at all.
     pub fn untimed(self, times: &[f64], values: &[f64], marks: &[u8], ends: &[u64]) -> UntimedReply
         requires { ⌜ Made self ⌝ }
-        ensures { λ r. ⌜ TellsUntimed self (samplesOf (now (times .entry)) (now (values .entry)) (now (marks .entry)) (now (ends .entry))) r ⌝ }
+        ensures { λ r. ⌜ TellsUntimed self (samplesOf (was times) (was values) (was marks) (was ends)) r ⌝ }
     {
         if !self.stands {
             return UntimedReply::Refused(20);
@@ -270,7 +271,7 @@ impl Resolver {
         out: &mut [f64],
     ) -> Counted
         requires { ⌜ Made self ⌝ }
-        ensures { λ r. ⌜ TellsTimes self (samplesOf (now (times .entry)) (now (values .entry)) (now (marks .entry)) (now (ends .entry))) (now (out .entry)) (now (out .exit)) r ⌝ }
+        ensures { λ r. ⌜ TellsTimes self (samplesOf (was times) (was values) (was marks) (was ends)) (was out) (after out) r ⌝ }
     {
         if !self.stands {
             return refused_list(20);
@@ -306,7 +307,7 @@ impl Resolver {
         outmarks: &mut [u8],
     ) -> Counted
         requires { ⌜ Made self ⌝ }
-        ensures { λ r. ⌜ TellsSamples self (samplesOf (now (times .entry)) (now (values .entry)) (now (marks .entry)) (now (ends .entry))) (now (outtimes .entry)) (now (outtimes .exit)) (now (outmarks .entry)) (now (outmarks .exit)) r ⌝ }
+        ensures { λ r. ⌜ TellsSamples self (samplesOf (was times) (was values) (was marks) (was ends)) (was outtimes) (after outtimes) (was outmarks) (after outmarks) r ⌝ }
     {
         if !self.stands {
             return refused_list(20);
@@ -344,7 +345,7 @@ impl Resolver {
         outmarks: &mut [u8],
     ) -> Baked
         requires { ⌜ Made self ⌝ }
-        ensures { λ r. ⌜ BakesTrack self (samplesOf (now (times .entry)) (now (values .entry)) (now (marks .entry)) (now (ends .entry))) (outputs (now (outtimes .entry)) (now (outvalues .entry)) (now (outmarks .entry))) (bakedReply r) (outputs (now (outtimes .exit)) (now (outvalues .exit)) (now (outmarks .exit))) ⌝ }
+        ensures { λ r. ⌜ BakesTrack self (samplesOf (was times) (was values) (was marks) (was ends)) (outputs (was outtimes) (was outvalues) (was outmarks)) (bakedReply r) (outputs (after outtimes) (after outvalues) (after outmarks)) ⌝ }
     {
         if !self.stands {
             return refused_bake(20);

@@ -17,6 +17,7 @@ ghost use Prim.Native.Nat.{_+_, _≤_, _<_};
 ghost use lib.Dec.{T};
 ghost use lib.ListN.{length};
 ghost use lib.Ieee.{inf, isNan, lt, le};
+ghost use Rattle.definitions.specs.Moments.{was};
 ghost use Rattle.laws.specs.list.Places.{Ascending};
 ghost use Rattle.window.specs.neighbours.Windowed.{samplesIn, Lent, Nearing};
 ghost use Rattle.run.specs.begin.Begins.{BeforeIs, LastIs, PastLatest, RunBeginIs};
@@ -53,7 +54,7 @@ fn place_passed(s: Segment, n: usize) -> usize
 // The last inverse time below `ceil`, by the turn at the double below it.
 fn last_before(cs: &[f64], s: Segment, ceil: f64) -> Bound
     requires { ⌜ T (not (isNan ceil)) ⌝ }
-    ensures { λ r. ⌜ BeforeIs (now (cs .entry)) (s .a, s .b) ceil r ⌝ }
+    ensures { λ r. ⌜ BeforeIs (was cs) (s .a, s .b) ceil r ⌝ }
 {
     let k = gf::key(ceil);
     if k <= LEAST {
@@ -80,7 +81,7 @@ fn last_before(cs: &[f64], s: Segment, ceil: f64) -> Bound
 fn last_in(xs: &[f64], ys: &[f64], cs: &[f64], i: usize, max: f64) -> Bound
     requires { ⌜ Ascending (now xs) ⌝ ∗ ⌜ length (now xs) ≡ length (now ys) ⌝ ∗ ⌜ i + 1 < length (now xs) ⌝ }
     requires { ⌜ T (not (isNan max)) ⌝ }
-    ensures { λ r. ⌜ LastIs (now (xs .entry)) (now (ys .entry)) (now (cs .entry)) i max r ⌝ }
+    ensures { λ r. ⌜ LastIs (was xs) (was ys) (was cs) i max r ⌝ }
 {
     let s = segment_at(xs, ys, i);
     let ceil = lesser_time(max, s.b.x);
@@ -99,7 +100,7 @@ fn is_below(start: f64, t: f64, h: f64) -> bool
 
 // Whether no inverse time of the segments before the knot at i is above l.
 fn is_past(latest: &[f64], i: usize, l: f64) -> bool
-    ensures { λ r. ⌜ ((r ≡ true) → PastLatest (now (latest .entry)) i l) ⌝ }
+    ensures { λ r. ⌜ ((r ≡ true) → PastLatest (was latest) i l) ⌝ }
 {
     if i == 0 {
         return true;
@@ -125,7 +126,7 @@ pub fn run_begin(
 ) -> RunBegin
     requires { ⌜ Nearing (now xs) (now ys) (now latest) (samplesIn (now times) w) w t ⌝ ∗ ⌜ Lent (now times) w ⌝ }
     requires { ⌜ (w .min ≡ inf true) ⊎ (w .min ≡ w .start) ⌝ }
-    ensures { λ r. ⌜ RunBeginIs (now (xs .entry)) (now (ys .entry)) (now (latest .entry)) (now (times .entry)) w t r ⌝ }
+    ensures { λ r. ⌜ RunBeginIs (was xs) (was ys) (was latest) (was times) w t r ⌝ }
 {
     let begin = w.begin;
     let end = w.end;

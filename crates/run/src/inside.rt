@@ -14,6 +14,7 @@ ghost use mathlib.Core.Path.{_≡_};
 ghost use Prim.Native.Nat.{_≤_, _<_};
 ghost use lib.ListN.{length};
 ghost use Rattle.gf.specs.Key as Key;
+ghost use Rattle.definitions.specs.Moments.{was, after};
 ghost use Rattle.laws.specs.list.Places.{Ascending};
 ghost use Rattle.window.specs.SoundSegments.{SoundSegment};
 ghost use Rattle.cell.specs.step.Entries.{entryIs};
@@ -31,7 +32,7 @@ pub enum NextInRun {
 fn entry_along(cs: &[f64], vs: &[f64], ms: &[u8], line: Line, k: u64, hint: usize) -> Entry
     requires { ⌜ Reads (now cs) (now vs) (now ms) ⌝ }
     requires { ⌜ (Key.least ≤ k) × (k ≤ Key.most) ⌝ }
-    ensures { λ r. ⌜ entryIs r ≡ readingAt (now (cs .entry)) (now (vs .entry)) (now (ms .entry)) line k ⌝ }
+    ensures { λ r. ⌜ entryIs r ≡ readingAt (was cs) (was vs) (was ms) line k ⌝ }
 {
     let place = last_at_most_near(cs, along(line, gf::of_key(k)), hint);
     entry_of_sample(vs, ms, place)
@@ -41,7 +42,7 @@ fn entry_along(cs: &[f64], vs: &[f64], ms: &[u8], line: Line, k: u64, hint: usiz
 fn sample_in_run(cs: &[f64], s: Segment, i: usize, p: usize, hi: u64) -> NextInRun
     requires { ⌜ SoundSegment (s .a, s .b) ⌝ ∗ ⌜ Ascending (now cs) ⌝ }
     requires { ⌜ i < length (now cs) ⌝ ∗ ⌜ spanned (now cs) (s .a, s .b) i ⌝ }
-    ensures { λ r. ⌜ SampleIs (now (cs .entry)) (s .a, s .b) i p hi r ⌝ }
+    ensures { λ r. ⌜ SampleIs (was cs) (s .a, s .b) i p hi r ⌝ }
 {
     let m = gf::key(stage_time(s, cs[i]));
     if hi < m {
@@ -54,7 +55,7 @@ fn sample_in_run(cs: &[f64], s: Segment, i: usize, p: usize, hi: u64) -> NextInR
 fn next_in_run(cs: &[f64], s: Segment, n: usize, k: u64, hi: u64) -> NextInRun
     requires { ⌜ SoundSegment (s .a, s .b) ⌝ ∗ ⌜ Ascending (now cs) ⌝ }
     requires { ⌜ InRun (now cs) (s .a, s .b) n k ⌝ }
-    ensures { λ r. ⌜ NextInRunIs (now (cs .entry)) (s .a, s .b) n k hi r ⌝ }
+    ensures { λ r. ⌜ NextInRunIs (was cs) (s .a, s .b) n k hi r ⌝ }
 {
     let ca = s.a.y;
     let cb = s.b.y;
@@ -96,7 +97,7 @@ pub fn fill_run(
 ) -> Went
     requires { ⌜ Passing (now cs) (now vs) (now ms) (s .a, s .b) floor (entryIs last) k hi ⌝ }
     requires { ⌜ Room room slot (outputs (now outtimes) (now outvalues) (now outmarks)) ⌝ }
-    ensures { λ r. ⌜ Walked (passingAt (now (cs .entry)) (now (vs .entry)) (now (ms .entry)) (s .a, s .b) floor) k hi room slot (outputs (now (outtimes .entry)) (now (outvalues .entry)) (now (outmarks .entry))) (outputs (now (outtimes .exit)) (now (outvalues .exit)) (now (outmarks .exit))) r ⌝ }
+    ensures { λ r. ⌜ Walked (passingAt (was cs) (was vs) (was ms) (s .a, s .b) floor) k hi room slot (outputs (was outtimes) (was outvalues) (was outmarks)) (outputs (after outtimes) (after outvalues) (after outmarks)) r ⌝ }
 {
     let line = Line::Segment(s);
     let mut at = k;

@@ -22,6 +22,7 @@ ghost use mathlib.Core.Path.{_≡_};
 ghost use Prim.Native.Nat.{_≤_, _<_};
 ghost use lib.ListN.{length};
 ghost use Rattle.gf.specs.Key as Key;
+ghost use Rattle.definitions.specs.Moments.{was, after};
 ghost use Rattle.laws.specs.list.Places.{Ascending};
 ghost use Rattle.laws.specs.cell.Keys.{Keys};
 ghost use Rattle.cell.specs.step.Lines.{placeOn};
@@ -33,7 +34,7 @@ ghost use Rattle.run.specs.Walks.{outputs, Room, Walked};
 pub fn entry_of_sample(vs: &[f64], ms: &[u8], place: usize) -> Entry
     requires { ⌜ place < length (now vs) ⌝ }
     requires { ⌜ place < length (now ms) ⌝ }
-    ensures { λ r. ⌜ entryIs r ≡ entryAt (now (vs .entry)) (now (ms .entry)) place ⌝ }
+    ensures { λ r. ⌜ entryIs r ≡ entryAt (was vs) (was ms) place ⌝ }
 {
     if ms[place] == 0 {
         return entry_of(Answer::Value(vs[place]));
@@ -45,7 +46,7 @@ pub fn entry_of_sample(vs: &[f64], ms: &[u8], place: usize) -> Entry
 fn place_beside(ts: &[f64], line: Line, k: u64, place: usize) -> usize
     requires { ⌜ Ascending (now ts) ⌝ }
     requires { ⌜ (Key.least ≤ k) × (k ≤ Key.most) ⌝ }
-    ensures { λ r. ⌜ r ≡ placeOn (now (ts .entry)) line k ⌝ }
+    ensures { λ r. ⌜ r ≡ placeOn (was ts) line k ⌝ }
 {
     last_at_most_near(ts, along(line, gf::of_key(k)), place)
 }
@@ -68,7 +69,7 @@ pub fn fill_changes(
     requires { ⌜ Keys k hi ⌝ }
     requires { ⌜ LeftOnce (placeOn (now ts) line) k hi ⌝ }
     requires { ⌜ Room room n (outputs (now outtimes) (now outvalues) (now outmarks)) ⌝ }
-    ensures { λ r. ⌜ Walked (readingAt (now (ts .entry)) (now (vs .entry)) (now (ms .entry)) line) k hi room n (outputs (now (outtimes .entry)) (now (outvalues .entry)) (now (outmarks .entry))) (outputs (now (outtimes .exit)) (now (outvalues .exit)) (now (outmarks .exit))) r ⌝ }
+    ensures { λ r. ⌜ Walked (readingAt (was ts) (was vs) (was ms) line) k hi room n (outputs (was outtimes) (was outvalues) (was outmarks)) (outputs (after outtimes) (after outvalues) (after outmarks)) r ⌝ }
 {
     let mut at = k;
     let mut place = place_on(ts, line, k);

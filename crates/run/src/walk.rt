@@ -3,6 +3,7 @@ use cell::step::entry::Entry;
 use cell::step::entry::alike;
 ghost use Prim.Native.Nat.{_≤_};
 ghost use Rattle.gf.specs.Key as Key;
+ghost use Rattle.definitions.specs.Moments.{was, after};
 ghost use Rattle.cell.specs.step.Entries.{entryIs};
 ghost use Rattle.run.specs.Walks.{outputs, Room, Offered};
 
@@ -29,7 +30,7 @@ pub fn offer(
 ) -> usize
     requires { ⌜ (Key.least ≤ k) × (k ≤ Key.most) ⌝ }
     requires { ⌜ Room room n (outputs (now outtimes) (now outvalues) (now outmarks)) ⌝ }
-    ensures { λ r. ⌜ Offered (entryIs last) (entryIs here) k room n (outputs (now (outtimes .entry)) (now (outvalues .entry)) (now (outmarks .entry))) (outputs (now (outtimes .exit)) (now (outvalues .exit)) (now (outmarks .exit))) r ⌝ }
+    ensures { λ r. ⌜ Offered (entryIs last) (entryIs here) k room n (outputs (was outtimes) (was outvalues) (was outmarks)) (outputs (after outtimes) (after outvalues) (after outmarks)) r ⌝ }
 {
     if alike(here, last) {
         return n;

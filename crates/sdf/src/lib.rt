@@ -1,4 +1,5 @@
 // Time samples as they are lent: when they are refused.
+ghost use Rattle.definitions.specs.Moments.{was};
 ghost use Rattle.sdf.specs.Judged.{Judged};
 
 pub mod look;
@@ -15,7 +16,7 @@ pub struct Counted {
 // The number by which the samples are refused for a set with `clips` clips, and 0 if they are accepted.
 // The ends are looked at as places of the list only once they are known to close it.
 pub fn samples_number(clips: u64, times: &[f64], values: &[f64], marks: &[u8], ends: &[u64]) -> u8
-    ensures { λ r. ⌜ Judged clips (now (times .entry)) (now (values .entry)) (now (marks .entry)) (now (ends .entry)) r ⌝ }
+    ensures { λ r. ⌜ Judged clips (was times) (was values) (was marks) (was ends) r ⌝ }
 {
     if scans::unlike_lengths(times, values, marks) {
         return 1;

@@ -3,6 +3,7 @@ use definitions::Answer;
 use definitions::ClipTime;
 ghost use mathlib.Core.Path.{_≡_};
 ghost use Prim.Native.Nat.{_+_};
+ghost use Rattle.definitions.specs.Moments.{was};
 ghost use Rattle.sdf.specs.look.Reads.{Inside, Readable, markedAt, heldIs, heldReading};
 
 // The borrow checker covers no function over a struct that holds references, so those below only take the look apart,
@@ -24,7 +25,7 @@ pub enum HeldPlace {
 // What the sample at a place behind `begin` says. A block read is a reading.
 fn marked_at(values: &[f64], marks: &[u8], begin: usize, place: usize) -> Answer
     requires { ⌜ Inside (now values) (now marks) (begin + place) ⌝ }
-    ensures { λ r. ⌜ r ≡ markedAt (now (values .entry)) (now (marks .entry)) (begin + place) ⌝ }
+    ensures { λ r. ⌜ r ≡ markedAt (was values) (was marks) (begin + place) ⌝ }
 {
     let at = begin + place;
     if marks[at] == 0 {
@@ -43,7 +44,7 @@ fn held_reading(
     t: ClipTime,
 ) -> HeldPlace
     requires { ⌜ Readable (now times) (now values) (now marks) begin end ⌝ }
-    ensures { λ r. ⌜ heldIs r ≡ heldReading (now (times .entry)) (now (values .entry)) (now (marks .entry)) begin end t ⌝ }
+    ensures { λ r. ⌜ heldIs r ≡ heldReading (was times) (was values) (was marks) begin end t ⌝ }
 {
     if begin == end {
         return HeldPlace::Nothing;
@@ -100,7 +101,7 @@ pub fn read_clip(
     t: ClipTime,
 ) -> HeldPlace
     requires { ⌜ Readable (now times) (now values) (now marks) begin end ⌝ }
-    ensures { λ r. ⌜ heldIs r ≡ heldReading (now (times .entry)) (now (values .entry)) (now (marks .entry)) begin end t ⌝ }
+    ensures { λ r. ⌜ heldIs r ≡ heldReading (was times) (was values) (was marks) begin end t ⌝ }
 {
     over(times, values, marks, begin, end).read(t)
 }
@@ -115,7 +116,7 @@ pub fn answer_in(
     place: usize,
 ) -> Answer
     requires { ⌜ Inside (now values) (now marks) (begin + place) ⌝ }
-    ensures { λ r. ⌜ r ≡ markedAt (now (values .entry)) (now (marks .entry)) (begin + place) ⌝ }
+    ensures { λ r. ⌜ r ≡ markedAt (was values) (was marks) (begin + place) ⌝ }
 {
     over(times, values, marks, begin, end).answer(place)
 }

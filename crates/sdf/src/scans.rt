@@ -7,11 +7,12 @@ ghost use lib.Ieee.{isNan, lt};
 ghost use Rattle.definitions.specs.Lists.{any, zipWith};
 ghost use Rattle.definitions.specs.Doubles as Doubles;
 ghost use Rattle.definitions.specs.Samples as Samples;
+ghost use Rattle.definitions.specs.Moments.{was};
 ghost use Rattle.sdf.specs.Parts.{partsAscend};
 
 // More samples than the limit, or lists of unlike length.
 pub fn unlike_lengths(times: &[f64], values: &[f64], marks: &[u8]) -> bool
-    ensures { λ r. ⌜ r ≡ Samples.unlikeLengths (now (times .entry)) (now (values .entry)) (now (marks .entry)) ⌝ }
+    ensures { λ r. ⌜ r ≡ Samples.unlikeLengths (was times) (was values) (was marks) ⌝ }
 {
     let count = times.len();
     if count > 4096 {
@@ -45,7 +46,7 @@ fn nan_found(value: f64) -> u64
 
 // A NaN is among the values. They are counted, and no count ends the loop, so that several are tested at once.
 fn any_not_a_number(values: &[f64]) -> bool
-    ensures { λ r. ⌜ r ≡ any isNan (now (values .entry)) ⌝ }
+    ensures { λ r. ⌜ r ≡ any isNan (was values) ⌝ }
 {
     let mut found: u64 = 0;
     let mut i: usize = 0;
@@ -59,7 +60,7 @@ fn any_not_a_number(values: &[f64]) -> bool
 // A NaN under the mark of a value is among the values.
 fn any_nan_marked(values: &[f64], marks: &[u8]) -> bool
     requires { ⌜ length (now values) ≡ length (now marks) ⌝ }
-    ensures { λ r. ⌜ r ≡ any (λ (b : Bool). b) (zipWith Samples.nanValue (now (values .entry)) (now (marks .entry))) ⌝ }
+    ensures { λ r. ⌜ r ≡ any (λ (b : Bool). b) (zipWith Samples.nanValue (was values) (was marks)) ⌝ }
 {
     let mut i: usize = 0;
     while i < values.len() {
@@ -74,7 +75,7 @@ fn any_nan_marked(values: &[f64], marks: &[u8]) -> bool
 // The same, where the marks are looked at only if there is a NaN at all.
 pub fn any_nan(values: &[f64], marks: &[u8]) -> bool
     requires { ⌜ length (now values) ≡ length (now marks) ⌝ }
-    ensures { λ r. ⌜ r ≡ any (λ (b : Bool). b) (zipWith Samples.nanValue (now (values .entry)) (now (marks .entry))) ⌝ }
+    ensures { λ r. ⌜ r ≡ any (λ (b : Bool). b) (zipWith Samples.nanValue (was values) (was marks)) ⌝ }
 {
     if any_not_a_number(values) {
         return any_nan_marked(values, marks);
@@ -93,7 +94,7 @@ fn larger(a: u8, b: u8) -> u8
 
 // A mark other than that of a value or a block is among them: the largest is.
 pub fn bad_marks(marks: &[u8]) -> bool
-    ensures { λ r. ⌜ r ≡ Samples.badMarks (now (marks .entry)) ⌝ }
+    ensures { λ r. ⌜ r ≡ Samples.badMarks (was marks) ⌝ }
 {
     let mut largest: u8 = 0;
     let mut i: usize = 0;
@@ -106,7 +107,7 @@ pub fn bad_marks(marks: &[u8]) -> bool
 
 // No end falls behind the one before, and the last is the list's length.
 pub fn closes(ends: &[u64], count: usize) -> bool
-    ensures { λ r. ⌜ r ≡ Samples.closes 0 (now (ends .entry)) count ⌝ }
+    ensures { λ r. ⌜ r ≡ Samples.closes 0 (was ends) count ⌝ }
 {
     let mut end: u64 = 0;
     let mut i: usize = 0;
@@ -133,7 +134,7 @@ fn fall(time: f64, next: f64) -> u64
 
 // Each time is below the one after it. Those that are not are counted, as the NaNs are.
 pub fn ascending(times: &[f64]) -> bool
-    ensures { λ r. ⌜ r ≡ Doubles.ascending (now (times .entry)) ⌝ }
+    ensures { λ r. ⌜ r ≡ Doubles.ascending (was times) ⌝ }
 {
     let mut found: u64 = 0;
     let mut i: usize = 0;
@@ -147,7 +148,7 @@ pub fn ascending(times: &[f64]) -> bool
 // The times ascend within each clip. That the ends close the list keeps every part inside it.
 pub fn parts_ascend(times: &[f64], ends: &[u64]) -> bool
     requires { ⌜ T (Samples.closes 0 (now ends) (length (now times))) ⌝ }
-    ensures { λ r. ⌜ r ≡ partsAscend (now (times .entry)) (now (ends .entry)) ⌝ }
+    ensures { λ r. ⌜ r ≡ partsAscend (was times) (was ends) ⌝ }
 {
     let mut begin: usize = 0;
     let mut i: usize = 0;

@@ -14,6 +14,7 @@ ghost use mathlib.Core.Path.{_≡_};
 ghost use Prim.Native.Nat.{min};
 ghost use lib.ListN.{length};
 ghost use Rattle.definitions.specs.StageSamples.{stageSampleTimes};
+ghost use Rattle.definitions.specs.Moments.{was, after};
 ghost use Rattle.laws.specs.cell.Lent.{setOf, samplesOf, AcceptedLists};
 ghost use Rattle.stage.specs.Promises.{TimesWritten, SamplesWritten};
 ghost use Rattle.stage.specs.Marks.{sampleTimes, sampleMarks};
@@ -39,7 +40,7 @@ pub fn stage_sample_times(
     out: &mut [f64],
 ) -> Written
     requires { ⌜ AcceptedLists (now starts) (now clips) (now xs) (now ys) (now blocks) m (now times) (now values) (now marks) (now ends) ⌝ }
-    ensures { λ r. ⌜ TimesWritten (stageSampleTimes (setOf (length (now (ends .entry))) (now (starts .entry)) (now (clips .entry)) (now (xs .entry)) (now (ys .entry)) (now (blocks .entry)) m) (samplesOf (now (times .entry)) (now (values .entry)) (now (marks .entry)) (now (ends .entry)))) (now (out .entry)) (now (out .exit)) r ⌝ }
+    ensures { λ r. ⌜ TimesWritten (stageSampleTimes (setOf (length (was ends)) (was starts) (was clips) (was xs) (was ys) (was blocks) m) (samplesOf (was times) (was values) (was marks) (was ends))) (was out) (after out) r ⌝ }
 {
     let reach = latest_inverses(xs, ys);
     if fits(
@@ -100,7 +101,7 @@ pub fn stage_samples(
     outmarks: &mut [u8],
 ) -> Written
     requires { ⌜ AcceptedLists (now starts) (now clips) (now xs) (now ys) (now blocks) m (now times) (now values) (now marks) (now ends) ⌝ }
-    ensures { λ r. ⌜ SamplesWritten (sampleTimes (setOf (length (now (ends .entry))) (now (starts .entry)) (now (clips .entry)) (now (xs .entry)) (now (ys .entry)) (now (blocks .entry)) m) (samplesOf (now (times .entry)) (now (values .entry)) (now (marks .entry)) (now (ends .entry)))) (sampleMarks (setOf (length (now (ends .entry))) (now (starts .entry)) (now (clips .entry)) (now (xs .entry)) (now (ys .entry)) (now (blocks .entry)) m) (samplesOf (now (times .entry)) (now (values .entry)) (now (marks .entry)) (now (ends .entry)))) (now (outtimes .entry)) (now (outtimes .exit)) (now (outmarks .entry)) (now (outmarks .exit)) r ⌝ }
+    ensures { λ r. ⌜ SamplesWritten (sampleTimes (setOf (length (was ends)) (was starts) (was clips) (was xs) (was ys) (was blocks) m) (samplesOf (was times) (was values) (was marks) (was ends))) (sampleMarks (setOf (length (was ends)) (was starts) (was clips) (was xs) (was ys) (was blocks) m) (samplesOf (was times) (was values) (was marks) (was ends))) (was outtimes) (after outtimes) (was outmarks) (after outmarks) r ⌝ }
 {
     let reach = latest_inverses(xs, ys);
     let room = shorter(outtimes.len(), outmarks.len());

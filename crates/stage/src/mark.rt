@@ -11,6 +11,7 @@ ghost use lib.ListN.{length};
 ghost use Rattle.definitions.specs.Lists.{writtenOver};
 ghost use Rattle.definitions.specs.StageSamples.{suppliedAt};
 ghost use Rattle.definitions.specs.Track.{markOf};
+ghost use Rattle.definitions.specs.Moments.{was, after};
 ghost use Rattle.laws.specs.cell.Lent.{setOf, samplesOf, AcceptedLists};
 ghost use Rattle.stage.specs.Marks.{gapMarkOf, marksAt};
 
@@ -51,7 +52,7 @@ fn supplied_at(
     t: StageTime,
 ) -> u8
     requires { ⌜ AcceptedLists (now starts) (now clips) (now xs) (now ys) (now blocks) m (now times) (now values) (now marks) (now ends) ⌝ }
-    ensures { λ r. ⌜ r ≡ suppliedAt (setOf (length (now (ends .entry))) (now (starts .entry)) (now (clips .entry)) (now (xs .entry)) (now (ys .entry)) (now (blocks .entry)) m) (samplesOf (now (times .entry)) (now (values .entry)) (now (marks .entry)) (now (ends .entry))) t ⌝ }
+    ensures { λ r. ⌜ r ≡ suppliedAt (setOf (length (was ends)) (was starts) (was clips) (was xs) (was ys) (was blocks) m) (samplesOf (was times) (was values) (was marks) (was ends)) t ⌝ }
 {
     if starts.len() == 0 {
         return gap_mark(m);
@@ -80,7 +81,7 @@ pub fn write_marks(
     out: &mut [u8],
 )
     requires { ⌜ AcceptedLists (now starts) (now clips) (now xs) (now ys) (now blocks) m (now times) (now values) (now marks) (now ends) ⌝ ∗ ⌜ length (now at) ≤ length (now out) ⌝ }
-    ensures { λ _. ⌜ now (out .exit) ≡ writtenOver (marksAt (setOf (length (now (ends .entry))) (now (starts .entry)) (now (clips .entry)) (now (xs .entry)) (now (ys .entry)) (now (blocks .entry)) m) (samplesOf (now (times .entry)) (now (values .entry)) (now (marks .entry)) (now (ends .entry))) (now (at .entry))) (now (out .entry)) ⌝ }
+    ensures { λ _. ⌜ after out ≡ writtenOver (marksAt (setOf (length (was ends)) (was starts) (was clips) (was xs) (was ys) (was blocks) m) (samplesOf (was times) (was values) (was marks) (was ends)) (was at)) (was out) ⌝ }
 {
     let mut i: usize = 0;
     while i < at.len() {

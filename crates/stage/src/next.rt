@@ -18,6 +18,7 @@ ghost use lib.Dec.{T};
 ghost use lib.ListN.{length, getD};
 ghost use lib.Ieee.Scale.{finite};
 ghost use Rattle.definitions.specs.Timing.{lastAtMost};
+ghost use Rattle.definitions.specs.Moments.{was};
 ghost use Rattle.laws.specs.cell.Lent.{setOf, samplesOf, AcceptedLists};
 ghost use Rattle.window.specs.Bounds.{UpperIs};
 ghost use Rattle.window.specs.neighbours.Latest.{LatestOf};
@@ -35,7 +36,7 @@ pub struct Next {
 // The window of the start at the place `p` with all samples of its clip, whether it contributes them or not. A search needs no gap.
 fn whole_window(starts: &[f64], clips: &[u64], ends: &[u64], p: usize) -> Window
     requires { ⌜ p < length (now starts) ⌝ ∗ ⌜ length (now starts) ≡ length (now clips) ⌝ ∗ ⌜ getD (now clips) p 0 < length (now ends) ⌝ }
-    ensures { λ r. ⌜ WholeWindow (now (starts .entry)) (now (clips .entry)) (now (ends .entry)) p r ⌝ }
+    ensures { λ r. ⌜ WholeWindow (was starts) (was clips) (was ends) p r ⌝ }
 {
     let start = starts[p];
     let clip = clips[p];
@@ -69,7 +70,7 @@ fn search_window(
     sample: usize,
 ) -> NeighboursAndHints
     requires { ⌜ Windows (now starts) (now clips) (now xs) (now ys) (now times) (now ends) ⌝ ∗ ⌜ LatestOf (now xs) (now ys) (now latest) ⌝ ∗ ⌜ p ≡ lastAtMost (now starts) t ⌝ ∗ ⌜ p < length (now starts) ⌝ ∗ ⌜ T (finite t) ⌝ }
-    ensures { λ r. ⌜ UpperIs (wholeTimes (now (starts .entry)) (now (clips .entry)) (now (xs .entry)) (now (ys .entry)) (now (times .entry)) (now (ends .entry)) p ++ nextStart (now (starts .entry)) p) t (r .upper) ⌝ }
+    ensures { λ r. ⌜ UpperIs (wholeTimes (was starts) (was clips) (was xs) (was ys) (was times) (was ends) p ++ nextStart (was starts) p) t (r .upper) ⌝ }
 {
     let w = whole_window(starts, clips, ends, p);
     let begin = w.begin;
@@ -96,7 +97,7 @@ pub fn next_time(
     sample: usize,
 ) -> Next
     requires { ⌜ AcceptedLists (now starts) (now clips) (now xs) (now ys) (now blocks) m (now times) (now values) (now marks) (now ends) ⌝ ∗ ⌜ LatestOf (now xs) (now ys) (now latest) ⌝ ∗ ⌜ T (finite t) ⌝ }
-    ensures { λ r. ⌜ NextTime (setOf (length (now (ends .entry))) (now (starts .entry)) (now (clips .entry)) (now (xs .entry)) (now (ys .entry)) (now (blocks .entry)) m) (samplesOf (now (times .entry)) (now (values .entry)) (now (marks .entry)) (now (ends .entry))) t (r .time) ⌝ }
+    ensures { λ r. ⌜ NextTime (setOf (length (was ends)) (was starts) (was clips) (was xs) (was ys) (was blocks) m) (samplesOf (was times) (was values) (was marks) (was ends)) t (r .time) ⌝ }
 {
     if starts.len() == 0 {
         return Next {

@@ -9,6 +9,7 @@ ghost use lib.Dec.{leb};
 ghost use lib.ListN.{length};
 ghost use Rattle.definitions.specs.Lists.{writtenOver};
 ghost use Rattle.definitions.specs.StageSamples.{stageSampleTimes};
+ghost use Rattle.definitions.specs.Moments.{was, after};
 ghost use Rattle.laws.specs.cell.Lent.{setOf, samplesOf, AcceptedLists};
 ghost use Rattle.window.specs.neighbours.Latest.{LatestOf};
 
@@ -31,7 +32,7 @@ pub fn fits(
     room: usize,
 ) -> bool
     requires { ⌜ AcceptedLists (now starts) (now clips) (now xs) (now ys) (now blocks) m (now times) (now values) (now marks) (now ends) ⌝ ∗ ⌜ LatestOf (now xs) (now ys) (now latest) ⌝ }
-    ensures { λ r. ⌜ r ≡ leb (length (stageSampleTimes (setOf (length (now (ends .entry))) (now (starts .entry)) (now (clips .entry)) (now (xs .entry)) (now (ys .entry)) (now (blocks .entry)) m) (samplesOf (now (times .entry)) (now (values .entry)) (now (marks .entry)) (now (ends .entry))))) room ⌝ }
+    ensures { λ r. ⌜ r ≡ leb (length (stageSampleTimes (setOf (length (was ends)) (was starts) (was clips) (was xs) (was ys) (was blocks) m) (samplesOf (was times) (was values) (was marks) (was ends)))) room ⌝ }
 {
     let mut t = BEFORE_ALL;
     let mut count: usize = 0;
@@ -87,7 +88,7 @@ pub fn write_times(
     out: &mut [f64],
 ) -> usize
     requires { ⌜ AcceptedLists (now starts) (now clips) (now xs) (now ys) (now blocks) m (now times) (now values) (now marks) (now ends) ⌝ ∗ ⌜ LatestOf (now xs) (now ys) (now latest) ⌝ ∗ ⌜ length (stageSampleTimes (setOf (length (now ends)) (now starts) (now clips) (now xs) (now ys) (now blocks) m) (samplesOf (now times) (now values) (now marks) (now ends))) ≤ length (now out) ⌝ }
-    ensures { λ r. ⌜ (r ≡ length (stageSampleTimes (setOf (length (now (ends .entry))) (now (starts .entry)) (now (clips .entry)) (now (xs .entry)) (now (ys .entry)) (now (blocks .entry)) m) (samplesOf (now (times .entry)) (now (values .entry)) (now (marks .entry)) (now (ends .entry))))) × (now (out .exit) ≡ writtenOver (stageSampleTimes (setOf (length (now (ends .entry))) (now (starts .entry)) (now (clips .entry)) (now (xs .entry)) (now (ys .entry)) (now (blocks .entry)) m) (samplesOf (now (times .entry)) (now (values .entry)) (now (marks .entry)) (now (ends .entry)))) (now (out .entry))) ⌝ }
+    ensures { λ r. ⌜ (r ≡ length (stageSampleTimes (setOf (length (was ends)) (was starts) (was clips) (was xs) (was ys) (was blocks) m) (samplesOf (was times) (was values) (was marks) (was ends)))) × (after out ≡ writtenOver (stageSampleTimes (setOf (length (was ends)) (was starts) (was clips) (was xs) (was ys) (was blocks) m) (samplesOf (was times) (was values) (was marks) (was ends))) (was out)) ⌝ }
 {
     let mut t = BEFORE_ALL;
     let mut count: usize = 0;

@@ -4,6 +4,7 @@ use sdf::part::clip_begin;
 use sdf::part::clip_end;
 use window::Bound;
 ghost use mathlib.Core.Path.{_≡_};
+ghost use Rattle.definitions.specs.Moments.{was};
 ghost use Rattle.stage.specs.First.{zeroOf, withZero};
 ghost use Rattle.stage.specs.Zeros.{anyMinusZero, samplesAtZero, minusGathered, Sampled};
 
@@ -11,7 +12,7 @@ ghost use Rattle.stage.specs.Zeros.{anyMinusZero, samplesAtZero, minusGa
 const MINUS_ZERO: u64 = 0x7fff_ffff_ffff_ffff;
 
 fn has_minus_zero(xs: &[f64]) -> bool
-    ensures { λ r. ⌜ r ≡ anyMinusZero (now (xs .entry)) ⌝ }
+    ensures { λ r. ⌜ r ≡ anyMinusZero (was xs) ⌝ }
 {
     let mut i: usize = 0;
     while i < xs.len() {
@@ -26,7 +27,7 @@ fn has_minus_zero(xs: &[f64]) -> bool
 // Whether the clip that is active at zero has a sample at -0.0.
 fn is_sampled(starts: &[f64], clips: &[u64], times: &[f64], ends: &[u64]) -> bool
     requires { ⌜ Sampled (now starts) (now clips) (now times) (now ends) ⌝ }
-    ensures { λ r. ⌜ r ≡ anyMinusZero (samplesAtZero (now (starts .entry)) (now (clips .entry)) (now (times .entry)) (now (ends .entry))) ⌝ }
+    ensures { λ r. ⌜ r ≡ anyMinusZero (samplesAtZero (was starts) (was clips) (was times) (was ends)) ⌝ }
 {
     let p = lists::last_at_most(starts, -0.0);
     let clip = clips[p];
@@ -38,7 +39,7 @@ fn is_sampled(starts: &[f64], clips: &[u64], times: &[f64], ends: &[u64]) -> boo
 // Whether -0.0 is gathered. An inverse time is -0.0 only if its first knot is, so the inverse times need no look; with no knots they are the samples.
 fn is_minus(starts: &[f64], clips: &[u64], xs: &[f64], times: &[f64], ends: &[u64]) -> bool
     requires { ⌜ Sampled (now starts) (now clips) (now times) (now ends) ⌝ }
-    ensures { λ r. ⌜ r ≡ minusGathered (now (starts .entry)) (now (clips .entry)) (now (xs .entry)) (now (times .entry)) (now (ends .entry)) ⌝ }
+    ensures { λ r. ⌜ r ≡ minusGathered (was starts) (was clips) (was xs) (was times) (was ends) ⌝ }
 {
     if has_minus_zero(starts) {
         return true;
@@ -62,7 +63,7 @@ pub fn with_zero(
     time: Bound,
 ) -> Bound
     requires { ⌜ Sampled (now starts) (now clips) (now times) (now ends) ⌝ }
-    ensures { λ r. ⌜ r ≡ withZero (zeroOf (minusGathered (now (starts .entry)) (now (clips .entry)) (now (xs .entry)) (now (times .entry)) (now (ends .entry)))) time ⌝ }
+    ensures { λ r. ⌜ r ≡ withZero (zeroOf (minusGathered (was starts) (was clips) (was xs) (was times) (was ends))) time ⌝ }
 {
     if let Bound::At(h) = time {
         if h == 0.0 {

@@ -4,6 +4,7 @@ pub mod questions;
 use clip::ClipSet;
 use clip::storage;
 use definitions::Missing;
+ghost use Rattle.definitions.specs.Moments.{was};
 ghost use Rattle.clip.specs.Holding.{ArraysWhole};
 ghost use Rattle.standing.specs.Standing.{Arrays, lentSet, Installed, Packed};
 
@@ -80,7 +81,7 @@ pub fn packed<'a>(
     m: Missing,
 ) -> ClipSet
     requires { ⌜ Arrays counts (now starts) (now numbers) (now xs) (now ys) (now blocks) ⌝ }
-    ensures { λ r. ⌜ Packed (lentSet clips counts (now (starts .entry)) (now (numbers .entry)) (now (xs .entry)) (now (ys .entry)) (now (blocks .entry)) m) r ⌝ }
+    ensures { λ r. ⌜ Packed (lentSet clips counts (was starts) (was numbers) (was xs) (was ys) (was blocks) m) r ⌝ }
 {
     let n = counts.starts;
     let k = counts.knots;

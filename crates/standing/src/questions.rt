@@ -16,6 +16,7 @@ ghost use Rattle.definitions.specs.ClipSet.{maxActive, maxKnots};
 ghost use Rattle.definitions.specs.StageSamples.{stageSampleTimes, stageSamples, untimedAnswer};
 ghost use Rattle.definitions.specs.Timing.{activeEntry, clipOf, mapStageToClip};
 ghost use Rattle.definitions.specs.Value.{valueInSet};
+ghost use Rattle.definitions.specs.Moments.{was, after};
 ghost use Rattle.laws.specs.list.Places.{Ascending};
 ghost use Rattle.laws.specs.cell.Lent.{activeOf, knotsOf, samplesOf};
 ghost use Rattle.clip.specs.Holding.{Room};
@@ -32,7 +33,7 @@ pub enum ActiveClip {
 // The clip of the last start at or before t, of the first start if there is none: the Rust's `active_entry`.
 pub fn active_clip<'a>(starts: &'a [f64], numbers: &'a [u64], n: usize, t: StageTime) -> ActiveClip
     requires { ⌜ Room maxActive (now starts) n ⌝ ∗ ⌜ Room maxActive (now numbers) n ⌝ ∗ ⌜ Ascending (take n (now starts)) ⌝ }
-    ensures { λ r. ⌜ r ≡ answered (clipOf (activeEntry (activeOf (take n (now (starts .entry))) (take n (now (numbers .entry)))) t)) ⌝ }
+    ensures { λ r. ⌜ r ≡ answered (clipOf (activeEntry (activeOf (take n (was starts)) (take n (was numbers))) t)) ⌝ }
 {
     if n == 0 {
         return ActiveClip::NoClip;
@@ -44,7 +45,7 @@ pub fn active_clip<'a>(starts: &'a [f64], numbers: &'a [u64], n: usize, t: Stage
 // The knot mapping alone turns a stage time into a clip time.
 pub fn map_stage_to_clip<'a>(xs: &'a [f64], ys: &'a [f64], n: usize, t: StageTime) -> ClipTime
     requires { ⌜ Room maxKnots (now xs) n ⌝ ∗ ⌜ Room maxKnots (now ys) n ⌝ ∗ ⌜ Ascending (take n (now xs)) ⌝ }
-    ensures { λ r. ⌜ r ≡ mapStageToClip (knotsOf (take n (now (xs .entry))) (take n (now (ys .entry)))) t ⌝ }
+    ensures { λ r. ⌜ r ≡ mapStageToClip (knotsOf (take n (was xs)) (take n (was ys))) t ⌝ }
 {
     lists::map_time(&xs[..n], &ys[..n], t)
 }
@@ -65,7 +66,7 @@ pub fn value<'a>(
     t: StageTime,
 ) -> Answer
     requires { ⌜ Asked counts (now starts) (now numbers) (now xs) (now ys) (now blocks) m (now times) (now values) (now marks) (now ends) ⌝ ∗ ⌜ T (finite (t .0)) ⌝ }
-    ensures { λ r. ⌜ r ≡ valueInSet (lentSet (length (now (ends .entry))) counts (now (starts .entry)) (now (numbers .entry)) (now (xs .entry)) (now (ys .entry)) (now (blocks .entry)) m) (samplesOf (now (times .entry)) (now (values .entry)) (now (marks .entry)) (now (ends .entry))) t ⌝ }
+    ensures { λ r. ⌜ r ≡ valueInSet (lentSet (length (was ends)) counts (was starts) (was numbers) (was xs) (was ys) (was blocks) m) (samplesOf (was times) (was values) (was marks) (was ends)) t ⌝ }
 {
     let n = counts.starts;
     let k = counts.knots;
@@ -100,7 +101,7 @@ pub fn untimed<'a>(
     ends: &[u64],
 ) -> ValueState
     requires { ⌜ Asked counts (now starts) (now numbers) (now xs) (now ys) (now blocks) m (now times) (now values) (now marks) (now ends) ⌝ }
-    ensures { λ r. ⌜ stateIs r ≡ untimedAnswer (lentSet (length (now (ends .entry))) counts (now (starts .entry)) (now (numbers .entry)) (now (xs .entry)) (now (ys .entry)) (now (blocks .entry)) m) (samplesOf (now (times .entry)) (now (values .entry)) (now (marks .entry)) (now (ends .entry))) ⌝ }
+    ensures { λ r. ⌜ stateIs r ≡ untimedAnswer (lentSet (length (was ends)) counts (was starts) (was numbers) (was xs) (was ys) (was blocks) m) (samplesOf (was times) (was values) (was marks) (was ends)) ⌝ }
 {
     let n = counts.starts;
     let k = counts.knots;
@@ -137,7 +138,7 @@ pub fn bake<'a>(
     outmarks: &mut [u8],
 ) -> Baked
     requires { ⌜ Asked counts (now starts) (now numbers) (now xs) (now ys) (now blocks) m (now times) (now values) (now marks) (now ends) ⌝ }
-    ensures { λ r. ⌜ BakeIs (lentSet (length (now (ends .entry))) counts (now (starts .entry)) (now (numbers .entry)) (now (xs .entry)) (now (ys .entry)) (now (blocks .entry)) m) (samplesOf (now (times .entry)) (now (values .entry)) (now (marks .entry)) (now (ends .entry))) (outputs (now (outtimes .entry)) (now (outvalues .entry)) (now (outmarks .entry))) (outputs (now (outtimes .exit)) (now (outvalues .exit)) (now (outmarks .exit))) r ⌝ }
+    ensures { λ r. ⌜ BakeIs (lentSet (length (was ends)) counts (was starts) (was numbers) (was xs) (was ys) (was blocks) m) (samplesOf (was times) (was values) (was marks) (was ends)) (outputs (was outtimes) (was outvalues) (was outmarks)) (outputs (after outtimes) (after outvalues) (after outmarks)) r ⌝ }
 {
     let n = counts.starts;
     let k = counts.knots;
@@ -175,7 +176,7 @@ pub fn stage_sample_times<'a>(
     out: &mut [f64],
 ) -> Counted
     requires { ⌜ Asked counts (now starts) (now numbers) (now xs) (now ys) (now blocks) m (now times) (now values) (now marks) (now ends) ⌝ }
-    ensures { λ r. ⌜ ListsTimes (stageSampleTimes (lentSet (length (now (ends .entry))) counts (now (starts .entry)) (now (numbers .entry)) (now (xs .entry)) (now (ys .entry)) (now (blocks .entry)) m) (samplesOf (now (times .entry)) (now (values .entry)) (now (marks .entry)) (now (ends .entry)))) (now (out .entry)) (now (out .exit)) r ⌝ }
+    ensures { λ r. ⌜ ListsTimes (stageSampleTimes (lentSet (length (was ends)) counts (was starts) (was numbers) (was xs) (was ys) (was blocks) m) (samplesOf (was times) (was values) (was marks) (was ends))) (was out) (after out) r ⌝ }
 {
     let n = counts.starts;
     let k = counts.knots;
@@ -213,7 +214,7 @@ pub fn stage_samples<'a>(
     outmarks: &mut [u8],
 ) -> Counted
     requires { ⌜ Asked counts (now starts) (now numbers) (now xs) (now ys) (now blocks) m (now times) (now values) (now marks) (now ends) ⌝ }
-    ensures { λ r. ⌜ ListsSamples (stageSamples (lentSet (length (now (ends .entry))) counts (now (starts .entry)) (now (numbers .entry)) (now (xs .entry)) (now (ys .entry)) (now (blocks .entry)) m) (samplesOf (now (times .entry)) (now (values .entry)) (now (marks .entry)) (now (ends .entry)))) (now (outtimes .entry)) (now (outtimes .exit)) (now (outmarks .entry)) (now (outmarks .exit)) r ⌝ }
+    ensures { λ r. ⌜ ListsSamples (stageSamples (lentSet (length (was ends)) counts (was starts) (was numbers) (was xs) (was ys) (was blocks) m) (samplesOf (was times) (was values) (was marks) (was ends))) (was outtimes) (after outtimes) (was outmarks) (after outmarks) r ⌝ }
 {
     let n = counts.starts;
     let k = counts.knots;

@@ -19,6 +19,7 @@ use track::bake::Baked;
 use value::untimed::ValueState;
 ghost use mathlib.Core.Path.{_≡_};
 ghost use Rattle.definitions.specs.Track.{readTrack};
+ghost use Rattle.definitions.specs.Moments.{was, after};
 ghost use Rattle.laws.specs.cell.Lent.{samplesOf};
 ghost use Rattle.clip.specs.Holding.{manifest};
 ghost use Rattle.explicit.specs.Parsing.{explicitFields};
@@ -168,7 +169,7 @@ pub extern "C" fn tavitrozy_accept(
     interpolate: bool,
 ) -> Accepted
     requires { ⌜ Made resolver ⌝ }
-    ensures { λ r. ⌜ Accepts resolver (explicitFields clips (now (starts .entry)) (now (numbers .entry)) (now (xs .entry)) (now (ys .entry)) (now (blocks .entry)) (manifest fallback interpolate)) r ⌝ }
+    ensures { λ r. ⌜ Accepts resolver (explicitFields clips (was starts) (was numbers) (was xs) (was ys) (was blocks) (manifest fallback interpolate)) r ⌝ }
 {
     resolver.accept(
         clips,
@@ -193,7 +194,7 @@ pub extern "C" fn tavitrozy_accept_template(
     interpolate: bool,
 ) -> Accepted
     requires { ⌜ Made resolver ⌝ }
-    ensures { λ r. ⌜ Expands resolver (templateFields (now (pattern .entry)) times offset (now (blocks .entry)) (manifest fallback interpolate)) r ⌝ }
+    ensures { λ r. ⌜ Expands resolver (templateFields (was pattern) times offset (was blocks) (manifest fallback interpolate)) r ⌝ }
 {
     resolver.accept_template(pattern, times, offset, blocks, fallback, interpolate)
 }
@@ -232,7 +233,7 @@ pub extern "C" fn tavitrozy_value(
     time: StageTime,
 ) -> ValueCode
     requires { ⌜ Made resolver ⌝ }
-    ensures { λ a. ⌜ TellsValue resolver (samplesOf (now (times .entry)) (now (values .entry)) (now (marks .entry)) (now (ends .entry))) time a ⌝ }
+    ensures { λ a. ⌜ TellsValue resolver (samplesOf (was times) (was values) (was marks) (was ends)) time a ⌝ }
 {
     value_code(resolver.value(times, values, marks, ends, time))
 }
@@ -246,7 +247,7 @@ pub extern "C" fn tavitrozy_untimed(
     ends: &[u64],
 ) -> UntimedCode
     requires { ⌜ Made resolver ⌝ }
-    ensures { λ a. ⌜ TellsUntimed resolver (samplesOf (now (times .entry)) (now (values .entry)) (now (marks .entry)) (now (ends .entry))) a ⌝ }
+    ensures { λ a. ⌜ TellsUntimed resolver (samplesOf (was times) (was values) (was marks) (was ends)) a ⌝ }
 {
     untimed_code(resolver.untimed(times, values, marks, ends))
 }
@@ -261,7 +262,7 @@ pub extern "C" fn tavitrozy_stage_sample_times(
     out: &mut [f64],
 ) -> Counted
     requires { ⌜ Made resolver ⌝ }
-    ensures { λ r. ⌜ TellsTimes resolver (samplesOf (now (times .entry)) (now (values .entry)) (now (marks .entry)) (now (ends .entry))) (now (out .entry)) (now (out .exit)) r ⌝ }
+    ensures { λ r. ⌜ TellsTimes resolver (samplesOf (was times) (was values) (was marks) (was ends)) (was out) (after out) r ⌝ }
 {
     resolver.stage_sample_times(times, values, marks, ends, out)
 }
@@ -277,7 +278,7 @@ pub extern "C" fn tavitrozy_stage_samples(
     outmarks: &mut [u8],
 ) -> Counted
     requires { ⌜ Made resolver ⌝ }
-    ensures { λ r. ⌜ TellsSamples resolver (samplesOf (now (times .entry)) (now (values .entry)) (now (marks .entry)) (now (ends .entry))) (now (outtimes .entry)) (now (outtimes .exit)) (now (outmarks .entry)) (now (outmarks .exit)) r ⌝ }
+    ensures { λ r. ⌜ TellsSamples resolver (samplesOf (was times) (was values) (was marks) (was ends)) (was outtimes) (after outtimes) (was outmarks) (after outmarks) r ⌝ }
 {
     resolver.stage_samples(times, values, marks, ends, outtimes, outmarks)
 }
@@ -294,7 +295,7 @@ pub extern "C" fn tavitrozy_bake(
     outmarks: &mut [u8],
 ) -> Baked
     requires { ⌜ Made resolver ⌝ }
-    ensures { λ r. ⌜ BakesTrack resolver (samplesOf (now (times .entry)) (now (values .entry)) (now (marks .entry)) (now (ends .entry))) (outputs (now (outtimes .entry)) (now (outvalues .entry)) (now (outmarks .entry))) (bakedReply r) (outputs (now (outtimes .exit)) (now (outvalues .exit)) (now (outmarks .exit))) ⌝ }
+    ensures { λ r. ⌜ BakesTrack resolver (samplesOf (was times) (was values) (was marks) (was ends)) (outputs (was outtimes) (was outvalues) (was outmarks)) (bakedReply r) (outputs (after outtimes) (after outvalues) (after outmarks)) ⌝ }
 {
     resolver.bake(times, values, marks, ends, outtimes, outvalues, outmarks)
 }
@@ -307,7 +308,7 @@ pub extern "C" fn tavitrozy_read(
     marks: &[u8],
     time: StageTime,
 ) -> Entry
-    ensures { λ r. ⌜ entryIs r ≡ readTrack (trackOfLists (head .value) (head .mark) (now (times .entry)) (now (values .entry)) (now (marks .entry))) (time .0) ⌝ }
+    ensures { λ r. ⌜ entryIs r ≡ readTrack (trackOfLists (head .value) (head .mark) (was times) (was values) (was marks)) (time .0) ⌝ }
 {
     track::held::read_held(head.mark, head.value, times, values, marks, time.0)
 }
@@ -330,7 +331,7 @@ fn name_code(r: Named) -> Counted
 
 #[no_mangle]
 pub extern "C" fn tavitrozy_name(pattern: &[u8], time: ClipTime, out: &mut [u8]) -> Counted
-    ensures { λ a. ⌜ SaysName (now (pattern .entry)) time (now (out .entry)) (now (out .exit)) a ⌝ }
+    ensures { λ a. ⌜ SaysName (was pattern) time (was out) (after out) a ⌝ }
 {
     name_code(names::name(pattern, time, out))
 }
@@ -344,7 +345,7 @@ pub extern "C" fn tavitrozy_normalize(
     outvalues: &mut [f64],
     outmarks: &mut [u8],
 ) -> Counted
-    ensures { λ r. ⌜ Normalizes (now (times .entry)) (now (values .entry)) (now (marks .entry)) (outputs (now (outtimes .entry)) (now (outvalues .entry)) (now (outmarks .entry))) (outputs (now (outtimes .exit)) (now (outvalues .exit)) (now (outmarks .exit))) r ⌝ }
+    ensures { λ r. ⌜ Normalizes (was times) (was values) (was marks) (outputs (was outtimes) (was outvalues) (was outmarks)) (outputs (after outtimes) (after outvalues) (after outmarks)) r ⌝ }
 {
     normal_form::normalize_time_samples(times, values, marks, outtimes, outvalues, outmarks)
 }

@@ -9,6 +9,7 @@ ghost use mathlib.Core.List.{map};
 ghost use Prim.Native.Nat.{_≤_, _+_};
 ghost use lib.ListN.{length};
 ghost use Rattle.definitions.specs.Template.{stageTime};
+ghost use Rattle.definitions.specs.Moments.{was, after};
 ghost use Rattle.clip.specs.Storing.{Stores};
 ghost use Rattle.template.specs.Expanding.{offsetOf, Promotes, timesOfClips, bounded, knotXs, knotCount, numbered, RoomForLists, expandedSet};
 
@@ -54,7 +55,7 @@ fn stage_time(t: f64, times: TemplateTimes, offset: bool) -> f64
 
 fn write_starts(ts: &[f64], times: TemplateTimes, offset: bool, to: &mut [f64])
     requires { ⌜ length (now to) ≡ length (now ts) ⌝ }
-    ensures { λ _. ⌜ now (to .exit) ≡ map (stageTime (offsetOf times offset)) (now (ts .entry)) ⌝ }
+    ensures { λ _. ⌜ after to ≡ map (stageTime (offsetOf times offset)) (was ts) ⌝ }
 {
     let mut i: usize = 0;
     while i < ts.len() {
@@ -65,7 +66,7 @@ fn write_starts(ts: &[f64], times: TemplateTimes, offset: bool, to: &mut [f64])
 
 // The clips are numbered in order.
 fn write_numbers(to: &mut [u64])
-    ensures { λ _. ⌜ now (to .exit) ≡ numbered 0 (now (to .entry)) ⌝ }
+    ensures { λ _. ⌜ after to ≡ numbered 0 (was to) ⌝ }
 {
     let mut i: usize = 0;
     while i < to.len() {
@@ -76,7 +77,7 @@ fn write_numbers(to: &mut [u64])
 
 fn write_clip_times(ts: &[f64], to: &mut [f64])
     requires { ⌜ length (now to) ≡ length (now ts) ⌝ }
-    ensures { λ _. ⌜ now (to .exit) ≡ timesOfClips (now (ts .entry)) ⌝ }
+    ensures { λ _. ⌜ after to ≡ timesOfClips (was ts) ⌝ }
 {
     let mut i: usize = 0;
     while i < ts.len() {
@@ -97,7 +98,7 @@ pub fn knot_count(clips: usize, offset: bool) -> usize
 
 fn write_bounded(ts: &[f64], first: f64, last: f64, xs: &mut [f64])
     requires { ⌜ length (now xs) ≡ length (now ts) + 2 ⌝ }
-    ensures { λ _. ⌜ now (xs .exit) ≡ bounded first last (now (ts .entry)) ⌝ }
+    ensures { λ _. ⌜ after xs ≡ bounded first last (was ts) ⌝ }
 {
     let end = ts.len() + 1;
     write_clip_times(ts, &mut xs[1..end]);
@@ -108,7 +109,7 @@ fn write_bounded(ts: &[f64], first: f64, last: f64, xs: &mut [f64])
 // A knot for each clip; with an offset one before and one behind them.
 fn write_knots(ts: &[f64], times: TemplateTimes, offset: bool, xs: &mut [f64])
     requires { ⌜ length (now xs) ≡ knotCount offset (length (now ts)) ⌝ }
-    ensures { λ _. ⌜ now (xs .exit) ≡ knotXs times (offsetOf times offset) (now (ts .entry)) ⌝ }
+    ensures { λ _. ⌜ after xs ≡ knotXs times (offsetOf times offset) (was ts) ⌝ }
 {
     if offset {
         let slack = gf::magnitude::abs(times.offset);
@@ -130,7 +131,7 @@ pub fn expand_lists(
     ys: &mut [f64],
 ) -> Prepared
     requires { ⌜ RoomForLists offset (now ts) (now starts) (now numbers) (now xs) (now ys) (now blocks) ⌝ }
-    ensures { λ r. ⌜ Stores (expandedSet (now (ts .entry)) times (offsetOf times offset) (now (blocks .entry)) manifest) r ⌝ }
+    ensures { λ r. ⌜ Stores (expandedSet (was ts) times (offsetOf times offset) (was blocks) manifest) r ⌝ }
 {
     write_starts(ts, times, offset, starts);
     write_numbers(numbers);

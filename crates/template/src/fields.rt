@@ -3,6 +3,7 @@ use clip::storing;
 use definitions::Missing;
 use definitions::TemplateTimes;
 ghost use mathlib.Core.Path.{_≡_};
+ghost use Rattle.definitions.specs.Moments.{was};
 ghost use Rattle.template.specs.Expanding.{offsetOf, timesUnstorable, timesDisordered, templateFields, templateFieldsNumber};
 
 // 2 of the four numbers. An absent offset's slot is not looked at.
@@ -48,7 +49,7 @@ pub fn fields_number(
     blocks: &[f64],
     manifest: Missing,
 ) -> u8
-    ensures { λ r. ⌜ r ≡ templateFieldsNumber (templateFields (now (template .entry)) times offset (now (blocks .entry)) manifest) ⌝ }
+    ensures { λ r. ⌜ r ≡ templateFieldsNumber (templateFields (was template) times offset (was blocks) manifest) ⌝ }
 {
     if 255 < template.len() {
         return 1;

@@ -8,6 +8,7 @@ use clip::storing;
 use definitions::Default;
 use definitions::Missing;
 use definitions::TemplateTimes;
+ghost use Rattle.definitions.specs.Moments.{was};
 ghost use Rattle.clip.specs.Holding.{manifest};
 ghost use Rattle.template.specs.Expanding.{templateFields, Expands};
 
@@ -20,7 +21,7 @@ pub fn expand_template(
     default: Default,
     interpolate: bool,
 ) -> Prepared
-    ensures { λ r. ⌜ Expands (templateFields (now (template .entry)) times offset (now (blocks .entry)) (manifest default interpolate)) r ⌝ }
+    ensures { λ r. ⌜ Expands (templateFields (was template) times offset (was blocks) (manifest default interpolate)) r ⌝ }
 {
     let manifest = Missing {
         default,

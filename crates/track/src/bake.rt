@@ -17,6 +17,7 @@ ghost use lib.ListN.{length};
 ghost use Rattle.gf.specs.Doubles.{0·0};
 ghost use Rattle.gf.specs.Key as Key;
 ghost use Rattle.definitions.specs.Track.{slots};
+ghost use Rattle.definitions.specs.Moments.{was, after};
 ghost use Rattle.laws.specs.cell.Lent.{setOf, samplesOf, AcceptedLists};
 ghost use Rattle.window.specs.neighbours.Latest.{LatestOf};
 ghost use Rattle.run.specs.Walks.{Room};
@@ -43,7 +44,7 @@ fn write_page(
     outmarks: &mut [u8],
 )
     requires { ⌜ Room n 0 (outputs (now pagetimes) (now pagevalues) (now pagemarks)) ⌝ ∗ ⌜ Room n 0 (outputs (now outtimes) (now outvalues) (now outmarks)) ⌝ }
-    ensures { λ _. ⌜ outputs (now (outtimes .exit)) (now (outvalues .exit)) (now (outmarks .exit)) ≡ copied n (outputs (now (pagetimes .entry)) (now (pagevalues .entry)) (now (pagemarks .entry))) (outputs (now (outtimes .entry)) (now (outvalues .entry)) (now (outmarks .entry))) ⌝ }
+    ensures { λ _. ⌜ outputs (after outtimes) (after outvalues) (after outmarks) ≡ copied n (outputs (was pagetimes) (was pagevalues) (was pagemarks)) (outputs (was outtimes) (was outvalues) (was outmarks)) ⌝ }
 {
     copy(&pagetimes[..n], &mut outtimes[..n]);
     copy(&pagevalues[..n], &mut outvalues[..n]);
@@ -87,7 +88,7 @@ fn bake_by_pages(
     requires { ⌜ LatestOf (now xs) (now ys) (now latest) ⌝ }
     requires { ⌜ CursorIs (now starts) (now clips) (now xs) (now ys) (now blocks) m (now times) (now values) (now marks) (now ends) Key.most from ⌝ ∗ ⌜ from .key ≡ Key.least ⌝ }
     requires { ⌜ 0 < slots (outputs (now pagetimes) (now pagevalues) (now pagemarks)) ⌝ }
-    ensures { λ r. ⌜ BakeIs (setOf (length (now (ends .entry))) (now (starts .entry)) (now (clips .entry)) (now (xs .entry)) (now (ys .entry)) (now (blocks .entry)) m) (samplesOf (now (times .entry)) (now (values .entry)) (now (marks .entry)) (now (ends .entry))) (outputs (now (outtimes .entry)) (now (outvalues .entry)) (now (outmarks .entry))) (outputs (now (outtimes .exit)) (now (outvalues .exit)) (now (outmarks .exit))) r ⌝ }
+    ensures { λ r. ⌜ BakeIs (setOf (length (was ends)) (was starts) (was clips) (was xs) (was ys) (was blocks) m) (samplesOf (was times) (was values) (was marks) (was ends)) (outputs (was outtimes) (was outvalues) (was outmarks)) (outputs (after outtimes) (after outvalues) (after outmarks)) r ⌝ }
 {
     let room = shortest(outtimes.len(), outvalues.len(), outmarks.len());
     let head = from.last;
@@ -195,7 +196,7 @@ pub fn bake(
     outmarks: &mut [u8],
 ) -> Baked
     requires { ⌜ AcceptedLists (now starts) (now clips) (now xs) (now ys) (now blocks) m (now times) (now values) (now marks) (now ends) ⌝ }
-    ensures { λ r. ⌜ BakeIs (setOf (length (now (ends .entry))) (now (starts .entry)) (now (clips .entry)) (now (xs .entry)) (now (ys .entry)) (now (blocks .entry)) m) (samplesOf (now (times .entry)) (now (values .entry)) (now (marks .entry)) (now (ends .entry))) (outputs (now (outtimes .entry)) (now (outvalues .entry)) (now (outmarks .entry))) (outputs (now (outtimes .exit)) (now (outvalues .exit)) (now (outmarks .exit))) r ⌝ }
+    ensures { λ r. ⌜ BakeIs (setOf (length (was ends)) (was starts) (was clips) (was xs) (was ys) (was blocks) m) (samplesOf (was times) (was values) (was marks) (was ends)) (outputs (was outtimes) (was outvalues) (was outmarks)) (outputs (after outtimes) (after outvalues) (after outmarks)) r ⌝ }
 {
     let head = entry_at(
         starts,

@@ -7,6 +7,7 @@ ghost use mathlib.Core.Path.{_≡_};
 ghost use Prim.Native.Nat.{_≤_};
 ghost use lib.ListN.{length};
 ghost use Rattle.gf.specs.Key as Key;
+ghost use Rattle.definitions.specs.Moments.{was};
 ghost use Rattle.laws.specs.cell.Keys.{entryAtKey};
 ghost use Rattle.laws.specs.cell.Lent.{setOf, samplesOf, AcceptedLists};
 ghost use Rattle.cell.specs.step.Entries.{entryIs};
@@ -27,7 +28,7 @@ pub fn entry_at(
 ) -> Entry
     requires { ⌜ AcceptedLists (now starts) (now clips) (now xs) (now ys) (now blocks) m (now times) (now values) (now marks) (now ends) ⌝ }
     requires { ⌜ (Key.least ≤ k) × (k ≤ Key.most) ⌝ }
-    ensures { λ r. ⌜ entryIs r ≡ entryAtKey (setOf (length (now (ends .entry))) (now (starts .entry)) (now (clips .entry)) (now (xs .entry)) (now (ys .entry)) (now (blocks .entry)) m) (samplesOf (now (times .entry)) (now (values .entry)) (now (marks .entry)) (now (ends .entry))) k ⌝ }
+    ensures { λ r. ⌜ entryIs r ≡ entryAtKey (setOf (length (was ends)) (was starts) (was clips) (was xs) (was ys) (was blocks) m) (samplesOf (was times) (was values) (was marks) (was ends)) k ⌝ }
 {
     let t = gf::of_key(k);
     entry_of(value::value::value_in_set(

@@ -7,6 +7,7 @@ use definitions::Missing;
 use run::walk::offer;
 ghost use mathlib.Core.Path.{_≡_};
 ghost use Prim.Native.Nat.{min};
+ghost use Rattle.definitions.specs.Moments.{was, after};
 ghost use Rattle.laws.specs.cell.Lent.{AcceptedLists};
 ghost use Rattle.window.specs.neighbours.Latest.{LatestOf};
 ghost use Rattle.run.specs.Walks.{outputs};
@@ -64,7 +65,7 @@ pub fn fill(
     requires { ⌜ AcceptedLists (now starts) (now clips) (now xs) (now ys) (now blocks) m (now times) (now values) (now marks) (now ends) ⌝ }
     requires { ⌜ LatestOf (now xs) (now ys) (now latest) ⌝ }
     requires { ⌜ CursorIs (now starts) (now clips) (now xs) (now ys) (now blocks) m (now times) (now values) (now marks) (now ends) top from ⌝ }
-    ensures { λ r. ⌜ FillIs (now (starts .entry)) (now (clips .entry)) (now (xs .entry)) (now (ys .entry)) (now (blocks .entry)) m (now (times .entry)) (now (values .entry)) (now (marks .entry)) (now (ends .entry)) (from .key) top (outputs (now (outtimes .entry)) (now (outvalues .entry)) (now (outmarks .entry))) (outputs (now (outtimes .exit)) (now (outvalues .exit)) (now (outmarks .exit))) r ⌝ }
+    ensures { λ r. ⌜ FillIs (was starts) (was clips) (was xs) (was ys) (was blocks) m (was times) (was values) (was marks) (was ends) (from .key) top (outputs (was outtimes) (was outvalues) (was outmarks)) (outputs (after outtimes) (after outvalues) (after outmarks)) r ⌝ }
 {
     let room = shortest(outtimes.len(), outvalues.len(), outmarks.len());
     let mut at = from.key;

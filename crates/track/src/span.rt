@@ -31,6 +31,7 @@ ghost use mathlib.Core.Path.{_≡_};
 ghost use Prim.Native.Nat.{_<_};
 ghost use lib.ListN.{length};
 ghost use Rattle.gf.specs.Key.{ofKey};
+ghost use Rattle.definitions.specs.Moments.{was};
 ghost use Rattle.laws.specs.cell.Keys.{Keys};
 ghost use Rattle.laws.specs.cell.Lent.{AcceptedLists};
 ghost use Rattle.window.specs.neighbours.Latest.{LatestOf};
@@ -71,7 +72,7 @@ fn read_on(
 ) -> Source
     requires { ⌜ Keys k hi ⌝ }
     requires { ⌜ Runs (now times) (now values) (now marks) (now ends) cell k hi ⌝ }
-    ensures { λ r. ⌜ r ≡ readOn (now (times .entry)) (now (ends .entry)) cell k ⌝ }
+    ensures { λ r. ⌜ r ≡ readOn (was times) (was ends) cell k ⌝ }
 {
     match cell {
         Cell::Constant(source) => source,
@@ -104,7 +105,7 @@ fn cell_step(
     requires { ⌜ LatestOf (now xs) (now ys) (now latest) ⌝ }
     requires { ⌜ PlaceAt (now starts) (now clips) (now xs) (now ys) (now blocks) m (now times) (now values) (now marks) (now ends) (ofKey k) (at .start) (at .window) ⌝ }
     requires { ⌜ Keys k top ⌝ }
-    ensures { λ r. ⌜ StepIs (now (starts .entry)) (now (clips .entry)) (now (xs .entry)) (now (ys .entry)) (now (blocks .entry)) m (now (times .entry)) (now (values .entry)) (now (marks .entry)) (now (ends .entry)) k top r ⌝ }
+    ensures { λ r. ⌜ StepIs (was starts) (was clips) (was xs) (was ys) (was blocks) m (was times) (was values) (was marks) (was ends) k top r ⌝ }
 {
     let t = gf::of_key(k);
     let piece = cell_at(
@@ -164,7 +165,7 @@ fn knotless_step(
     requires { ⌜ Keys k top ⌝ }
     requires { ⌜ length (now xs) ≡ 0 ⌝ }
     requires { ⌜ 1 < length (now starts) ⌝ }
-    ensures { λ r. ⌜ StepIs (now (starts .entry)) (now (clips .entry)) (now (xs .entry)) (now (ys .entry)) (now (blocks .entry)) m (now (times .entry)) (now (values .entry)) (now (marks .entry)) (now (ends .entry)) k top r ⌝ }
+    ensures { λ r. ⌜ StepIs (was starts) (was clips) (was xs) (was ys) (was blocks) m (was times) (was values) (was marks) (was ends) k top r ⌝ }
 {
     let w = at.window;
     let cell = knotless_cell(w);
@@ -204,7 +205,7 @@ fn run_step(
     requires { ⌜ 1 < length (now starts) ⌝ }
     requires { ⌜ at .window .begin < at .window .end ⌝ ∗ ⌜ Passes.Onset (now xs) (now ys) (now latest) (samplesIn (now times) (at .window)) (at .window) (ofKey k) i l h ⌝ }
     requires { ⌜ Keys k top ⌝ }
-    ensures { λ r. ⌜ StepIs (now (starts .entry)) (now (clips .entry)) (now (xs .entry)) (now (ys .entry)) (now (blocks .entry)) m (now (times .entry)) (now (values .entry)) (now (marks .entry)) (now (ends .entry)) k top r ⌝ }
+    ensures { λ r. ⌜ StepIs (was starts) (was clips) (was xs) (was ys) (was blocks) m (was times) (was values) (was marks) (was ends) k top r ⌝ }
 {
     let w = at.window;
     let s = segment_at(xs, ys, i);
@@ -250,7 +251,7 @@ pub fn span_at(
     requires { ⌜ LatestOf (now xs) (now ys) (now latest) ⌝ }
     requires { ⌜ PlaceIs (now starts) (now clips) (now xs) (now ys) (now blocks) m (now times) (now values) (now marks) (now ends) (place .start) (place .window) ⌝ }
     requires { ⌜ Keys k top ⌝ }
-    ensures { λ r. ⌜ StepIs (now (starts .entry)) (now (clips .entry)) (now (xs .entry)) (now (ys .entry)) (now (blocks .entry)) m (now (times .entry)) (now (values .entry)) (now (marks .entry)) (now (ends .entry)) k top r ⌝ }
+    ensures { λ r. ⌜ StepIs (was starts) (was clips) (was xs) (was ys) (was blocks) m (was times) (was values) (was marks) (was ends) k top r ⌝ }
 {
     let t = gf::of_key(k);
     let at = place_at(

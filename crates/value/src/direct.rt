@@ -14,6 +14,7 @@ ghost use lib.ListN.{length, getD, take, drop};
 ghost use lib.Ieee.{Float, nan, eq};
 ghost use Rattle.definitions.specs.Lists.{any};
 ghost use Rattle.definitions.specs.Value.{_orElse_, firstReading, manifestDefault, gapSource};
+ghost use Rattle.definitions.specs.Moments.{was};
 ghost use Rattle.laws.specs.cell.Lent.{start, activeOf, setOf, samplesOf, AcceptedLists};
 ghost use Rattle.window.specs.Parts.{Readable};
 ghost use Rattle.sdf.specs.look.Reads.{heldIs};
@@ -37,7 +38,7 @@ fn equal_found(block: f64, start: f64) -> u64
 
 // A manifest block equals this start. They are counted, and no count ends the loop, so that several are tested at once.
 pub fn blocked_at(blocks: &[f64], start: f64) -> bool
-    ensures { λ r. ⌜ r ≡ any (λ (b : Float). eq b start) (now (blocks .entry)) ⌝ }
+    ensures { λ r. ⌜ r ≡ any (λ (b : Float). eq b start) (was blocks) ⌝ }
 {
     let mut found: u64 = 0;
     let mut i: usize = 0;
@@ -50,7 +51,7 @@ pub fn blocked_at(blocks: &[f64], start: f64) -> bool
 
 // The clip of this start contributes its samples: blocks count only where the missing flag is on.
 pub fn contributes(blocks: &[f64], m: Missing, start: f64) -> bool
-    ensures { λ r. ⌜ r ≡ not (m .interpolate && any (λ (b : Float). eq b start) (now (blocks .entry))) ⌝ }
+    ensures { λ r. ⌜ r ≡ not (m .interpolate && any (λ (b : Float). eq b start) (was blocks)) ⌝ }
 {
     if m.interpolate {
         return !blocked_at(blocks, start);
@@ -71,7 +72,7 @@ pub fn read_clip(
 ) -> HeldPlace
     requires { ⌜ Readable (now xs) (now ys) (now times) (now ends) ⌝ ∗ ⌜ clip < length (now ends) ⌝ }
     requires { ⌜ length (now values) ≡ length (now times) ⌝ ∗ ⌜ length (now marks) ≡ length (now times) ⌝ }
-    ensures { λ r. ⌜ heldIs r ≡ heldPart (now (xs .entry)) (now (ys .entry)) (now (times .entry)) (now (values .entry)) (now (marks .entry)) (now (ends .entry)) clip t ⌝ }
+    ensures { λ r. ⌜ heldIs r ≡ heldPart (was xs) (was ys) (was times) (was values) (was marks) (was ends) clip t ⌝ }
 {
     let begin = clip_begin(ends, clip);
     let end = clip_end(ends, clip);
@@ -97,7 +98,7 @@ fn read_start(
     i: usize,
 ) -> Reading
     requires { ⌜ AcceptedLists (now starts) (now clips) (now xs) (now ys) (now blocks) m (now times) (now values) (now marks) (now ends) ⌝ ∗ ⌜ i < length (now starts) ⌝ }
-    ensures { λ r. ⌜ readingIs r ≡ readStart (setOf (length (now (ends .entry))) (now (starts .entry)) (now (clips .entry)) (now (xs .entry)) (now (ys .entry)) (now (blocks .entry)) m) (samplesOf (now (times .entry)) (now (values .entry)) (now (marks .entry)) (now (ends .entry))) (start (getD (now (starts .entry)) i nan) (getD (now (clips .entry)) i 0)) ⌝ }
+    ensures { λ r. ⌜ readingIs r ≡ readStart (setOf (length (was ends)) (was starts) (was clips) (was xs) (was ys) (was blocks) m) (samplesOf (was times) (was values) (was marks) (was ends)) (start (getD (was starts) i nan) (getD (was clips) i 0)) ⌝ }
 {
     let time = starts[i];
     if blocked_at(blocks, time) {
@@ -134,7 +135,7 @@ fn nearest_before(
     p: usize,
 ) -> Reading
     requires { ⌜ AcceptedLists (now starts) (now clips) (now xs) (now ys) (now blocks) m (now times) (now values) (now marks) (now ends) ⌝ ∗ ⌜ p ≤ length (now starts) ⌝ }
-    ensures { λ r. ⌜ readingIs r ≡ firstReading (setOf (length (now (ends .entry))) (now (starts .entry)) (now (clips .entry)) (now (xs .entry)) (now (ys .entry)) (now (blocks .entry)) m) (samplesOf (now (times .entry)) (now (values .entry)) (now (marks .entry)) (now (ends .entry))) (reverse (take p (activeOf (now (starts .entry)) (now (clips .entry))))) ⌝ }
+    ensures { λ r. ⌜ readingIs r ≡ firstReading (setOf (length (was ends)) (was starts) (was clips) (was xs) (was ys) (was blocks) m) (samplesOf (was times) (was values) (was marks) (was ends)) (reverse (take p (activeOf (was starts) (was clips)))) ⌝ }
 {
     let mut left = p;
     while left > 0 {
@@ -174,7 +175,7 @@ fn nearest_from(
     p: usize,
 ) -> Reading
     requires { ⌜ AcceptedLists (now starts) (now clips) (now xs) (now ys) (now blocks) m (now times) (now values) (now marks) (now ends) ⌝ ∗ ⌜ p ≤ length (now starts) ⌝ }
-    ensures { λ r. ⌜ readingIs r ≡ firstReading (setOf (length (now (ends .entry))) (now (starts .entry)) (now (clips .entry)) (now (xs .entry)) (now (ys .entry)) (now (blocks .entry)) m) (samplesOf (now (times .entry)) (now (values .entry)) (now (marks .entry)) (now (ends .entry))) (drop p (activeOf (now (starts .entry)) (now (clips .entry)))) ⌝ }
+    ensures { λ r. ⌜ readingIs r ≡ firstReading (setOf (length (was ends)) (was starts) (was clips) (was xs) (was ys) (was blocks) m) (samplesOf (was times) (was values) (was marks) (was ends)) (drop p (activeOf (was starts) (was clips))) ⌝ }
 {
     let mut i = p;
     while i < starts.len() {
@@ -214,7 +215,7 @@ pub fn interpolate_missing_value(
     p: usize,
 ) -> Source
     requires { ⌜ AcceptedLists (now starts) (now clips) (now xs) (now ys) (now blocks) m (now times) (now values) (now marks) (now ends) ⌝ ∗ ⌜ p < length (now starts) ⌝ }
-    ensures { λ r. ⌜ r ≡ (manifestDefault (setOf (length (now (ends .entry))) (now (starts .entry)) (now (clips .entry)) (now (xs .entry)) (now (ys .entry)) (now (blocks .entry)) m) orElse gapSource (setOf (length (now (ends .entry))) (now (starts .entry)) (now (clips .entry)) (now (xs .entry)) (now (ys .entry)) (now (blocks .entry)) m) (samplesOf (now (times .entry)) (now (values .entry)) (now (marks .entry)) (now (ends .entry))) p) ⌝ }
+    ensures { λ r. ⌜ r ≡ (manifestDefault (setOf (length (was ends)) (was starts) (was clips) (was xs) (was ys) (was blocks) m) orElse gapSource (setOf (length (was ends)) (was starts) (was clips) (was xs) (was ys) (was blocks) m) (samplesOf (was times) (was values) (was marks) (was ends)) p) ⌝ }
 {
     let default = m.default;
     if default.mark == 0 {

@@ -3,6 +3,7 @@
 ghost use mathlib.Core.Path.{_≡_};
 ghost use lib.ListN.{length};
 ghost use Rattle.definitions.specs.Value.{jump};
+ghost use Rattle.definitions.specs.Moments.{was};
 ghost use Rattle.laws.specs.list.Places.{Ascending};
 ghost use Rattle.laws.specs.cell.Lent.{knotsOf};
 
@@ -10,7 +11,7 @@ ghost use Rattle.laws.specs.cell.Lent.{knotsOf};
 // `knot`. The knot at `upper` counts, though a window ends before it.
 pub fn is_jump(xs: &[f64], ys: &[f64], lower: f64, upper: f64, knot: usize) -> bool
     requires { ⌜ Ascending (now xs) ⌝ ∗ ⌜ length (now xs) ≡ length (now ys) ⌝ }
-    ensures { λ r. ⌜ r ≡ jump (knotsOf (now (xs .entry)) (now (ys .entry))) lower upper ⌝ }
+    ensures { λ r. ⌜ r ≡ jump (knotsOf (was xs) (was ys)) lower upper ⌝ }
 {
     let mut i = lists::near::last_at_most_near(xs, upper, knot);
     while i > 0 {

@@ -8,6 +8,7 @@ ghost use Prim.Native.Nat.{ℕ, _<_};
 ghost use lib.ListN.{length};
 ghost use Rattle.definitions.specs.Lists.{any};
 ghost use Rattle.definitions.specs.StageSamples.{untimedAnswer};
+ghost use Rattle.definitions.specs.Moments.{was};
 ghost use Rattle.laws.specs.list.Every.{Every};
 ghost use Rattle.laws.specs.cell.Lent.{setOf, samplesOf, AcceptedLists};
 ghost use Rattle.value.specs.Untimed.{stateIs, hasSamples};
@@ -22,7 +23,7 @@ pub enum ValueState {
 // One of these clips has samples, blocks among them.
 fn any_samples(clips: &[u64], ends: &[u64]) -> bool
     requires { ⌜ Every (λ (c : ℕ). c < length (now ends)) (now clips) ⌝ }
-    ensures { λ r. ⌜ r ≡ any (hasSamples (now (ends .entry))) (now (clips .entry)) ⌝ }
+    ensures { λ r. ⌜ r ≡ any (hasSamples (was ends)) (was clips) ⌝ }
 {
     let mut i: usize = 0;
     while i < clips.len() {
@@ -49,7 +50,7 @@ pub fn untimed_answer_in_set(
     ends: &[u64],
 ) -> ValueState
     requires { ⌜ AcceptedLists (now starts) (now clips) (now xs) (now ys) (now blocks) m (now times) (now values) (now marks) (now ends) ⌝ }
-    ensures { λ r. ⌜ stateIs r ≡ untimedAnswer (setOf (length (now (ends .entry))) (now (starts .entry)) (now (clips .entry)) (now (xs .entry)) (now (ys .entry)) (now (blocks .entry)) m) (samplesOf (now (times .entry)) (now (values .entry)) (now (marks .entry)) (now (ends .entry))) ⌝ }
+    ensures { λ r. ⌜ stateIs r ≡ untimedAnswer (setOf (length (was ends)) (was starts) (was clips) (was xs) (was ys) (was blocks) m) (samplesOf (was times) (was values) (was marks) (was ends)) ⌝ }
 {
     if starts.len() == 0 {
         return ValueState::Absent;

@@ -17,6 +17,7 @@ ghost use lib.Dec.{T};
 ghost use lib.ListN.{length};
 ghost use lib.Ieee.Scale.{finite};
 ghost use Rattle.definitions.specs.Value.{valueSource, valueInSet};
+ghost use Rattle.definitions.specs.Moments.{was};
 ghost use Rattle.laws.specs.cell.Lent.{setOf, samplesOf, AcceptedLists};
 ghost use Rattle.value.specs.Answers.{answerIn, Answerable};
 ghost use Rattle.value.specs.Values.{Valued, ValueIn};
@@ -24,7 +25,7 @@ ghost use Rattle.value.specs.Values.{Valued, ValueIn};
 // What is read at the time `t` of a window: directly, or held from the lower neighbour.
 fn value_in(xs: &[f64], ys: &[f64], times: &[f64], w: Window, t: StageTime) -> Source
     requires { ⌜ Valued (now xs) (now ys) (now times) w (t .0) ⌝ }
-    ensures { λ r. ⌜ ValueIn (now (xs .entry)) (now (ys .entry)) (now (times .entry)) w (t .0) r ⌝ }
+    ensures { λ r. ⌜ ValueIn (was xs) (was ys) (was times) w (t .0) r ⌝ }
 {
     let begin = w.begin;
     let end = w.end;
@@ -61,7 +62,7 @@ pub fn value_source(
     t: StageTime,
 ) -> Source
     requires { ⌜ AcceptedLists (now starts) (now clips) (now xs) (now ys) (now blocks) m (now times) (now values) (now marks) (now ends) ⌝ ∗ ⌜ T (finite (t .0)) ⌝ }
-    ensures { λ r. ⌜ r ≡ valueSource (setOf (length (now (ends .entry))) (now (starts .entry)) (now (clips .entry)) (now (xs .entry)) (now (ys .entry)) (now (blocks .entry)) m) (samplesOf (now (times .entry)) (now (values .entry)) (now (marks .entry)) (now (ends .entry))) t ⌝ }
+    ensures { λ r. ⌜ r ≡ valueSource (setOf (length (was ends)) (was starts) (was clips) (was xs) (was ys) (was blocks) m) (samplesOf (was times) (was values) (was marks) (was ends)) t ⌝ }
 {
     if starts.len() == 0 {
         return Source::Absent;
@@ -96,7 +97,7 @@ pub fn answer_of(
     source: Source,
 ) -> Answer
     requires { ⌜ Answerable (length (now values)) (now ends) source ⌝ ∗ ⌜ length (now marks) ≡ length (now values) ⌝ }
-    ensures { λ r. ⌜ r ≡ answerIn m (now (values .entry)) (now (marks .entry)) (now (ends .entry)) source ⌝ }
+    ensures { λ r. ⌜ r ≡ answerIn m (was values) (was marks) (was ends) source ⌝ }
 {
     match source {
         Source::Sample(clip, place) => {
@@ -128,7 +129,7 @@ pub fn value_in_set(
     t: StageTime,
 ) -> Answer
     requires { ⌜ AcceptedLists (now starts) (now clips) (now xs) (now ys) (now blocks) m (now times) (now values) (now marks) (now ends) ⌝ ∗ ⌜ T (finite (t .0)) ⌝ }
-    ensures { λ r. ⌜ r ≡ valueInSet (setOf (length (now (ends .entry))) (now (starts .entry)) (now (clips .entry)) (now (xs .entry)) (now (ys .entry)) (now (blocks .entry)) m) (samplesOf (now (times .entry)) (now (values .entry)) (now (marks .entry)) (now (ends .entry))) t ⌝ }
+    ensures { λ r. ⌜ r ≡ valueInSet (setOf (length (was ends)) (was starts) (was clips) (was xs) (was ys) (was blocks) m) (samplesOf (was times) (was values) (was marks) (was ends)) t ⌝ }
 {
     let source = value_source(
         starts,

@@ -20,6 +20,7 @@ ghost use lib.ListN.{length};
 ghost use lib.Ieee.{Float, eq};
 ghost use Rattle.definitions.specs.Lists.{any};
 ghost use Rattle.definitions.specs.Timing.{mapStageToClip};
+ghost use Rattle.definitions.specs.Moments.{was};
 ghost use Rattle.laws.specs.list.Places.{Ascending};
 ghost use Rattle.laws.specs.cell.Lent.{knotsOf, AcceptedLists};
 ghost use Rattle.window.specs.neighbours.Windowed.{Lent, windowSource};
@@ -28,7 +29,7 @@ ghost use Rattle.value.specs.ClipTimes.{OnSegment};
 
 // There are samples from `begin` to `end`, and their clip contributes them from this start.
 fn has_samples(blocks: &[f64], m: Missing, start: f64, begin: usize, end: usize) -> bool
-    ensures { λ r. ⌜ r ≡ (ltb begin end && not (m .interpolate && any (λ (b : Float). eq b start) (now (blocks .entry)))) ⌝ }
+    ensures { λ r. ⌜ r ≡ (ltb begin end && not (m .interpolate && any (λ (b : Float). eq b start) (was blocks))) ⌝ }
 {
     if begin < end {
         return contributes(blocks, m, start);
@@ -51,7 +52,7 @@ pub fn window_of(
     p: usize,
 ) -> Window
     requires { ⌜ AcceptedLists (now starts) (now clips) (now xs) (now ys) (now blocks) m (now times) (now values) (now marks) (now ends) ⌝ ∗ ⌜ p < length (now starts) ⌝ }
-    ensures { λ r. ⌜ WindowIs (now (starts .entry)) (now (clips .entry)) (now (xs .entry)) (now (ys .entry)) (now (blocks .entry)) m (now (times .entry)) (now (values .entry)) (now (marks .entry)) (now (ends .entry)) p r ⌝ }
+    ensures { λ r. ⌜ WindowIs (was starts) (was clips) (was xs) (was ys) (was blocks) m (was times) (was values) (was marks) (was ends) p r ⌝ }
 {
     let start = starts[p];
     let clip = clips[p];
@@ -96,7 +97,7 @@ pub fn window_of(
 
 // Whether `t` lies in the segment from the knot at the place `knot` to the next.
 pub fn is_between(xs: &[f64], t: f64, knot: usize) -> bool
-    ensures { λ r. ⌜ ((r ≡ true) → OnSegment (now (xs .entry)) t knot) ⌝ }
+    ensures { λ r. ⌜ ((r ≡ true) → OnSegment (was xs) t knot) ⌝ }
 {
     if knot < xs.len() {
         let next = knot + 1;
@@ -112,7 +113,7 @@ pub fn is_between(xs: &[f64], t: f64, knot: usize) -> bool
 // The clip time at `t`, looked for at a hint.
 fn clip_time(xs: &[f64], ys: &[f64], t: StageTime, knot: usize) -> ClipTime
     requires { ⌜ Ascending (now xs) ⌝ ∗ ⌜ length (now xs) ≡ length (now ys) ⌝ }
-    ensures { λ r. ⌜ r ≡ mapStageToClip (knotsOf (now (xs .entry)) (now (ys .entry))) t ⌝ }
+    ensures { λ r. ⌜ r ≡ mapStageToClip (knotsOf (was xs) (was ys)) t ⌝ }
 {
     if is_between(xs, t.0, knot) {
         return ClipTime(lists::segment::clip_time(segment_at(xs, ys, knot), t.0));
@@ -131,7 +132,7 @@ pub fn source_in(
     sample: usize,
 ) -> Source
     requires { ⌜ Ascending (now xs) ⌝ ∗ ⌜ length (now xs) ≡ length (now ys) ⌝ ∗ ⌜ Lent (now times) w ⌝ }
-    ensures { λ r. ⌜ r ≡ windowSource (now (xs .entry)) (now (ys .entry)) (now (times .entry)) w (t .0) ⌝ }
+    ensures { λ r. ⌜ r ≡ windowSource (was xs) (was ys) (was times) w (t .0) ⌝ }
 {
     let begin = w.begin;
     let end = w.end;

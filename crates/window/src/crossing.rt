@@ -7,6 +7,7 @@ ghost use mathlib.Core.Bool.{true, false};
 ghost use Prim.Native.Nat.{ℕ, suc, _≤_, _<_};
 ghost use lib.ListN.{length, getD};
 ghost use lib.Ieee.{nan};
+ghost use Rattle.definitions.specs.Moments.{was};
 ghost use Rattle.window.specs.nearest.Crossings.{isBeyond, Crossing};
 
 // Whether the sample `c` lies behind the place.
@@ -35,7 +36,7 @@ fn is_beyond(s: Segment, c: f64, t: f64) -> bool
 
 // Whether the sample at `n` does, or there is none.
 fn begins_at(cs: &[f64], s: Segment, t: f64, n: usize) -> bool
-    ensures { λ r. ⌜ ((r ≡ true) → n < length (now (cs .entry)) → isBeyond t (s .a, s .b) (getD (now (cs .entry)) n nan) ≡ true) ⌝ ∗ ⌜ ((r ≡ false) → (n < length (now (cs .entry))) × (isBeyond t (s .a, s .b) (getD (now (cs .entry)) n nan) ≡ false)) ⌝ }
+    ensures { λ r. ⌜ ((r ≡ true) → n < length (was cs) → isBeyond t (s .a, s .b) (getD (was cs) n nan) ≡ true) ⌝ ∗ ⌜ ((r ≡ false) → (n < length (was cs)) × (isBeyond t (s .a, s .b) (getD (was cs) n nan) ≡ false)) ⌝ }
 {
     if n < cs.len() {
         return is_beyond(s, cs[n], t);
@@ -45,7 +46,7 @@ fn begins_at(cs: &[f64], s: Segment, t: f64, n: usize) -> bool
 
 // Whether `n` is a place in the list or its end, and the sample before it does not, or there is none.
 fn ends_before(cs: &[f64], s: Segment, t: f64, n: usize) -> bool
-    ensures { λ r. ⌜ ((r ≡ true) → (n ≤ length (now (cs .entry))) × ((i : ℕ) → suc i ≡ n → isBeyond t (s .a, s .b) (getD (now (cs .entry)) i nan) ≡ false)) ⌝ }
+    ensures { λ r. ⌜ ((r ≡ true) → (n ≤ length (was cs)) × ((i : ℕ) → suc i ≡ n → isBeyond t (s .a, s .b) (getD (was cs) i nan) ≡ false)) ⌝ }
 {
     if cs.len() < n {
         return false;
@@ -59,7 +60,7 @@ fn ends_before(cs: &[f64], s: Segment, t: f64, n: usize) -> bool
 
 // The place, by bisection.
 fn search_crossing(cs: &[f64], s: Segment, t: f64) -> usize
-    ensures { λ r. ⌜ Crossing (isBeyond t (s .a, s .b)) (now (cs .entry)) r ⌝ }
+    ensures { λ r. ⌜ Crossing (isBeyond t (s .a, s .b)) (was cs) r ⌝ }
 {
     let mut lo: usize = 0;
     let mut hi = cs.len();
@@ -76,7 +77,7 @@ fn search_crossing(cs: &[f64], s: Segment, t: f64) -> usize
 
 // The place, looked for at the hint, behind it and before it: as a segment rises or falls it moves on or back.
 pub fn crossing(cs: &[f64], s: Segment, t: f64, hint: usize) -> usize
-    ensures { λ r. ⌜ Crossing (isBeyond t (s .a, s .b)) (now (cs .entry)) r ⌝ }
+    ensures { λ r. ⌜ Crossing (isBeyond t (s .a, s .b)) (was cs) r ⌝ }
 {
     if !begins_at(cs, s, t, hint) {
         let next = hint + 1;

@@ -7,6 +7,7 @@ pub mod search;
 ghost use mathlib.Core.Path.{_≡_};
 ghost use Prim.Native.Nat.{_<_};
 ghost use lib.ListN.{length};
+ghost use Rattle.definitions.specs.Moments.{was};
 ghost use Rattle.window.specs.Windows.{minOf, maxOf};
 
 // A neighbour of a time.
@@ -24,7 +25,7 @@ pub struct Neighbours {
 // The first window reaches down without end.
 pub fn window_min(starts: &[f64], p: usize) -> f64
     requires { ⌜ p < length (now starts) ⌝ }
-    ensures { λ r. ⌜ r ≡ minOf (now (starts .entry)) p ⌝ }
+    ensures { λ r. ⌜ r ≡ minOf (was starts) p ⌝ }
 {
     if p == 0 {
         return -1.0 / 0.0;
@@ -35,7 +36,7 @@ pub fn window_min(starts: &[f64], p: usize) -> f64
 // The last one reaches up without end.
 pub fn window_max(starts: &[f64], p: usize) -> f64
     requires { ⌜ p < length (now starts) ⌝ }
-    ensures { λ r. ⌜ r ≡ maxOf (now (starts .entry)) p ⌝ }
+    ensures { λ r. ⌜ r ≡ maxOf (was starts) p ⌝ }
 {
     let next = p + 1;
     if next < starts.len() {

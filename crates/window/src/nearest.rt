@@ -13,6 +13,7 @@ ghost use Rattle.definitions.specs.Lists.{keep};
 ghost use Rattle.definitions.specs.Doubles.{FiniteDouble};
 ghost use Rattle.definitions.specs.Timing.{lastAtMost};
 ghost use Rattle.definitions.specs.Value.{onPair};
+ghost use Rattle.definitions.specs.Moments.{was};
 ghost use Rattle.laws.specs.list.Places.{Ascending};
 ghost use Rattle.window.specs.Bounds.{inside};
 ghost use Rattle.window.specs.Inverses.{onSegment};
@@ -23,7 +24,7 @@ ghost use Rattle.window.specs.nearest.Crossings.{isBeyond, Crossing, sam
 
 // The neighbours of `t` with the time at the place `i`, if there is one.
 fn near_place(known: Neighbours, xs: &[f64], i: usize, w: Interval, t: f64) -> Neighbours
-    ensures { λ r. ⌜ r ≡ withPlace w t (now (xs .entry)) known i ⌝ }
+    ensures { λ r. ⌜ r ≡ withPlace w t (was xs) known i ⌝ }
 {
     if i < xs.len() {
         return near_inside(known, xs[i], w, t);
@@ -34,7 +35,7 @@ fn near_place(known: Neighbours, xs: &[f64], i: usize, w: Interval, t: f64) -> N
 // With the times of an ascending list, where `i` is the place of the last one at most `t`.
 pub fn near_times(known: Neighbours, xs: &[f64], i: usize, w: Interval, t: f64) -> Neighbours
     requires { ⌜ Ascending (now xs) ⌝ ∗ ⌜ FiniteDouble t ⌝ ∗ ⌜ TimeInside w t ⌝ ∗ ⌜ i ≡ lastAtMost (now xs) t ⌝ }
-    ensures { λ r. ⌜ Searched t (keep (inside w) (now (xs .entry))) known r ⌝ }
+    ensures { λ r. ⌜ Searched t (keep (inside w) (was xs)) known r ⌝ }
 {
     let here = near_place(known, xs, i, w, t);
     near_place(here, xs, i + 1, w, t)
@@ -60,7 +61,7 @@ fn near_sample(
     w: Interval,
     t: f64,
 ) -> Neighbours
-    ensures { λ r. ⌜ Searched t (keep (inside w) (sampleAt (now (cs .entry)) (s .a, s .b) i)) known r ⌝ }
+    ensures { λ r. ⌜ Searched t (keep (inside w) (sampleAt (was cs) (s .a, s .b) i)) known r ⌝ }
 {
     if i < cs.len() {
         return near_inverse(known, s, cs[i], w, t);
@@ -78,7 +79,7 @@ pub fn near_crossing(
     t: f64,
 ) -> Neighbours
     requires { ⌜ SoundSegment (s .a, s .b) ⌝ ∗ ⌜ Ascending (now cs) ⌝ ∗ ⌜ TimeInside w t ⌝ ∗ ⌜ Crossing (isBeyond t (s .a, s .b)) (now cs) n ⌝ }
-    ensures { λ r. ⌜ Searched t (keep (inside w) (onSegment (now (cs .entry)) (s .a, s .b))) known r ⌝ }
+    ensures { λ r. ⌜ Searched t (keep (inside w) (onSegment (was cs) (s .a, s .b))) known r ⌝ }
 {
     if n == 0 {
         return near_sample(known, s, cs, n, w, t);

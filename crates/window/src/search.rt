@@ -18,6 +18,7 @@ ghost use mathlib.Core.Bool.{true};
 ghost use Prim.Native.Nat.{_+_, _<_};
 ghost use lib.ListN.{length};
 ghost use Rattle.definitions.specs.Timing.{lastAtMost};
+ghost use Rattle.definitions.specs.Moments.{was};
 ghost use Rattle.window.specs.Bounds.{nothing, NeighboursAre};
 ghost use Rattle.window.specs.nearest.Nearest.{Searched};
 ghost use Rattle.window.specs.neighbours.Latest.{LatestOf};
@@ -55,7 +56,7 @@ fn near_segment(
     sample: usize,
 ) -> NeighboursAndHints
     requires { ⌜ Searchable (now xs) (now ys) (now cs) w t ⌝ ∗ ⌜ j + 1 < length (now xs) ⌝ }
-    ensures { λ r. ⌜ Searched t (timesOf w (now (xs .entry)) (now (ys .entry)) (now (cs .entry)) j) known (boundsOf r) ⌝ }
+    ensures { λ r. ⌜ Searched t (timesOf w (was xs) (was ys) (was cs) j) known (boundsOf r) ⌝ }
 {
     let s = segment_at(xs, ys, j);
     let n = crossing(cs, s, t, sample);
@@ -94,7 +95,7 @@ fn near_before(
     sample: usize,
 ) -> Neighbours
     requires { ⌜ Searchable (now xs) (now ys) (now cs) w t ⌝ ∗ ⌜ LatestOf (now xs) (now ys) (now latest) ⌝ ∗ ⌜ i < length (now xs) ⌝ ∗ ⌜ i ≡ lastAtMost (now xs) t ⌝ }
-    ensures { λ r. ⌜ Reached t w (now (xs .entry)) (now (ys .entry)) (now (cs .entry)) 0 i known r ⌝ }
+    ensures { λ r. ⌜ Reached t w (was xs) (was ys) (was cs) 0 i known r ⌝ }
 {
     let mut r = known;
     let mut j = i;
@@ -129,7 +130,7 @@ fn near_around(
     sample: usize,
 ) -> NeighboursAndHints
     requires { ⌜ Searchable (now xs) (now ys) (now cs) w t ⌝ ∗ ⌜ LatestOf (now xs) (now ys) (now latest) ⌝ ∗ ⌜ i < length (now xs) ⌝ ∗ ⌜ i ≡ lastAtMost (now xs) t ⌝ }
-    ensures { λ r. ⌜ Around t w (now (xs .entry)) (now (ys .entry)) (now (cs .entry)) known (boundsOf r) ⌝ }
+    ensures { λ r. ⌜ Around t w (was xs) (was ys) (was cs) known (boundsOf r) ⌝ }
 {
     let next = i + 1;
     if next < xs.len() {
@@ -191,7 +192,7 @@ pub fn neighbours_in(
     sample: usize,
 ) -> NeighboursAndHints
     requires { ⌜ Nearing (now xs) (now ys) (now latest) (now cs) w t ⌝ }
-    ensures { λ r. ⌜ NeighboursAre (windowTimes (now (xs .entry)) (now (ys .entry)) (now (cs .entry)) w) t (boundsOf r) ⌝ }
+    ensures { λ r. ⌜ NeighboursAre (windowTimes (was xs) (was ys) (was cs) w) t (boundsOf r) ⌝ }
 {
     let min = w.min;
     let max = w.max;

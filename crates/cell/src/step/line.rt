@@ -9,6 +9,7 @@ ghost use lib.Dec.{T};
 ghost use lib.Ieee.{isNan};
 ghost use lib.ListN.{length};
 ghost use Rattle.gf.specs.Key as Key;
+ghost use Rattle.definitions.specs.Moments.{was};
 ghost use Rattle.laws.specs.list.Places.{Ascending};
 ghost use Rattle.laws.specs.cell.Knots as Knots;
 ghost use Rattle.laws.specs.cell.Lent.{knotsOf};
@@ -27,7 +28,7 @@ pub fn line_of(xs: &[f64], ys: &[f64], t: f64) -> Line
     requires { ⌜ length (now xs) ≡ length (now ys) ⌝ }
     requires { ⌜ Ascending (now xs) ⌝ }
     requires { ⌜ T (not (isNan t)) ⌝ }
-    ensures { λ r. ⌜ lineIs r ≡ Knots.lineOf (knotsOf (now (xs .entry)) (now (ys .entry))) t ⌝ }
+    ensures { λ r. ⌜ lineIs r ≡ Knots.lineOf (knotsOf (was xs) (was ys)) t ⌝ }
 {
     let n = xs.len();
     if n == 0 {
@@ -59,7 +60,7 @@ pub fn along(line: Line, t: f64) -> f64
 pub fn place_on(times: &[f64], line: Line, k: u64) -> usize
     requires { ⌜ Ascending (now times) ⌝ }
     requires { ⌜ (Key.least ≤ k) × (k ≤ Key.most) ⌝ }
-    ensures { λ r. ⌜ r ≡ placeOn (now (times .entry)) line k ⌝ }
+    ensures { λ r. ⌜ r ≡ placeOn (was times) line k ⌝ }
 {
     lists::last_at_most(times, along(line, gf::of_key(k)))
 }

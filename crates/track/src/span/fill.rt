@@ -8,6 +8,7 @@ use run::inside::fill_run;
 use run::walk::Went;
 use sdf::part::clip_begin;
 use sdf::part::clip_end;
+ghost use Rattle.definitions.specs.Moments.{was, after};
 ghost use Rattle.laws.specs.cell.Keys.{Keys};
 ghost use Rattle.cell.specs.step.Entries.{entryIs};
 ghost use Rattle.run.specs.Walks.{outputs, Room, Walked};
@@ -32,7 +33,7 @@ fn fill_cell(
     requires { ⌜ Keys k hi ⌝ }
     requires { ⌜ Runs (now times) (now values) (now marks) (now ends) cell k hi ⌝ }
     requires { ⌜ Room room n (outputs (now outtimes) (now outvalues) (now outmarks)) ⌝ }
-    ensures { λ r. ⌜ Walked (entryOn (now (times .entry)) (now (values .entry)) (now (marks .entry)) (now (ends .entry)) cell (entryIs here)) k hi room n (outputs (now (outtimes .entry)) (now (outvalues .entry)) (now (outmarks .entry))) (outputs (now (outtimes .exit)) (now (outvalues .exit)) (now (outmarks .exit))) r ⌝ }
+    ensures { λ r. ⌜ Walked (entryOn (was times) (was values) (was marks) (was ends) cell (entryIs here)) k hi room n (outputs (was outtimes) (was outvalues) (was outmarks)) (outputs (after outtimes) (after outvalues) (after outmarks)) r ⌝ }
 {
     let Cell::Reading(clip, line) = cell else {
         return Went {
@@ -76,7 +77,7 @@ pub fn fill_in(
     requires { ⌜ Keys k (s .hi) ⌝ }
     requires { ⌜ SpanIs (now times) (now values) (now marks) (now ends) (s .way) (entryIs (s .here)) k (s .hi) ⌝ }
     requires { ⌜ Room room n (outputs (now outtimes) (now outvalues) (now outmarks)) ⌝ }
-    ensures { λ r. ⌜ Walked (entryBy (now (times .entry)) (now (values .entry)) (now (marks .entry)) (now (ends .entry)) (s .way) (entryIs (s .here))) k (s .hi) room n (outputs (now (outtimes .entry)) (now (outvalues .entry)) (now (outmarks .entry))) (outputs (now (outtimes .exit)) (now (outvalues .exit)) (now (outmarks .exit))) r ⌝ }
+    ensures { λ r. ⌜ Walked (entryBy (was times) (was values) (was marks) (was ends) (s .way) (entryIs (s .here))) k (s .hi) room n (outputs (was outtimes) (was outvalues) (was outmarks)) (outputs (after outtimes) (after outvalues) (after outmarks)) r ⌝ }
 {
     let way = s.way;
     let here = s.here;

@@ -6,11 +6,12 @@ ghost use mathlib.Core.Path.{_≡_};
 ghost use mathlib.Core.Bool.{_&&_};
 ghost use lib.Dec.{eqb, ltb};
 ghost use lib.ListN.{length};
+ghost use Rattle.definitions.specs.Moments.{was};
 ghost use Rattle.track.specs.span.Knotless.{plainCell};
 
 // Whether there are several starts, and no knots.
 pub fn is_knotless(starts: &[f64], xs: &[f64]) -> bool
-    ensures { λ r. ⌜ r ≡ (ltb 1 (length (now (starts .entry))) && eqb (length (now (xs .entry))) 0) ⌝ }
+    ensures { λ r. ⌜ r ≡ (ltb 1 (length (was starts)) && eqb (length (was xs)) 0) ⌝ }
 {
     if starts.len() < 2 {
         return false;

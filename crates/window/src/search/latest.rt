@@ -8,6 +8,7 @@ ghost use Prim.Native.Nat.{_≤_, _<_};
 ghost use lib.ListN.{length};
 ghost use Rattle.definitions.specs.Lists.{pairs};
 ghost use Rattle.definitions.specs.ClipSet.{maxKnots};
+ghost use Rattle.definitions.specs.Moments.{was};
 ghost use Rattle.laws.specs.list.Every.{Every};
 ghost use Rattle.laws.specs.cell.Ends.{Number};
 ghost use Rattle.laws.specs.cell.Lent.{knotsOf};
@@ -45,7 +46,7 @@ fn later_inverse(top: f64, s: Segment) -> f64
 // A time that no inverse time of the segments before the knot at `i` is above.
 fn latest_inverse(xs: &[f64], ys: &[f64], i: usize) -> f64
     requires { ⌜ length (now xs) ≡ length (now ys) ⌝ ∗ ⌜ Every SoundSegment (pairs (knotsOf (now xs) (now ys))) ⌝ ∗ ⌜ i < length (now xs) ⌝ }
-    ensures { λ r. ⌜ ReachOf (now (xs .entry)) (now (ys .entry)) i r ⌝ }
+    ensures { λ r. ⌜ ReachOf (was xs) (was ys) i r ⌝ }
 {
     let mut top = -1.0 / 0.0;
     let mut k: usize = 0;
@@ -59,7 +60,7 @@ fn latest_inverse(xs: &[f64], ys: &[f64], i: usize) -> f64
 // The same where latest may be at hand.
 pub fn latest_before(xs: &[f64], ys: &[f64], latest: &[f64], i: usize) -> f64
     requires { ⌜ length (now xs) ≡ length (now ys) ⌝ ∗ ⌜ Every SoundSegment (pairs (knotsOf (now xs) (now ys))) ⌝ ∗ ⌜ LatestOf (now xs) (now ys) (now latest) ⌝ ∗ ⌜ i < length (now xs) ⌝ ∗ ⌜ 0 < i ⌝ }
-    ensures { λ r. ⌜ ReachOf (now (xs .entry)) (now (ys .entry)) i r ⌝ }
+    ensures { λ r. ⌜ ReachOf (was xs) (was ys) i r ⌝ }
 {
     let last = i - 1;
     if last < latest.len() {
@@ -71,7 +72,7 @@ pub fn latest_before(xs: &[f64], ys: &[f64], latest: &[f64], i: usize) -> f64
 // The latest of all segments.
 pub fn latest_inverses(xs: &[f64], ys: &[f64]) -> LatestInverses
     requires { ⌜ length (now xs) ≡ length (now ys) ⌝ ∗ ⌜ length (now xs) ≤ maxKnots ⌝ ∗ ⌜ Every SoundSegment (pairs (knotsOf (now xs) (now ys))) ⌝ }
-    ensures { λ r. ⌜ LatestOf (now (xs .entry)) (now (ys .entry)) (r .items) ⌝ }
+    ensures { λ r. ⌜ LatestOf (was xs) (was ys) (r .items) ⌝ }
 {
     let mut items = some_times();
     let mut top = -1.0 / 0.0;
