@@ -36,7 +36,7 @@ ghost use Rattle.laws.specs.cell.Keys.{Keys};
 ghost use Rattle.laws.specs.cell.Lent.{AcceptedLists};
 ghost use Rattle.window.specs.neighbours.Latest.{LatestOf};
 ghost use Rattle.window.specs.neighbours.Windowed.{samplesIn};
-ghost use Rattle.value.specs.RunsFrom as Passes;
+ghost use Rattle.value.specs.RunsFrom as RunsFrom;
 ghost use Rattle.cell.specs.WindowPlaces.{PlaceIs, PlaceAt};
 ghost use Rattle.track.specs.span.Runs.{Runs, readOn, StepIs};
 
@@ -203,7 +203,7 @@ fn run_step(
     requires { ⌜ AcceptedLists (now starts) (now clips) (now xs) (now ys) (now blocks) m (now times) (now values) (now marks) (now ends) ⌝ }
     requires { ⌜ PlaceAt (now starts) (now clips) (now xs) (now ys) (now blocks) m (now times) (now values) (now marks) (now ends) (ofKey k) (at .start) (at .window) ⌝ }
     requires { ⌜ 1 < length (now starts) ⌝ }
-    requires { ⌜ at .window .begin < at .window .end ⌝ ∗ ⌜ Passes.Onset (now xs) (now ys) (now latest) (samplesIn (now times) (at .window)) (at .window) (ofKey k) i l h ⌝ }
+    requires { ⌜ at .window .begin < at .window .end ⌝ ∗ ⌜ RunsFrom.RunFrom (now xs) (now ys) (now latest) (samplesIn (now times) (at .window)) (at .window) (ofKey k) i l h ⌝ }
     requires { ⌜ Keys k top ⌝ }
     ensures { λ r. ⌜ StepIs (was starts) (was clips) (was xs) (was ys) (was blocks) m (was times) (was values) (was marks) (was ends) k top r ⌝ }
 {

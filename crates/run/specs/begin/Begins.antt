@@ -12,7 +12,7 @@ use Rattle.window.specs.Inverses.{onSegment}
 use Rattle.window.specs.declared.search.Window.{Window}
 use Rattle.window.specs.neighbours.Latest.{segmentOf}
 use Rattle.window.specs.neighbours.Windowed.{samplesIn}
-use Rattle.value.specs.RunsFrom as Passes
+use Rattle.value.specs.RunsFrom as RunsFrom
 use Rattle.run.specs.declared.begin.RunBegin.{RunBegin}
 use Rattle.run.specs.declared.begin.RunBegin.the-variants.{At, Nothing}
 
@@ -32,5 +32,5 @@ PastLatest latest i l = 0 < i → (i - 1 < length latest) × T (le (getD latest 
 
 -- the run that begins at t, if one is said
 abbrev pub RunBeginIs : List Float → List Float → List Float → List Float → Window → Float → RunBegin → Type 0
-RunBeginIs xs ys latest times w t (At i l h n) = (w .begin < w .end) × Passes.Onset xs ys latest (samplesIn times w) w t i l h
+RunBeginIs xs ys latest times w t (At i l h n) = (w .begin < w .end) × RunsFrom.RunFrom xs ys latest (samplesIn times w) w t i l h
 RunBeginIs xs ys latest times w t Nothing = Unit {0}

@@ -78,7 +78,7 @@ returns-4 c =
     let p = e .before .before in
     let d = p .before in
     let a = d .before .before .before in
-    step-down (a .args .cs .now) (a .pre .1 .0) (q a) (a .pre .0) (a .args .n) (a .args .k) (a .args .hi) (a .pre .1 .1) (holds _ (d .if4 .taken)) (a .args .n - 1) (before p) (holds _ (e .if6 .taken)) (c .sample-ahead2 .result) (c .sample-ahead2 .ensures)
+    step-down (a .args .cs .now) (a .pre .1 .0) (q a) (a .pre .0) (a .args .n) (a .args .k) (a .args .hi) (a .pre .1 .1) (holds _ (d .if4 .taken)) (a .args .n - 1) (before p) (holds _ (e .if6 .taken)) (c .sample-in-run2 .result) (c .sample-in-run2 .ensures)
 
 returns-5 : tie.Need-returns-5
 returns-5 c =

@@ -12,13 +12,13 @@ has-minus-zero-requires : tie.Need-has-minus-zero-requires
 has-minus-zero-requires c κs = search needs
 
 returns : tie.Need-returns
-returns c = search needs
+returns c = rw (sym (c .before .has-minus-zero .ensures) ∙ c .if1 .taken)
 
 has-minus-zero-requires-2 : tie.Need-has-minus-zero-requires-2
 has-minus-zero-requires-2 c κs = search needs
 
 returns-2 : tie.Need-returns-2
-returns-2 c = search needs
+returns-2 c = let a = c .before .before in rw (sym (a .before .has-minus-zero .ensures) ∙ a .if1 .left, sym (c .before .has-minus-zero2 .ensures) ∙ c .if2 .taken)
 
 is-sampled-requires : tie.Need-is-sampled-requires
 is-sampled-requires c κs = search needs

@@ -34,7 +34,7 @@ unfolding ofBits
 returns-3 c = let g = c .before .before in other-kept _ _ (g .time .given .0 .0) (g .time .given .1) (c .if1 .left)
 
 returns-4 : tie.Need-returns-4
-returns-4 c = search needs
+returns-4 c = rw (c .enum-told .given .1)
 
 pub with-zero-spec : {M : Type 1} → statement M
 with-zero-spec =
