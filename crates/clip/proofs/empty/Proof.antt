@@ -4,15 +4,6 @@ use lib.Ieee.{ofBits}
 use Rattle.clip.proofs.empty.Statement.{statement}
 use Rattle.clip.proofs.empty.Tie as tie
 
-no-active-requires : tie.Need-no-active-requires
-no-active-requires c κs = search needs
-
-no-knots-requires : tie.Need-no-knots-requires
-no-knots-requires c κs = search needs
-
-no-blocks-requires : tie.Need-no-blocks-requires
-no-blocks-requires c κs = search needs
-
 returns : tie.Need-returns
 unfolding ofBits
 returns c =
@@ -22,4 +13,4 @@ returns c =
     }
 
 pub empty-spec : {M : Type 1} → statement M
-empty-spec = tie.close (tie.spec no-active-requires no-knots-requires no-blocks-requires returns)
+empty-spec = tie.close (tie.spec (λ c κs. search needs) (λ c κs. search needs) (λ c κs. search needs) returns)

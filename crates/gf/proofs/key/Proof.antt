@@ -12,12 +12,6 @@ use Rattle.gf.proofs.key.Tie as tie
 held : (c : tie.Start) → T (fits binary64 (c .args .x))
 held c = subst T (sym (c .good .0 .1)) tt
 
-float-to-bits-b : tie.Need-float-to-bits-b
-float-to-bits-b c = search needs
-
-add-result : tie.Need-add-result
-add-result c = search needs
-
 sub-result : tie.Need-sub-result
 sub-result c = omega (arith, bits-lt (c .before .args .x) (held (c .before)))
 
@@ -28,4 +22,4 @@ returns-2 : tie.Need-returns-2
 returns-2 c = key-set (c .before .args .x) (held (c .before)) (c .if1 .left)
 
 pub key-spec : {M : Type 1} → statement M
-key-spec = tie.close (tie.spec float-to-bits-b add-result sub-result returns returns-2)
+key-spec = tie.close (tie.spec (λ c. search needs) (λ c. search needs) sub-result returns returns-2)

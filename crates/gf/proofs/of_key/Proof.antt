@@ -9,12 +9,6 @@ use Rattle.gf.proofs.KeyLaws.{bits-key-below, bits-key-above, bits-key-
 use Rattle.gf.proofs.of_key.Statement.{statement}
 use Rattle.gf.proofs.of_key.Tie as tie
 
-sub-result : tie.Need-sub-result
-sub-result c = search needs
-
-add-result : tie.Need-add-result
-add-result c = search needs
-
 float-from-bits-result : tie.Need-float-from-bits-result
 float-from-bits-result c =
     let k = c .before .args .k in
@@ -32,4 +26,4 @@ returns-2 : tie.Need-returns-2
 returns-2 c = ap (ofBits binary64) (bits-key-above (c .before .args .k) (c .if1 .left)) ∙ ofKey-is (c .before .args .k)
 
 pub of-key-spec : {M : Type 1} → statement M
-of-key-spec = tie.close (tie.spec sub-result add-result float-from-bits-result float-from-bits-result-2 returns returns-2)
+of-key-spec = tie.close (tie.spec (λ c. search needs) (λ c. search needs) float-from-bits-result float-from-bits-result-2 returns returns-2)

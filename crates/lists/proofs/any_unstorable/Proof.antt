@@ -30,14 +30,8 @@ one-more c = at-most-one (bad (getD (c .before .before .before .before .before .
 loop-holds : tie.Need-loop-holds Inv-loop μ-loop
 loop-holds c = (omega arith, omega arith, refl)
 
-mul-unstorable : tie.Need-mul-unstorable Inv-loop μ-loop
-mul-unstorable c = search needs
-
 shared-slice-read-unstorable : tie.Need-shared-slice-read-unstorable Inv-loop μ-loop
 shared-slice-read-unstorable c = omega arith
-
-unstorable-requires : tie.Need-unstorable-requires Inv-loop μ-loop
-unstorable-requires c κs = search needs
 
 add-found : tie.Need-add-found Inv-loop μ-loop
 add-found c = let k = c .before .before .before .loop in omega (arith, k .inv .1, one-more c)
@@ -71,9 +65,9 @@ any-unstorable-spec =
     Inv-loop
     μ-loop
     loop-holds
-    mul-unstorable
+    (λ c. search needs)
     shared-slice-read-unstorable
-    unstorable-requires
+    (λ c κs. search needs)
     add-found
     add-i
     loop-less

@@ -29,9 +29,6 @@ sub-mid c = omega arith
 add-mid : tie.Need-add-mid Inv-loop μ-loop
 add-mid c = omega arith
 
-mul-if1 : tie.Need-mul-if1 Inv-loop μ-loop
-mul-if1 c = search needs
-
 shared-slice-read-if1 : tie.Need-shared-slice-read-if1 Inv-loop μ-loop
 shared-slice-read-if1 c = omega arith
 
@@ -85,7 +82,7 @@ last-at-most-spec =
     loop-holds
     sub-mid
     add-mid
-    mul-if1
+    (λ c. search needs)
     shared-slice-read-if1
     add-lo
     loop-less

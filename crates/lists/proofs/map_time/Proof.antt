@@ -6,12 +6,9 @@ use Rattle.definitions.specs.Timing.{mapStageToClip}
 use Rattle.lists.proofs.map_time.Statement.{statement}
 use Rattle.lists.proofs.map_time.Tie as tie
 
-y-at-requires : tie.Need-y-at-requires
-y-at-requires c κs = search needs
-
 returns : tie.Need-returns
 unfolding mapStageToClip
 returns c = ap clip (c .y-at .ensures)
 
 pub map-time-spec : {M : Type 1} → statement M
-map-time-spec = tie.close (tie.spec y-at-requires returns)
+map-time-spec = tie.close (tie.spec (λ c κs. search needs) returns)

@@ -27,17 +27,11 @@ loop-holds c = (omega arith, refl)
 add-loop : tie.Need-add-loop Inv-loop μ-loop
 add-loop c = omega arith
 
-mul-are-equal : tie.Need-mul-are-equal Inv-loop μ-loop
-mul-are-equal c = search needs
-
 shared-slice-read-are-equal : tie.Need-shared-slice-read-are-equal Inv-loop μ-loop
 shared-slice-read-are-equal c = omega arith
 
 add-are-equal : tie.Need-add-are-equal Inv-loop μ-loop
 add-are-equal c = omega arith
-
-mul-are-equal-2 : tie.Need-mul-are-equal-2 Inv-loop μ-loop
-mul-are-equal-2 c = search needs
 
 shared-slice-read-are-equal-2 : tie.Need-shared-slice-read-are-equal-2 Inv-loop μ-loop
 shared-slice-read-are-equal-2 c = omega arith
@@ -45,14 +39,8 @@ shared-slice-read-are-equal-2 c = omega arith
 add-are-equal-2 : tie.Need-add-are-equal-2 Inv-loop μ-loop
 add-are-equal-2 c = omega arith
 
-mul-are-equal-3 : tie.Need-mul-are-equal-3 Inv-loop μ-loop
-mul-are-equal-3 c = search needs
-
 shared-slice-read-are-equal-3 : tie.Need-shared-slice-read-are-equal-3 Inv-loop μ-loop
 shared-slice-read-are-equal-3 c = omega arith
-
-are-equal-requires : tie.Need-are-equal-requires Inv-loop μ-loop
-are-equal-requires c κs = search needs
 
 returns : tie.Need-returns Inv-loop μ-loop
 returns c =
@@ -86,15 +74,15 @@ three-equal-spec =
     μ-loop
     loop-holds
     add-loop
-    mul-are-equal
+    (λ c. search needs)
     shared-slice-read-are-equal
     add-are-equal
-    mul-are-equal-2
+    (λ c. search needs)
     shared-slice-read-are-equal-2
     add-are-equal-2
-    mul-are-equal-3
+    (λ c. search needs)
     shared-slice-read-are-equal-3
-    are-equal-requires
+    (λ c κs. search needs)
     returns
     add-i
     loop-less

@@ -43,45 +43,15 @@ inside c = omega (arith, below (c .before), found (c .before))
 returns : tie.Need-returns
 returns c = let a = c .before .before .before .args in sym (map-none (now (a .xs)) (now (a .ys)) (a .t) (c .if1 .taken))
 
-shared-slice-read-if2 : tie.Need-shared-slice-read-if2
-shared-slice-read-if2 c = search needs
-
-shared-slice-read-result : tie.Need-shared-slice-read-result
-shared-slice-read-result c = search needs
-
 returns-2 : tie.Need-returns-2
 returns-2 c =
     let s = c .before .before .before .before .before .before in
     sym (map-first nan (now (s .args .xs)) (now (s .args .ys)) (s .args .t) (s .pre .1) (omega arith) (c .before .if2 .taken))
 
-sub-last : tie.Need-sub-last
-sub-last c = search needs
-
-mul-if3 : tie.Need-mul-if3
-mul-if3 c = search needs
-
-shared-slice-read-if3 : tie.Need-shared-slice-read-if3
-shared-slice-read-if3 c = search needs
-
-mul-result : tie.Need-mul-result
-mul-result c = search needs
-
-shared-slice-read-result-2 : tie.Need-shared-slice-read-result-2
-shared-slice-read-result-2 c = search needs
-
 returns-3 : tie.Need-returns-3
 returns-3 c =
     let s = c .before .before .before .before .before .before .before .before in
     sym (map-last nan (now (s .args .xs)) (now (s .args .ys)) (s .args .t) (length (now (s .args .xs)) - 1) (s .pre .1) (omega arith) (c .before .before .before .if2 .left) (c .before .if3 .taken))
-
-last-at-most-requires : tie.Need-last-at-most-requires
-last-at-most-requires c κs = search needs
-
-knot-at-requires : tie.Need-knot-at-requires
-knot-at-requires c κs = search needs
-
-clip-time-requires : tie.Need-clip-time-requires
-clip-time-requires c κs = search needs
 
 returns-4 : tie.Need-returns-4
 returns-4 c =
@@ -97,9 +67,6 @@ returns-4 c =
 
 segment-at-requires : tie.Need-segment-at-requires
 segment-at-requires c κs = let h = inside c in search needs
-
-clip-time-requires-2 : tie.Need-clip-time-requires-2
-clip-time-requires-2 c κs = search needs
 
 returns-5 : tie.Need-returns-5
 returns-5 c =
@@ -117,19 +84,19 @@ y-at-spec =
     tie.close
     (tie.spec
     returns
-    shared-slice-read-if2
-    shared-slice-read-result
+    (λ c. search needs)
+    (λ c. search needs)
     returns-2
-    sub-last
-    mul-if3
-    shared-slice-read-if3
-    mul-result
-    shared-slice-read-result-2
+    (λ c. search needs)
+    (λ c. search needs)
+    (λ c. search needs)
+    (λ c. search needs)
+    (λ c. search needs)
     returns-3
-    last-at-most-requires
-    knot-at-requires
-    clip-time-requires
+    (λ c κs. search needs)
+    (λ c κs. search needs)
+    (λ c κs. search needs)
     returns-4
     segment-at-requires
-    clip-time-requires-2
+    (λ c κs. search needs)
     returns-5)

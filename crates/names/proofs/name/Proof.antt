@@ -63,19 +63,10 @@ short c =
 returns : tie.Need-returns
 returns c = let a = c .before .before .before .args in refuses-1 (a .template .now) (a .time) (a .out .now) (c .if1 .taken)
 
-is-storable-requires : tie.Need-is-storable-requires
-is-storable-requires c κs = search needs
-
 returns-2 : tie.Need-returns-2
 returns-2 c =
     let a = c .before .before .before .before .before .args in
     refuses-2 (a .template .now) (a .time) (a .out .now) (few (c .before .before)) (sym (c .before .is-storable .ensures) ∙ not-true _ (c .if2 .taken))
-
-parse-requires : tie.Need-parse-requires
-parse-requires c κs = search needs
-
-is-readable-requires : tie.Need-is-readable-requires
-is-readable-requires c κs = search needs
 
 returns-3 : tie.Need-returns-3
 returns-3 c =
@@ -94,9 +85,6 @@ body-length-requires c κs = omega (arith, long c, short c)
 
 add-n : tie.Need-add-n
 add-n c = omega (arith, long (c .before .before), short (c .before .before), c .before .body-length .ensures)
-
-sub-n : tie.Need-sub-n
-sub-n c = search needs
 
 add-n-2 : tie.Need-add-n-2
 add-n-2 c = omega (arith, long (c .before .before .before), short (c .before .before .before), c .before .before .body-length .ensures)
@@ -117,9 +105,6 @@ put-name-requires c κs =
       (omega (arith, c .before .before .before .before .body-length .ensures, c .before .if4 .left), omega (arith, long b, short b)),
     )
 
-same-length : tie.Need-same-length
-same-length c = search needs
-
 returns-5 : tie.Need-returns-5
 returns-5 c =
     let f = c .before .before .before .before in
@@ -137,17 +122,17 @@ name-spec =
     tie.close
     (tie.spec
     returns
-    is-storable-requires
+    (λ c κs. search needs)
     returns-2
-    parse-requires
-    is-readable-requires
+    (λ c κs. search needs)
+    (λ c κs. search needs)
     returns-3
     body-at-requires
     body-length-requires
     add-n
-    sub-n
+    (λ c. search needs)
     add-n-2
     returns-4
     put-name-requires
-    same-length
+    (λ c. search needs)
     returns-5)

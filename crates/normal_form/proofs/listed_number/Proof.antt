@@ -7,15 +7,9 @@ use borrow.Author.Needs.{needs}
 use Rattle.normal_form.proofs.listed_number.Statement.{statement}
 use Rattle.normal_form.proofs.listed_number.Tie as tie
 
-unlike-lengths-requires : tie.Need-unlike-lengths-requires
-unlike-lengths-requires c κs = search needs
-
 returns : tie.Need-returns
 unfolding listedNumber samples2
 returns c = rw (sym (c .before .unlike-lengths .ensures) ∙ c .if1 .taken)
-
-any-unstorable-requires : tie.Need-any-unstorable-requires
-any-unstorable-requires c κs = search needs
 
 returns-2 : tie.Need-returns-2
 unfolding listedNumber samples2
@@ -31,9 +25,6 @@ returns-3 : tie.Need-returns-3
 unfolding listedNumber samples2
 returns-3 c = rw (sym (c .before .before .before .before .before .unlike-lengths .ensures) ∙ c .before .before .before .before .if1 .left, sym (c .before .before .before .any-unstorable .ensures) ∙ c .before .before .if2 .left, sym (c .before .any-nan .ensures) ∙ c .if3 .taken)
 
-bad-marks-requires : tie.Need-bad-marks-requires
-bad-marks-requires c κs = search needs
-
 returns-4 : tie.Need-returns-4
 unfolding listedNumber samples2
 returns-4 c = rw (sym (c .before .before .before .before .before .before .before .unlike-lengths .ensures) ∙ c .before .before .before .before .before .before .if1 .left, sym (c .before .before .before .before .before .any-unstorable .ensures) ∙ c .before .before .before .before .if2 .left, sym (c .before .before .before .any-nan .ensures) ∙ c .before .before .if3 .left, sym (c .before .bad-marks .ensures) ∙ c .if4 .taken)
@@ -46,12 +37,12 @@ pub listed-number-spec : {M : Type 1} → statement M
 listed-number-spec =
     tie.close
     (tie.spec
-    unlike-lengths-requires
+    (λ c κs. search needs)
     returns
-    any-unstorable-requires
+    (λ c κs. search needs)
     returns-2
     any-nan-requires
     returns-3
-    bad-marks-requires
+    (λ c κs. search needs)
     returns-4
     returns-5)

@@ -10,9 +10,6 @@ use borrow.Author.Needs.{needs}
 use Rattle.normal_form.proofs.normalize_time_samples.Statement.{statement}
 use Rattle.normal_form.proofs.normalize_time_samples.Tie as tie
 
-listed-number-requires : tie.Need-listed-number-requires
-listed-number-requires c κs = search needs
-
 returns : tie.Need-returns
 returns c =
     let e = c .before .before .before .before .before .before .before .before .args in
@@ -52,23 +49,11 @@ normalize-into-requires c κs =
     let e = c .before .before .before .before .before .before in
     (passed e, record { places-long = length-take-le _ _ (few e); first-long = length-take-le _ _ (few e); last-long = length-take-le _ _ (few e) })
 
-same-length : tie.Need-same-length
-same-length c = search needs
-
-same-length-2 : tie.Need-same-length-2
-same-length-2 c = search needs
-
-same-length-3 : tie.Need-same-length-3
-same-length-3 c = search needs
-
-returns-2 : tie.Need-returns-2
-returns-2 c = search needs
-
 pub normalize-time-samples-spec : {M : Type 1} → statement M
 normalize-time-samples-spec =
     tie.close
     (tie.spec
-    listed-number-requires
+    (λ c κs. search needs)
     returns
     array-borrow-prefix-places
     slice-aggregate-normalize-into
@@ -77,7 +62,7 @@ normalize-time-samples-spec =
     array-borrow-prefix-lasts
     slice-aggregate-normalize-into-3
     normalize-into-requires
-    same-length
-    same-length-2
-    same-length-3
-    returns-2)
+    (λ c. search needs)
+    (λ c. search needs)
+    (λ c. search needs)
+    (λ c. search needs))

@@ -51,17 +51,11 @@ judged c r n = record {
   values-fit = every-fits (start c .args .values .now) (λ i. c .before .before .before .shared-slice-known2 .given i);
 }
 
-unlike-lengths-requires : tie.Need-unlike-lengths-requires
-unlike-lengths-requires c κs = search needs
-
 returns : tie.Need-returns
 returns c = judged (c .before) 1 (λ set e. unlike _ _ _ _ set (sym (c .before .unlike-lengths .ensures) ∙ c .if1 .taken))
 
 returns-2 : tie.Need-returns-2
 returns-2 c = judged (c .before .before) 1 (λ set e. other-clips _ _ _ _ set (alike (c .before)) (λ f. c .if2 .taken (f ∙ e)))
-
-any-unstorable-requires : tie.Need-any-unstorable-requires
-any-unstorable-requires c κs = search needs
 
 abbrev clips : (c : tie.Else2) (set : ClipSet) → set .clips ≡ start (c .before .before) .args .clips → length (start (c .before .before) .args .ends .now) ≡ set .clips
 clips c set e = c .if2 .left ∙ sym e
@@ -83,18 +77,12 @@ returns-4 c =
     let b = d .before .before in
     judged (b .before .before) 2 (λ set e. a-nan _ _ _ _ set (alike (b .before)) (clips b set e) (storable d) (sym (c .before .any-nan .ensures) ∙ c .if4 .taken))
 
-bad-marks-requires : tie.Need-bad-marks-requires
-bad-marks-requires c κs = search needs
-
 returns-5 : tie.Need-returns-5
 returns-5 c =
     let f = c .before .before in
     let d = f .before .before in
     let b = d .before .before in
     judged (b .before .before) 9 (λ set e. a-mark _ _ _ _ set (alike (b .before)) (clips b set e) (storable d) (numbers f) (sym (c .before .bad-marks .ensures) ∙ c .if5 .taken))
-
-closes-requires : tie.Need-closes-requires
-closes-requires c κs = search needs
 
 returns-6 : tie.Need-returns-6
 returns-6 c =
@@ -131,16 +119,16 @@ pub samples-number-spec : {M : Type 1} → statement M
 samples-number-spec =
     tie.close
     (tie.spec
-    unlike-lengths-requires
+    (λ c κs. search needs)
     returns
     returns-2
-    any-unstorable-requires
+    (λ c κs. search needs)
     returns-3
     any-nan-requires
     returns-4
-    bad-marks-requires
+    (λ c κs. search needs)
     returns-5
-    closes-requires
+    (λ c κs. search needs)
     returns-6
     parts-ascend-requires
     returns-7

@@ -39,48 +39,21 @@ clips-lent c = lent 256 (c .before .before .before .before .promote .result .cou
 fitting : (c : tie.After-shared-slice-known2) → TemplateFits (fields (c .before .before))
 fitting c = record { blocks = all-fit (now (c .before .before .args .blocks)) (c .shared-slice-known2 .given); value = subst T (sym (c .before .before .good .1 .1 .1 .1 .0 .1 .1 .1 .0 .1)) tt }
 
-fields-number-requires : tie.Need-fields-number-requires
-fields-number-requires c κs = search needs
-
-refused-requires : tie.Need-refused-requires
-refused-requires c κs = search needs
-
 returns : tie.Need-returns
 returns c =
     let s = c .before .before .before .before .before in
     template-refuses (fields s) (c .before .before .fields-number .result) (c .refused .result) (c .before .before .fields-number .ensures) (c .before .if1 .taken) (c .refused .ensures)
-
-promote-requires : tie.Need-promote-requires
-promote-requires c κs = search needs
-
-refused-requires-2 : tie.Need-refused-requires-2
-refused-requires-2 c κs = search needs
 
 returns-2 : tie.Need-returns-2
 returns-2 c =
     let s = c .before .before .before .before .before .before .before in
     template-beyond (fields s) (c .refused2 .result) (none (c .before .before .before)) (omega (arith, c .before .if2 .taken, c .before .before .promote .ensures .count)) (c .refused2 .ensures)
 
-knot-count-requires : tie.Need-knot-count-requires
-knot-count-requires c κs = search needs
-
-blank-requires : tie.Need-blank-requires
-blank-requires c κs = search needs
-
-array-share-prefix-ts : tie.Need-array-share-prefix-ts
-array-share-prefix-ts c = search needs
-
 slice-aggregate-expand-lists : tie.Need-slice-aggregate-expand-lists
 slice-aggregate-expand-lists c = sym (clips-lent (c .before .before .before .before .before))
 
-array-borrow-prefix-starts : tie.Need-array-borrow-prefix-starts
-array-borrow-prefix-starts c = search needs
-
 slice-aggregate-expand-lists-2 : tie.Need-slice-aggregate-expand-lists-2
 slice-aggregate-expand-lists-2 c = let b = c .before .before .before .before .before .before in sym (lent 256 (c .before .before .before .before .before .before .before .before .before .before .promote .result .count) (b .blank .result .times) (b .blank .ensures .times) (few b))
-
-array-borrow-prefix-numbers : tie.Need-array-borrow-prefix-numbers
-array-borrow-prefix-numbers c = search needs
 
 slice-aggregate-expand-lists-3 : tie.Need-slice-aggregate-expand-lists-3
 slice-aggregate-expand-lists-3 c = let b = c .before .before .before .before .before .before .before in sym (lent 256 (c .before .before .before .before .before .before .before .before .before .before .before .promote .result .count) (b .blank .result .numbers) (b .blank .ensures .numbers) (few b))
@@ -127,19 +100,19 @@ pub expand-template-spec : {M : Type 1} → statement M
 expand-template-spec =
     tie.close
     (tie.spec
-    fields-number-requires
-    refused-requires
+    (λ c κs. search needs)
+    (λ c κs. search needs)
     returns
-    promote-requires
-    refused-requires-2
+    (λ c κs. search needs)
+    (λ c κs. search needs)
     returns-2
-    knot-count-requires
-    blank-requires
-    array-share-prefix-ts
+    (λ c κs. search needs)
+    (λ c κs. search needs)
+    (λ c. search needs)
     slice-aggregate-expand-lists
-    array-borrow-prefix-starts
+    (λ c. search needs)
     slice-aggregate-expand-lists-2
-    array-borrow-prefix-numbers
+    (λ c. search needs)
     slice-aggregate-expand-lists-3
     array-borrow-prefix-xs
     slice-aggregate-expand-lists-4

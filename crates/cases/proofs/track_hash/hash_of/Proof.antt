@@ -19,12 +19,6 @@ slice-aggregate-hash-lists-4 c = search (needs, front)
 slice-aggregate-hash-lists-5 : tie.Need-slice-aggregate-hash-lists-5
 slice-aggregate-hash-lists-5 c = search (needs, front)
 
-hash-lists-requires : tie.Need-hash-lists-requires
-hash-lists-requires c κs = search needs
-
-returns : tie.Need-returns
-returns c = search needs
-
 pub hash-of-spec : {M : Type 1} → statement M
 hash-of-spec =
-    tie.close (tie.spec slice-aggregate-hash-lists slice-aggregate-hash-lists-2 slice-aggregate-hash-lists-3 slice-aggregate-hash-lists-4 slice-aggregate-hash-lists-5 hash-lists-requires returns)
+    tie.close (tie.spec slice-aggregate-hash-lists slice-aggregate-hash-lists-2 slice-aggregate-hash-lists-3 slice-aggregate-hash-lists-4 slice-aggregate-hash-lists-5 (λ c κs. search needs) (λ c. search needs))

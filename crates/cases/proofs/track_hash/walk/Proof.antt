@@ -20,9 +20,6 @@ abbrev μ-loop : tie.MeasureT-loop
 latest-inverses-requires : tie.Need-latest-inverses-requires Inv-loop μ-loop
 latest-inverses-requires c κs = let a = c .before .before .before .before .before .before .before .before .before in (a .pre .0 .knots-paired, (few-knots (a .pre .0), ready-readable (a .pre .0) .segments))
 
-no-place-requires : tie.Need-no-place-requires Inv-loop μ-loop
-no-place-requires c κs = search needs
-
 loop-holds : tie.Need-loop-holds Inv-loop μ-loop
 loop-holds c =
     let a = c .before .before .before .before .before .before .before .before .before .before .before in
@@ -30,12 +27,6 @@ loop-holds c =
 
 walk-page-requires : tie.Need-walk-page-requires Inv-loop μ-loop
 walk-page-requires c κs = let b = c .before .before .before in (b .before .before .before .before .before .before .before .before .before .before .before .before .pre .0, (b .before .before .latest-inverses .ensures, b .loop .inv))
-
-wrapping-add-u64-requires : tie.Need-wrapping-add-u64-requires Inv-loop μ-loop
-wrapping-add-u64-requires c κs = search needs
-
-returns : tie.Need-returns Inv-loop μ-loop
-returns c = search needs
 
 loop-less : tie.Need-loop-less Inv-loop μ-loop
 loop-less c =
@@ -54,10 +45,10 @@ walk-spec =
     Inv-loop
     μ-loop
     latest-inverses-requires
-    no-place-requires
+    (λ c κs. search needs)
     loop-holds
     walk-page-requires
-    wrapping-add-u64-requires
-    returns
+    (λ c κs. search needs)
+    (λ c. search needs)
     loop-less
     loop-again)

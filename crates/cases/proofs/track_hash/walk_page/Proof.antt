@@ -16,18 +16,6 @@ use Rattle.cases.proofs.track_hash.walk_page.Tie as tie
 few : (ts vs : List Float) (ms : List ℕ) (size n : ℕ) → length ts ≡ size → n ≤ slots (outputs ts vs ms) → n ≤ size
 few ts vs ms size n e h = let q = slots-is ts vs ms in omega arith
 
-slice-aggregate-fill : tie.Need-slice-aggregate-fill
-slice-aggregate-fill c = search needs
-
-slice-aggregate-fill-2 : tie.Need-slice-aggregate-fill-2
-slice-aggregate-fill-2 c = search needs
-
-slice-aggregate-fill-3 : tie.Need-slice-aggregate-fill-3
-slice-aggregate-fill-3 c = search needs
-
-fill-requires : tie.Need-fill-requires
-fill-requires c κs = search needs
-
 eat-page-requires : tie.Need-eat-page-requires
 eat-page-requires c κs = few _ _ _ 256 _ refl (c .before .before .before .before .before .before .fill .ensures .fits)
 
@@ -38,9 +26,9 @@ pub walk-page-spec : {M : Type 1} → statement M
 walk-page-spec =
     tie.close
     (tie.spec
-    slice-aggregate-fill
-    slice-aggregate-fill-2
-    slice-aggregate-fill-3
-    fill-requires
+    (λ c. search needs)
+    (λ c. search needs)
+    (λ c. search needs)
+    (λ c κs. search needs)
     eat-page-requires
     returns)

@@ -22,65 +22,32 @@ scale-finite c = holding _ _ (c .before .is-finite2 .ensures) (c .if2 .left)
 fitting : (c : tie.Start) → Fits (c .args .o .scale)
 fitting c = subst T (sym (c .good .1 .0 .1 .1 .1 .0 .1)) tt
 
-is-finite-requires : tie.Need-is-finite-requires
-is-finite-requires c κs = search needs
-
-refused-requires : tie.Need-refused-requires
-refused-requires c κs = search needs
-
 returns : tie.Need-returns
 returns c =
     let s = c .before .before .before in
     retime-refuses (s .args .self) (s .args .o) (c .refused .result) (rw (untrue _ _ (c .before .before .is-finite .ensures) (c .before .if1 .taken))) (c .refused .ensures)
-
-is-finite-requires-2 : tie.Need-is-finite-requires-2
-is-finite-requires-2 c κs = search needs
-
-refused-requires-2 : tie.Need-refused-requires-2
-refused-requires-2 c κs = search needs
 
 returns-2 : tie.Need-returns-2
 returns-2 c =
     let s = c .before .before .before .before .before in
     retime-refuses (s .args .self) (s .args .o) (c .refused2 .result) (rw (offset-finite (c .before .before .before), untrue _ _ (c .before .before .is-finite2 .ensures) (c .before .if2 .taken))) (c .refused2 .ensures)
 
-is-identity-requires : tie.Need-is-identity-requires
-is-identity-requires c κs = search needs
-
 returns-3 : tie.Need-returns-3
 returns-3 c =
     let s = c .before .before .before .before .before .before in
     retime-identity (s .args .self) (s .args .o) (s .pre .1) (offset-finite (c .before .before .before .before)) (scale-finite (c .before .before)) (s .pre .0) (sym (c .before .is-identity .ensures) ∙ c .if3 .taken)
 
-blank-requires : tie.Need-blank-requires
-blank-requires c κs = search needs
-
-array-borrow-prefix-times : tie.Need-array-borrow-prefix-times
-array-borrow-prefix-times c = search needs
-
 slice-aggregate-retime-lists : tie.Need-slice-aggregate-retime-lists
 slice-aggregate-retime-lists c = simp length-take (omega arith)
-
-array-borrow-prefix-numbers : tie.Need-array-borrow-prefix-numbers
-array-borrow-prefix-numbers c = search needs
 
 slice-aggregate-retime-lists-2 : tie.Need-slice-aggregate-retime-lists-2
 slice-aggregate-retime-lists-2 c = simp length-take (omega arith)
 
-array-borrow-prefix-xs : tie.Need-array-borrow-prefix-xs
-array-borrow-prefix-xs c = search needs
-
 slice-aggregate-retime-lists-3 : tie.Need-slice-aggregate-retime-lists-3
 slice-aggregate-retime-lists-3 c = simp length-take (omega arith)
 
-array-borrow-prefix-ys : tie.Need-array-borrow-prefix-ys
-array-borrow-prefix-ys c = search needs
-
 slice-aggregate-retime-lists-4 : tie.Need-slice-aggregate-retime-lists-4
 slice-aggregate-retime-lists-4 c = simp length-take (omega arith)
-
-array-borrow-prefix-blocks : tie.Need-array-borrow-prefix-blocks
-array-borrow-prefix-blocks c = search needs
 
 slice-aggregate-retime-lists-5 : tie.Need-slice-aggregate-retime-lists-5
 slice-aggregate-retime-lists-5 c = simp length-take (omega arith)
@@ -110,24 +77,24 @@ pub retime-stage-times-spec : {M : Type 1} → statement M
 retime-stage-times-spec =
     tie.close
     (tie.spec
-    is-finite-requires
-    refused-requires
+    (λ c κs. search needs)
+    (λ c κs. search needs)
     returns
-    is-finite-requires-2
-    refused-requires-2
+    (λ c κs. search needs)
+    (λ c κs. search needs)
     returns-2
-    is-identity-requires
+    (λ c κs. search needs)
     returns-3
-    blank-requires
-    array-borrow-prefix-times
+    (λ c κs. search needs)
+    (λ c. search needs)
     slice-aggregate-retime-lists
-    array-borrow-prefix-numbers
+    (λ c. search needs)
     slice-aggregate-retime-lists-2
-    array-borrow-prefix-xs
+    (λ c. search needs)
     slice-aggregate-retime-lists-3
-    array-borrow-prefix-ys
+    (λ c. search needs)
     slice-aggregate-retime-lists-4
-    array-borrow-prefix-blocks
+    (λ c. search needs)
     slice-aggregate-retime-lists-5
     retime-lists-requires
     returns-4)

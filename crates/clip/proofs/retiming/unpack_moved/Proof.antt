@@ -4,39 +4,6 @@ use Rattle.clip.proofs.Moved.{moved-is}
 use Rattle.clip.proofs.retiming.unpack_moved.Statement.{statement}
 use Rattle.clip.proofs.retiming.unpack_moved.Tie as tie
 
-unpack-active-requires : tie.Need-unpack-active-requires
-unpack-active-requires c κs = search needs
-
-unpack-knots-requires : tie.Need-unpack-knots-requires
-unpack-knots-requires c κs = search needs
-
-unpack-blocks-requires : tie.Need-unpack-blocks-requires
-unpack-blocks-requires c κs = search needs
-
-move-times-requires : tie.Need-move-times-requires
-move-times-requires c κs = search needs
-
-move-times-requires-2 : tie.Need-move-times-requires-2
-move-times-requires-2 c κs = search needs
-
-move-times-requires-3 : tie.Need-move-times-requires-3
-move-times-requires-3 c κs = search needs
-
-same-length : tie.Need-same-length
-same-length c = search needs
-
-same-length-2 : tie.Need-same-length-2
-same-length-2 c = search needs
-
-same-length-3 : tie.Need-same-length-3
-same-length-3 c = search needs
-
-same-length-4 : tie.Need-same-length-4
-same-length-4 c = search needs
-
-same-length-5 : tie.Need-same-length-5
-same-length-5 c = search needs
-
 returns : tie.Need-returns
 returns c =
     let s = c .before .before .before .before .before .before .before .before .before .before .before .before .before .before .before .before .before .before .before .before .before .before .before .before .before .before .before .before .before .before .before .before .before .before .before .before .before .before in
@@ -53,15 +20,15 @@ pub unpack-moved-spec : {M : Type 1} → statement M
 unpack-moved-spec =
     tie.close
     (tie.spec
-    unpack-active-requires
-    unpack-knots-requires
-    unpack-blocks-requires
-    move-times-requires
-    move-times-requires-2
-    move-times-requires-3
-    same-length
-    same-length-2
-    same-length-3
-    same-length-4
-    same-length-5
+    (λ c κs. search needs)
+    (λ c κs. search needs)
+    (λ c κs. search needs)
+    (λ c κs. search needs)
+    (λ c κs. search needs)
+    (λ c κs. search needs)
+    (λ c. search needs)
+    (λ c. search needs)
+    (λ c. search needs)
+    (λ c. search needs)
+    (λ c. search needs)
     returns)

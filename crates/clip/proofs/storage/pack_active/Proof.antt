@@ -21,9 +21,6 @@ Inv-loop times clips items₀ n i₀ items i = Filled (activeOf times clips) ite
 abbrev μ-loop : tie.MeasureT-loop
 μ-loop times clips items₀ n i₀ items i = n - i
 
-no-active-requires : tie.Need-no-active-requires Inv-loop μ-loop
-no-active-requires c κs = search needs
-
 loop-holds : tie.Need-loop-holds Inv-loop μ-loop
 loop-holds c =
     let s = c .before .before .before .before in
@@ -73,7 +70,7 @@ pack-active-spec =
     (tie.spec
     Inv-loop
     μ-loop
-    no-active-requires
+    (λ c κs. search needs)
     loop-holds
     mul-t8
     shared-slice-read-t10

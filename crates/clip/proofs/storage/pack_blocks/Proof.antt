@@ -18,9 +18,6 @@ Inv-loop times items₀ n i₀ items i = Filled times items i × (length items �
 abbrev μ-loop : tie.MeasureT-loop
 μ-loop times items₀ n i₀ items i = n - i
 
-no-blocks-requires : tie.Need-no-blocks-requires Inv-loop μ-loop
-no-blocks-requires c κs = search needs
-
 loop-holds : tie.Need-loop-holds Inv-loop μ-loop
 loop-holds c =
     let s = c .before .before .before in
@@ -62,7 +59,7 @@ pack-blocks-spec =
     (tie.spec
     Inv-loop
     μ-loop
-    no-blocks-requires
+    (λ c κs. search needs)
     loop-holds
     mul-items
     shared-slice-read-items

@@ -22,9 +22,6 @@ Inv-loop xs ys items₀ n i₀ items i = Filled (knotsOf xs ys) items i × (leng
 abbrev μ-loop : tie.MeasureT-loop
 μ-loop xs ys items₀ n i₀ items i = n - i
 
-no-knots-requires : tie.Need-no-knots-requires Inv-loop μ-loop
-no-knots-requires c κs = search needs
-
 loop-holds : tie.Need-loop-holds Inv-loop μ-loop
 loop-holds c =
     let s = c .before .before .before .before in
@@ -74,7 +71,7 @@ pack-knots-spec =
     (tie.spec
     Inv-loop
     μ-loop
-    no-knots-requires
+    (λ c κs. search needs)
     loop-holds
     mul-t8
     shared-slice-read-t10

@@ -33,30 +33,6 @@ loop-holds c =
     let m = unpacked-length (λ (a : Start). a .clip) (c .args .t1 .items) (c .args .t1 .count) (room c) in
     (fill-start (activeTimes l) (now (c .args .times)) (omega (arith, c .pre .1 .0)), fill-start (activeClips l) (now (c .args .clips)) (omega (arith, c .pre .1 .1)), c .pre .1 .0, c .pre .1 .1)
 
-mul-start : tie.Need-mul-start Inv-loop μ-loop
-mul-start c = search needs
-
-element-copy-out-start : tie.Need-element-copy-out-start Inv-loop μ-loop
-element-copy-out-start c = search needs
-
-mul-times : tie.Need-mul-times Inv-loop μ-loop
-mul-times c = search needs
-
-slice-write-times : tie.Need-slice-write-times Inv-loop μ-loop
-slice-write-times c = search needs
-
-mul-clips : tie.Need-mul-clips Inv-loop μ-loop
-mul-clips c = search needs
-
-slice-write-clips : tie.Need-slice-write-clips Inv-loop μ-loop
-slice-write-clips c = search needs
-
-add-i : tie.Need-add-i Inv-loop μ-loop
-add-i c = search needs
-
-loop-less : tie.Need-loop-less Inv-loop μ-loop
-loop-less c = search needs
-
 loop-again : tie.Need-loop-again Inv-loop μ-loop
 loop-again c =
     let k = c .before .before .loop in
@@ -69,12 +45,6 @@ loop-again c =
       length-set (k .times) (k .i) _ ∙ k .inv .2,
       length-set (k .clips) (k .i) _ ∙ k .inv .3,
     )
-
-same-length : tie.Need-same-length Inv-loop μ-loop
-same-length c = search needs
-
-same-length-2 : tie.Need-same-length-2 Inv-loop μ-loop
-same-length-2 c = search needs
 
 returns : tie.Need-returns Inv-loop μ-loop
 returns c =
@@ -92,15 +62,15 @@ unpack-active-spec =
     Inv-loop
     μ-loop
     loop-holds
-    mul-start
-    element-copy-out-start
-    mul-times
-    slice-write-times
-    mul-clips
-    slice-write-clips
-    add-i
-    loop-less
+    (λ c. search needs)
+    (λ c. search needs)
+    (λ c. search needs)
+    (λ c. search needs)
+    (λ c. search needs)
+    (λ c. search needs)
+    (λ c. search needs)
+    (λ c. search needs)
     loop-again
-    same-length
-    same-length-2
+    (λ c. search needs)
+    (λ c. search needs)
     returns)

@@ -25,33 +25,12 @@ loop-holds : tie.Need-loop-holds Inv-loop μ-loop
 loop-holds c =
     (fill-start (blocksIn (c .args .t1)) (now (c .args .times)) (omega (arith, c .pre .1, few c)), c .pre .1)
 
-mul-times : tie.Need-mul-times Inv-loop μ-loop
-mul-times c = search needs
-
-element-copy-out-times : tie.Need-element-copy-out-times Inv-loop μ-loop
-element-copy-out-times c = search needs
-
-mul-times-2 : tie.Need-mul-times-2 Inv-loop μ-loop
-mul-times-2 c = search needs
-
-slice-write-times : tie.Need-slice-write-times Inv-loop μ-loop
-slice-write-times c = search needs
-
-add-i : tie.Need-add-i Inv-loop μ-loop
-add-i c = search needs
-
-loop-less : tie.Need-loop-less Inv-loop μ-loop
-loop-less c = search needs
-
 loop-again : tie.Need-loop-again Inv-loop μ-loop
 loop-again c =
     let k = c .before .before .loop in
     let s = c .before .before .before in
     let n = few s in
     (fill-next (blocksIn (s .args .t1)) (k .times) (k .i) _ nan (k .inv .0) (omega arith) (sym (getD-take (s .args .t1 .count) (s .args .t1 .items) (k .i) nan (omega arith))), length-set (k .times) (k .i) _ ∙ k .inv .1)
-
-same-length : tie.Need-same-length Inv-loop μ-loop
-same-length c = search needs
 
 returns : tie.Need-returns Inv-loop μ-loop
 returns c =
@@ -67,12 +46,12 @@ unpack-blocks-spec =
     Inv-loop
     μ-loop
     loop-holds
-    mul-times
-    element-copy-out-times
-    mul-times-2
-    slice-write-times
-    add-i
-    loop-less
+    (λ c. search needs)
+    (λ c. search needs)
+    (λ c. search needs)
+    (λ c. search needs)
+    (λ c. search needs)
+    (λ c. search needs)
     loop-again
-    same-length
+    (λ c. search needs)
     returns)

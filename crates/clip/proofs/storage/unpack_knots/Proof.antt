@@ -32,30 +32,6 @@ loop-holds c =
     let m = unpacked-length (λ (k : Knot). k .y) (c .args .t1 .items) (c .args .t1 .count) (room c) in
     (fill-start (knotTimes l) (now (c .args .xs)) (omega (arith, c .pre .1 .0)), fill-start (knotValues l) (now (c .args .ys)) (omega (arith, c .pre .1 .1)), c .pre .1 .0, c .pre .1 .1)
 
-mul-knot : tie.Need-mul-knot Inv-loop μ-loop
-mul-knot c = search needs
-
-element-copy-out-knot : tie.Need-element-copy-out-knot Inv-loop μ-loop
-element-copy-out-knot c = search needs
-
-mul-xs : tie.Need-mul-xs Inv-loop μ-loop
-mul-xs c = search needs
-
-slice-write-xs : tie.Need-slice-write-xs Inv-loop μ-loop
-slice-write-xs c = search needs
-
-mul-ys : tie.Need-mul-ys Inv-loop μ-loop
-mul-ys c = search needs
-
-slice-write-ys : tie.Need-slice-write-ys Inv-loop μ-loop
-slice-write-ys c = search needs
-
-add-i : tie.Need-add-i Inv-loop μ-loop
-add-i c = search needs
-
-loop-less : tie.Need-loop-less Inv-loop μ-loop
-loop-less c = search needs
-
 loop-again : tie.Need-loop-again Inv-loop μ-loop
 loop-again c =
     let k = c .before .before .loop in
@@ -68,12 +44,6 @@ loop-again c =
       length-set (k .xs) (k .i) _ ∙ k .inv .2,
       length-set (k .ys) (k .i) _ ∙ k .inv .3,
     )
-
-same-length : tie.Need-same-length Inv-loop μ-loop
-same-length c = search needs
-
-same-length-2 : tie.Need-same-length-2 Inv-loop μ-loop
-same-length-2 c = search needs
 
 returns : tie.Need-returns Inv-loop μ-loop
 returns c =
@@ -91,15 +61,15 @@ unpack-knots-spec =
     Inv-loop
     μ-loop
     loop-holds
-    mul-knot
-    element-copy-out-knot
-    mul-xs
-    slice-write-xs
-    mul-ys
-    slice-write-ys
-    add-i
-    loop-less
+    (λ c. search needs)
+    (λ c. search needs)
+    (λ c. search needs)
+    (λ c. search needs)
+    (λ c. search needs)
+    (λ c. search needs)
+    (λ c. search needs)
+    (λ c. search needs)
     loop-again
-    same-length
-    same-length-2
+    (λ c. search needs)
+    (λ c. search needs)
     returns)

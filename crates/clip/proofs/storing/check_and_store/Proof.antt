@@ -7,26 +7,11 @@ use Rattle.clip.proofs.Stored.{settle-refuses, lists-number-is, settle-
 use Rattle.clip.proofs.storing.check_and_store.Statement.{statement}
 use Rattle.clip.proofs.storing.check_and_store.Tie as tie
 
-lists-number-requires : tie.Need-lists-number-requires
-lists-number-requires c κs = search needs
-
-refused-requires : tie.Need-refused-requires
-refused-requires c κs = search needs
-
 returns : tie.Need-returns
 returns c =
     let a = c .before .before in
     let s = a .before .before .before .before .before .before .before in
     settle-refuses (setOf (s .args .clips) (now (s .args .times)) (now (s .args .numbers)) (now (s .args .xs)) (now (s .args .ys)) (now (s .args .blocks)) (s .args .manifest)) (a .lists-number .result) (c .refused .result) (a .lists-number .ensures ∙ lists-number-is (s .args .clips) (now (s .args .times)) (now (s .args .numbers)) (now (s .args .xs)) (now (s .args .ys)) (now (s .args .blocks)) (s .args .manifest) (s .pre)) (c .before .if1 .taken) (c .refused .ensures)
-
-pack-active-requires : tie.Need-pack-active-requires
-pack-active-requires c κs = search needs
-
-pack-knots-requires : tie.Need-pack-knots-requires
-pack-knots-requires c κs = search needs
-
-pack-blocks-requires : tie.Need-pack-blocks-requires
-pack-blocks-requires c κs = search needs
 
 returns-2 : tie.Need-returns-2
 returns-2 c =
@@ -39,10 +24,10 @@ pub check-and-store-spec : {M : Type 1} → statement M
 check-and-store-spec =
     tie.close
     (tie.spec
-    lists-number-requires
-    refused-requires
+    (λ c κs. search needs)
+    (λ c κs. search needs)
     returns
-    pack-active-requires
-    pack-knots-requires
-    pack-blocks-requires
+    (λ c κs. search needs)
+    (λ c κs. search needs)
+    (λ c κs. search needs)
     returns-2)

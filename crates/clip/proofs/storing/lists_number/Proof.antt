@@ -25,36 +25,21 @@ not4 c = sym (c .before .two-equal .ensures) ∙ c .if4 .left
 not5 : (c : tie.Else5) → threeEqual (now (c .before .before .before .before .before .before .before .before .before .before .before .before .before .args .xs)) ≡ false
 not5 c = sym (c .before .three-equal .ensures) ∙ c .if5 .left
 
-any-unstorable-requires : tie.Need-any-unstorable-requires
-any-unstorable-requires c κs = search needs
-
 returns : tie.Need-returns
 unfolding listsNumber
 returns c = rw (sym (c .before .any-unstorable .ensures) ∙ c .if1 .taken)
-
-any-unstorable-requires-2 : tie.Need-any-unstorable-requires-2
-any-unstorable-requires-2 c κs = search needs
 
 returns-2 : tie.Need-returns-2
 unfolding listsNumber
 returns-2 c = rw (not1 (c .before .before), sym (c .before .any-unstorable2 .ensures) ∙ c .if2 .taken)
 
-any-unstorable-requires-3 : tie.Need-any-unstorable-requires-3
-any-unstorable-requires-3 c κs = search needs
-
 returns-3 : tie.Need-returns-3
 unfolding listsNumber
 returns-3 c = rw (not1 (c .before .before .before .before), not2 (c .before .before), sym (c .before .any-unstorable3 .ensures) ∙ c .if3 .taken)
 
-two-equal-requires : tie.Need-two-equal-requires
-two-equal-requires c κs = search needs
-
 returns-4 : tie.Need-returns-4
 unfolding listsNumber
 returns-4 c = let a = c .before .before in rw (not1 (a .before .before .before .before), not2 (a .before .before), not3 a, sym (c .before .two-equal .ensures) ∙ c .if4 .taken)
-
-three-equal-requires : tie.Need-three-equal-requires
-three-equal-requires c κs = search needs
 
 returns-5 : tie.Need-returns-5
 unfolding listsNumber
@@ -72,15 +57,15 @@ pub lists-number-spec : {M : Type 1} → statement M
 lists-number-spec =
     tie.close
     (tie.spec
-    any-unstorable-requires
+    (λ c κs. search needs)
     returns
-    any-unstorable-requires-2
+    (λ c κs. search needs)
     returns-2
-    any-unstorable-requires-3
+    (λ c κs. search needs)
     returns-3
-    two-equal-requires
+    (λ c κs. search needs)
     returns-4
-    three-equal-requires
+    (λ c κs. search needs)
     returns-5
     returns-6
     returns-7)

@@ -8,27 +8,6 @@ use Rattle.clip.proofs.Stored.{sorted-is}
 use Rattle.clip.proofs.storing.sort_check_and_store.Statement.{statement}
 use Rattle.clip.proofs.storing.sort_check_and_store.Tie as tie
 
-sort-starts-requires : tie.Need-sort-starts-requires
-sort-starts-requires c κs = search needs
-
-sort-knots-requires : tie.Need-sort-knots-requires
-sort-knots-requires c κs = search needs
-
-check-and-store-requires : tie.Need-check-and-store-requires
-check-and-store-requires c κs = search needs
-
-same-length : tie.Need-same-length
-same-length c = search needs
-
-same-length-2 : tie.Need-same-length-2
-same-length-2 c = search needs
-
-same-length-3 : tie.Need-same-length-3
-same-length-3 c = search needs
-
-same-length-4 : tie.Need-same-length-4
-same-length-4 c = search needs
-
 returns : tie.Need-returns
 returns c =
     let s = c .before .before .before .before .before .before .before .before .before .before .before .before .before .before .before .before .before .before .before .before .before .before .before .before in
@@ -42,11 +21,11 @@ pub sort-check-and-store-spec : {M : Type 1} → statement M
 sort-check-and-store-spec =
     tie.close
     (tie.spec
-    sort-starts-requires
-    sort-knots-requires
-    check-and-store-requires
-    same-length
-    same-length-2
-    same-length-3
-    same-length-4
+    (λ c κs. search needs)
+    (λ c κs. search needs)
+    (λ c κs. search needs)
+    (λ c. search needs)
+    (λ c. search needs)
+    (λ c. search needs)
+    (λ c. search needs)
     returns)

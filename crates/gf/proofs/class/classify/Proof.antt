@@ -38,12 +38,6 @@ returns-4 c =
     let at = c .before .before in
     arm-below-one (at .before .before .args .x) (held at) (at .fields-of .result) (at .fields-of .ensures) (c .before .match .rest .1) (c .if3 .taken)
 
-sub-ends-in-zeros : tie.Need-sub-ends-in-zeros
-sub-ends-in-zeros c = search needs
-
-ends-in-zeros-requires : tie.Need-ends-in-zeros-requires
-ends-in-zeros-requires c κs = search needs
-
 -- where the point stands within the digits, the class is what `ends_in_zeros` answers
 by-digits : (c : tie.After-ends-in-zeros) → classOf (c .before .before .before .before .before .before .args .x) ≡ cond (c .ends-in-zeros .result) Whole Fraction
 by-digits c =
@@ -76,8 +70,8 @@ classify-spec =
     returns-2
     returns-3
     returns-4
-    sub-ends-in-zeros
-    ends-in-zeros-requires
+    (λ c. search needs)
+    (λ c κs. search needs)
     returns-5
     returns-6
     returns-7

@@ -13,9 +13,6 @@ use Rattle.gf.proofs.class.ends_in_zeros.Tie as tie
 shifted : (k : ℕ) → k < 64 → 1 * 2 ^ k % 0x1_0000_0000_0000_0000 ≡ 2 ^ k
 shifted k h = shl-exact 1 k 64 (lit< tt) (omega arith) ∙ one-mul (2 ^ k)
 
-shl-result : tie.Need-shl-result
-shl-result c = search needs
-
 sub-result : tie.Need-sub-result
 sub-result c = subst (λ (n : ℕ). 1 ≤ n) (sym (shifted (c .args .count) (c .pre))) (pow-pos (c .args .count))
 
@@ -26,4 +23,4 @@ returns c =
     ap (λ (n : ℕ). eqb n 0) (ap (λ (n : ℕ). bitAnd digits (n - 1)) (shifted count (c .pre)) ∙ and-mask digits count)
 
 pub ends-in-zeros-spec : {M : Type 1} → statement M
-ends-in-zeros-spec = tie.close (tie.spec shl-result sub-result returns)
+ends-in-zeros-spec = tie.close (tie.spec (λ c. search needs) sub-result returns)

@@ -28,9 +28,6 @@ beyond w clips x h a b k = go (ltb (truncated x) clips) (ltb-true (truncated x) 
 whole : (c : tie.Then1) → isWhole (c .before .before .args .x) ≡ true
 whole c = sym (c .before .is-whole .ensures) ∙ c .if1 .taken
 
-is-whole-requires : tie.Need-is-whole-requires
-is-whole-requires c κs = search needs
-
 to-index-requires : tie.Need-to-index-requires
 unfolding ofBits
 to-index-requires c κs =
@@ -66,4 +63,4 @@ returns-4 c = rw (sym (c .before .is-whole .ensures) ∙ c .if1 .left)
 
 pub is-clip-number-spec : {M : Type 1} → statement M
 is-clip-number-spec =
-    tie.close (tie.spec is-whole-requires to-index-requires returns returns-2 returns-3 returns-4)
+    tie.close (tie.spec (λ c κs. search needs) to-index-requires returns returns-2 returns-3 returns-4)

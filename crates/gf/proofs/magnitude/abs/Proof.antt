@@ -15,8 +15,5 @@ returns c = let e = differs-from-itself (c .before .args .x) (subst T (sym (c .i
 without-sign-requires : tie.Need-without-sign-requires
 without-sign-requires c κs = not-nan (c .before .args .x) (c .if1 .left)
 
-returns-2 : tie.Need-returns-2
-returns-2 c = search needs
-
 pub abs-spec : {M : Type 1} → statement M
-abs-spec = tie.close (tie.spec returns without-sign-requires returns-2)
+abs-spec = tie.close (tie.spec returns without-sign-requires (λ c. search needs))

@@ -18,9 +18,6 @@ bits c =
     let at = c .before in
     c .rank .ensures ∙ rank-is (at .before .args .x) (at .fields-of .result) (at .fields-of .ensures)
 
-fields-of-requires : tie.Need-fields-of-requires
-fields-of-requires c κs = search needs
-
 rank-requires : tie.Need-rank-requires
 rank-requires c κs = few-digits (c .before .args .x) (c .fields-of .result) (c .fields-of .ensures)
 
@@ -35,4 +32,4 @@ returns c =
     ap (ofBits binary64) (bits c) ∙ abs-of-bits (start .args .x) (held start) (start .pre)
 
 pub without-sign-spec : {M : Type 1} → statement M
-without-sign-spec = tie.close (tie.spec fields-of-requires rank-requires float-from-bits-result returns)
+without-sign-spec = tie.close (tie.spec (λ c κs. search needs) rank-requires float-from-bits-result returns)

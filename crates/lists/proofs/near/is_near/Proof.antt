@@ -6,9 +6,6 @@ use borrow.Author.Needs.{needs}
 use Rattle.lists.proofs.near.is_near.Statement.{statement}
 use Rattle.lists.proofs.near.is_near.Tie as tie
 
-is-place-requires : tie.Need-is-place-requires
-is-place-requires c κs = search needs
-
 returns : tie.Need-returns
 returns c = λ e. eqb-true _ _ (sym (c .is-place .ensures) ∙ e)
 
@@ -16,4 +13,4 @@ returns-2 : tie.Need-returns-2
 returns-2 c = λ e. absurd (false≢true e)
 
 pub is-near-spec : {M : Type 1} → statement M
-is-near-spec = tie.close (tie.spec is-place-requires returns returns-2)
+is-near-spec = tie.close (tie.spec (λ c κs. search needs) returns returns-2)

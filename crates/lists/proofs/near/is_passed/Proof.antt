@@ -12,15 +12,6 @@ use Rattle.lists.proofs.near.is_passed.Tie as tie
 held : (c : tie.Start) → T (fits binary64 (c .args .t))
 held c = subst T (sym (c .good .1 .1 .0 .1)) tt
 
-add-next : tie.Need-add-next
-add-next c = search needs
-
-mul-result : tie.Need-mul-result
-mul-result c = search needs
-
-shared-slice-read-result : tie.Need-shared-slice-read-result
-shared-slice-read-result c = search needs
-
 returns : tie.Need-returns
 returns c =
     let s = c .before .before in
@@ -33,4 +24,4 @@ returns-2 c =
 
 pub is-passed-spec : {M : Type 1} → statement M
 is-passed-spec =
-    tie.close (tie.spec add-next mul-result shared-slice-read-result returns returns-2)
+    tie.close (tie.spec (λ c. search needs) (λ c. search needs) (λ c. search needs) returns returns-2)

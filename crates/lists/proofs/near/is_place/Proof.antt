@@ -6,16 +6,10 @@ use borrow.Author.Needs.{needs}
 use Rattle.lists.proofs.near.is_place.Statement.{statement}
 use Rattle.lists.proofs.near.is_place.Tie as tie
 
-is-passed-requires : tie.Need-is-passed-requires
-is-passed-requires c κs = search needs
-
 returns : tie.Need-returns
 returns c =
     let a = c .before .before .before .args in
     behind-place (a .place) (lastAtMost (a .times .now) (a .t)) (sym (c .before .is-passed .ensures) ∙ c .if1 .taken)
-
-is-reached-requires : tie.Need-is-reached-requires
-is-reached-requires c κs = search needs
 
 returns-2 : tie.Need-returns-2
 returns-2 c =
@@ -23,4 +17,4 @@ returns-2 c =
     c .is-reached .ensures ∙ at-place (a .place) (lastAtMost (a .times .now) (a .t)) (sym (c .before .before .is-passed .ensures) ∙ c .before .if1 .left)
 
 pub is-place-spec : {M : Type 1} → statement M
-is-place-spec = tie.close (tie.spec is-passed-requires returns is-reached-requires returns-2)
+is-place-spec = tie.close (tie.spec (λ c κs. search needs) returns (λ c κs. search needs) returns-2)

@@ -20,16 +20,10 @@ returns c =
     let e = c .if1 .taken in
     sym (le-leb (a .place) (lastAtMost (a .times .now) (a .t)) (omega arith))
 
-mul-result : tie.Need-mul-result
-mul-result c = search needs
-
-shared-slice-read-result : tie.Need-shared-slice-read-result
-shared-slice-read-result c = search needs
-
 returns-2 : tie.Need-returns-2
 returns-2 c =
     let s = c .before .before in
     reached-is (s .args .t) (held s) (s .args .times .now) (s .pre .0) (s .args .place) (c .before .if1 .left) (omega (arith, s .pre .1))
 
 pub is-reached-spec : {M : Type 1} → statement M
-is-reached-spec = tie.close (tie.spec returns mul-result shared-slice-read-result returns-2)
+is-reached-spec = tie.close (tie.spec returns (λ c. search needs) (λ c. search needs) returns-2)

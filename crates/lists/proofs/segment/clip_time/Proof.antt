@@ -8,12 +8,9 @@ returns : tie.Need-returns
 unfolding onSegment
 returns c = rw (c .if1 .taken)
 
-lerp-requires : tie.Need-lerp-requires
-lerp-requires c κs = search needs
-
 returns-2 : tie.Need-returns-2
 unfolding onSegment
 returns-2 c = rw (c .before .if1 .left) (c .lerp .ensures)
 
 pub clip-time-spec : {M : Type 1} → statement M
-clip-time-spec = tie.close (tie.spec returns lerp-requires returns-2)
+clip-time-spec = tie.close (tie.spec returns (λ c κs. search needs) returns-2)

@@ -9,17 +9,8 @@ use Rattle.lists.proofs.segment.segment_at.Tie as tie
 abbrev joined : Knot → Knot → Segment
 joined a b = record { a = a; b = b }
 
-knot-at-requires : tie.Need-knot-at-requires
-knot-at-requires c κs = search needs
-
-add-knot-at : tie.Need-add-knot-at
-add-knot-at c = search needs
-
-knot-at-requires-2 : tie.Need-knot-at-requires-2
-knot-at-requires-2 c κs = search needs
-
 returns : tie.Need-returns
 returns c = ap₂ joined (c .before .knot-at .ensures) (c .knot-at2 .ensures)
 
 pub segment-at-spec : {M : Type 1} → statement M
-segment-at-spec = tie.close (tie.spec knot-at-requires add-knot-at knot-at-requires-2 returns)
+segment-at-spec = tie.close (tie.spec (λ c κs. search needs) (λ c. search needs) (λ c κs. search needs) returns)

@@ -5,16 +5,10 @@ use Rattle.names.proofs.BodyLaws.{body-none, body-some}
 use Rattle.names.proofs.body.body_at.Statement.{statement}
 use Rattle.names.proofs.body.body_at.Tie as tie
 
-whole-body-requires : tie.Need-whole-body-requires
-whole-body-requires c κs = search needs
-
 returns : tie.Need-returns
 returns c =
     let a = c .before .before .args in
     c .whole-body .ensures ∙ body-none (a .p .width) (a .p .fraction) (a .x) (c .before .if1 .taken)
-
-fraction-body-requires : tie.Need-fraction-body-requires
-fraction-body-requires c κs = search needs
 
 returns-2 : tie.Need-returns-2
 returns-2 c =
@@ -22,4 +16,4 @@ returns-2 c =
     c .fraction-body .ensures ∙ body-some (a .p .width) (a .p .fraction) (a .x) (c .before .if1 .left)
 
 pub body-at-spec : {M : Type 1} → statement M
-body-at-spec = tie.close (tie.spec whole-body-requires returns fraction-body-requires returns-2)
+body-at-spec = tie.close (tie.spec (λ c κs. search needs) returns (λ c κs. search needs) returns-2)

@@ -5,9 +5,6 @@ use Rattle.names.proofs.BodyLaws.{length-body}
 use Rattle.names.proofs.body.body_length.Statement.{statement}
 use Rattle.names.proofs.body.body_length.Tie as tie
 
-sign-length-requires : tie.Need-sign-length-requires
-sign-length-requires c κs = search needs
-
 add-result : tie.Need-add-result
 add-result c = omega (arith, length-body (c .before .before .args .b))
 
@@ -22,4 +19,4 @@ returns c = omega (arith, length-body (c .before .before .before .args .b))
 
 pub body-length-spec : {M : Type 1} → statement M
 body-length-spec =
-    tie.close (tie.spec sign-length-requires add-result fraction-length-requires add-result-2 returns)
+    tie.close (tie.spec (λ c κs. search needs) add-result fraction-length-requires add-result-2 returns)

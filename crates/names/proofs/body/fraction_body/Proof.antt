@@ -10,23 +10,8 @@ use Rattle.names.proofs.BodyLaws.{decimals-is, with-fraction}
 use Rattle.names.proofs.body.fraction_body.Statement.{statement}
 use Rattle.names.proofs.body.fraction_body.Tie as tie
 
-measure-requires : tie.Need-measure-requires
-measure-requires c κs = search needs
-
-decimals-requires : tie.Need-decimals-requires
-decimals-requires c κs = search needs
-
-power-of-ten-requires : tie.Need-power-of-ten-requires
-power-of-ten-requires c κs = search needs
-
 div-whole : tie.Need-div-whole
 div-whole c = omega (arith, one-le-pow (c .before .before .before .args .k) 10 (omega arith))
-
-places-requires : tie.Need-places-requires
-places-requires c κs = search needs
-
-wider-requires : tie.Need-wider-requires
-wider-requires c κs = search needs
 
 rem-t10 : tie.Need-rem-t10
 rem-t10 c = div-whole (c .before .before)
@@ -48,11 +33,11 @@ pub fraction-body-spec : {M : Type 1} → statement M
 fraction-body-spec =
     tie.close
     (tie.spec
-    measure-requires
-    decimals-requires
-    power-of-ten-requires
+    (λ c κs. search needs)
+    (λ c κs. search needs)
+    (λ c κs. search needs)
     div-whole
-    places-requires
-    wider-requires
+    (λ c κs. search needs)
+    (λ c κs. search needs)
     rem-t10
     returns)

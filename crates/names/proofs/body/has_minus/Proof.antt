@@ -9,8 +9,5 @@ use Rattle.names.proofs.body.has_minus.Tie as tie
 returns : tie.Need-returns
 returns c = sym (ap (λ (b : Bool). b && ltb 0 (c .before .args .n)) (c .if1 .taken))
 
-returns-2 : tie.Need-returns-2
-returns-2 c = search needs
-
 pub has-minus-spec : {M : Type 1} → statement M
-has-minus-spec = tie.close (tie.spec returns returns-2)
+has-minus-spec = tie.close (tie.spec returns (λ c. search needs))

@@ -10,9 +10,6 @@ use Rattle.names.proofs.body.put_body.Tie as tie
 put-sign-requires : tie.Need-put-sign-requires
 put-sign-requires c κs = omega (arith, length-body (c .before .before .args .b), c .before .before .pre)
 
-sign-length-requires : tie.Need-sign-length-requires
-sign-length-requires c κs = search needs
-
 add-whole : tie.Need-add-whole
 add-whole c =
     let s = c .before .before .before .before .before .before in
@@ -36,9 +33,6 @@ put-fraction-requires c κs =
     point-room (s .args .out .now) (s .args .at) (s .args .b) (s .pre) _ (n .before .before .before .put-sign .ensures) _
     (ap (λ (n : ℕ). s .args .at + n) (n .sign-length .ensures)) _ (c .before .before .before .before .put-digits .ensures)
 
-same-length : tie.Need-same-length
-same-length c = search needs
-
 returns : tie.Need-returns
 returns c =
     let d = c .before .before .before .before .before .before .before in
@@ -52,10 +46,10 @@ put-body-spec =
     tie.close
     (tie.spec
     put-sign-requires
-    sign-length-requires
+    (λ c κs. search needs)
     add-whole
     put-digits-requires
     add-put-fraction
     put-fraction-requires
-    same-length
+    (λ c. search needs)
     returns)

@@ -19,9 +19,6 @@ room c = omega (arith, with-dot (c .before .before .args .k) (c .if1 .left))
 slice-write-out : tie.Need-slice-write-out
 slice-write-out c = omega (arith, room c)
 
-add-put-digits : tie.Need-add-put-digits
-add-put-digits c = search needs
-
 put-digits-requires : tie.Need-put-digits-requires
 put-digits-requires c κs = omega (arith, room (c .before), length-set (c .before .before .before .args .out .now) (c .before .before .before .args .at) 46)
 
@@ -40,4 +37,4 @@ same-length c =
 pub put-fraction-spec : {M : Type 1} → statement M
 put-fraction-spec =
     tie.close
-    (tie.spec returns slice-write-out add-put-digits put-digits-requires same-length returns-2)
+    (tie.spec returns slice-write-out (λ c. search needs) put-digits-requires same-length returns-2)

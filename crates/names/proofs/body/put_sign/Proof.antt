@@ -12,9 +12,6 @@ use Rattle.names.proofs.body.put_sign.Tie as tie
 slice-write-out : tie.Need-slice-write-out
 slice-write-out c = omega (arith, ap (λ (s : Bool). length (signOf s)) (c .if1 .taken))
 
-same-length : tie.Need-same-length
-same-length c = search needs
-
 returns : tie.Need-returns
 returns c = let s = c .before in put-minus (s .args .minus) (s .args .out .now) (s .args .at) (c .if1 .taken) (s .pre)
 
@@ -22,4 +19,4 @@ returns-2 : tie.Need-returns-2
 returns-2 c = let s = c .before in put-no-minus (s .args .minus) (s .args .out .now) (s .args .at) (c .if1 .left)
 
 pub put-sign-spec : {M : Type 1} → statement M
-put-sign-spec = tie.close (tie.spec slice-write-out same-length returns returns-2)
+put-sign-spec = tie.close (tie.spec slice-write-out (λ c. search needs) returns returns-2)

@@ -8,24 +8,6 @@ use Rattle.names.proofs.BodyLaws.{truncated-is, with-minus, without-min
 use Rattle.names.proofs.body.whole_body.Statement.{statement}
 use Rattle.names.proofs.body.whole_body.Tie as tie
 
-measure-requires : tie.Need-measure-requires
-measure-requires c κs = search needs
-
-whole-requires : tie.Need-whole-requires
-whole-requires c κs = search needs
-
-places-requires : tie.Need-places-requires
-places-requires c κs = search needs
-
-has-minus-requires : tie.Need-has-minus-requires
-has-minus-requires c κs = search needs
-
-sub-wider : tie.Need-sub-wider
-sub-wider c = search needs
-
-wider-requires : tie.Need-wider-requires
-wider-requires c κs = search needs
-
 part : (c : tie.After-whole) → c .whole .result ≡ truncated (c .before .before .args .x)
 part c =
     let s = c .before .before in
@@ -39,9 +21,6 @@ returns c =
     (sym (c .before .before .has-minus .ensures) ∙ c .before .if1 .taken)
     (c .wider .ensures ∙ ap (max (s .args .width - 1)) (c .before .before .before .places .ensures .0))
 
-wider-requires-2 : tie.Need-wider-requires-2
-wider-requires-2 c κs = search needs
-
 returns-2 : tie.Need-returns-2
 returns-2 c =
     let w = c .before .before .before .before in
@@ -54,12 +33,12 @@ pub whole-body-spec : {M : Type 1} → statement M
 whole-body-spec =
     tie.close
     (tie.spec
-    measure-requires
-    whole-requires
-    places-requires
-    has-minus-requires
-    sub-wider
-    wider-requires
+    (λ c κs. search needs)
+    (λ c κs. search needs)
+    (λ c κs. search needs)
+    (λ c κs. search needs)
+    (λ c. search needs)
+    (λ c κs. search needs)
     returns
-    wider-requires-2
+    (λ c κs. search needs)
     returns-2)

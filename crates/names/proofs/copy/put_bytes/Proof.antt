@@ -57,9 +57,6 @@ loop-again c =
           ∙ k .inv .3,
     )
 
-same-length : tie.Need-same-length Inv-loop μ-loop
-same-length c = search needs
-
 returns : tie.Need-returns Inv-loop μ-loop
 returns c =
     let k = c .before .loop in
@@ -84,5 +81,5 @@ put-bytes-spec =
     add-i
     loop-less
     loop-again
-    same-length
+    (λ c. search needs)
     returns)

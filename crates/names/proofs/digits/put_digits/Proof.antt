@@ -49,9 +49,6 @@ loop-again c =
       put-digit (k .out) at (k .i - 1) (k .left) (omega arith) ∙ ap (λ (w : ℕ). put (k .out) at (digits w (k .left))) more ∙ k .inv .2,
     )
 
-same-length : tie.Need-same-length Inv-loop μ-loop
-same-length c = search needs
-
 returns : tie.Need-returns Inv-loop μ-loop
 unfolding digits
 returns c =
@@ -74,5 +71,5 @@ put-digits-spec =
     slice-write-out
     loop-less
     loop-again
-    same-length
+    (λ c. search needs)
     returns)

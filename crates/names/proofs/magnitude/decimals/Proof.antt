@@ -8,9 +8,6 @@ use Rattle.names.proofs.RoundingLaws.{ten-le, low-lt, high-lt, product,
 use Rattle.names.proofs.magnitude.decimals.Statement.{statement}
 use Rattle.names.proofs.magnitude.decimals.Tie as tie
 
-power-of-ten-requires : tie.Need-power-of-ten-requires
-power-of-ten-requires c κs = search needs
-
 small : (c : tie.After-power-of-ten) → c .power-of-ten .result ≤ 1000000
 small c = omega (arith, ten-le (c .before .args .k) (c .before .pre .2))
 
@@ -27,9 +24,6 @@ add-high c =
     let s = c .before .before .before in
     let ten = c .before .before .power-of-ten .result in
     omega (arith, high-lt (s .args .m .digits) ten (s .pre .0) (small (c .before .before)), low-lt (s .args .m .digits) ten (s .pre .0) (small (c .before .before)))
-
-sub-nearest : tie.Need-sub-nearest
-sub-nearest c = search needs
 
 nearest-requires : tie.Need-nearest-requires
 nearest-requires c κs =
@@ -53,4 +47,4 @@ returns c =
 pub decimals-spec : {M : Type 1} → statement M
 decimals-spec =
     tie.close
-    (tie.spec power-of-ten-requires mul-low mul-high add-high sub-nearest nearest-requires returns)
+    (tie.spec (λ c κs. search needs) mul-low mul-high add-high (λ c. search needs) nearest-requires returns)

@@ -20,9 +20,6 @@ float-to-bits-bits c = finite-no-nan (c .args .x) (within-finite 40 (c .args .x)
 returns : tie.Need-returns
 returns c = measured-tiny (c .before .args .x) (held (c .before)) (c .before .pre) (c .if1 .taken)
 
-add-t6 : tie.Need-add-t6
-add-t6 c = search needs
-
 sub-t8 : tie.Need-sub-t8
 sub-t8 c = omega (arith, measured (c .before .args .x) (held (c .before)) (c .before .pre) (c .if1 .left) .0)
 
@@ -30,4 +27,4 @@ returns-2 : tie.Need-returns-2
 returns-2 c = measured (c .before .args .x) (held (c .before)) (c .before .pre) (c .if1 .left) .1
 
 pub measure-spec : {M : Type 1} → statement M
-measure-spec = tie.close (tie.spec float-to-bits-bits returns add-t6 sub-t8 returns-2)
+measure-spec = tie.close (tie.spec float-to-bits-bits returns (λ c. search needs) sub-t8 returns-2)

@@ -11,9 +11,6 @@ returns c =
     let s = c .before in
     none (s .args .high) (s .args .low) (s .args .shift) (s .pre .1) (s .pre .2) (c .if1 .taken) (s .pre .0)
 
-power-of-two-requires : tie.Need-power-of-two-requires
-power-of-two-requires c κs = search needs
-
 div-whole : tie.Need-div-whole
 div-whole c =
     let s = c .before .before in
@@ -66,7 +63,7 @@ nearest-spec =
     tie.close
     (tie.spec
     returns
-    power-of-two-requires
+    (λ c κs. search needs)
     div-whole
     rem-rest
     returns-2

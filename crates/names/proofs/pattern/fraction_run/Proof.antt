@@ -8,17 +8,8 @@ use Rattle.names.proofs.pattern.fraction_run.Tie as tie
 returns : tie.Need-returns
 returns c = sym (dot-end (c .before .before .args .template .now) (c .before .before .args .from) (c .if1 .taken))
 
-shared-slice-read-if2 : tie.Need-shared-slice-read-if2
-shared-slice-read-if2 c = search needs
-
 returns-2 : tie.Need-returns-2
 returns-2 c = let a = c .before .before .before .before .args in sym (dot-not (a .template .now) (a .from) (search needs) (c .if2 .taken))
-
-add-hash-run : tie.Need-add-hash-run
-add-hash-run c = search needs
-
-hash-run-requires : tie.Need-hash-run-requires
-hash-run-requires c κs = search needs
 
 returns-3 : tie.Need-returns-3
 returns-3 c =
@@ -28,4 +19,4 @@ returns-3 c =
 pub fraction-run-spec : {M : Type 1} → statement M
 fraction-run-spec =
     tie.close
-    (tie.spec returns shared-slice-read-if2 returns-2 add-hash-run hash-run-requires returns-3)
+    (tie.spec returns (λ c. search needs) returns-2 (λ c. search needs) (λ c κs. search needs) returns-3)

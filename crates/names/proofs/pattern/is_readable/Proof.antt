@@ -17,9 +17,6 @@ returns-3 c =
     fraction-too-wide _ (c .before .before .before .before .before .before .before .args .p)
     (c .before .before .before .before .if1 .left) (c .before .before .if2 .left) (c .if3 .taken)
 
-has-hash-requires : tie.Need-has-hash-requires
-has-hash-requires c κs = search needs
-
 returns-4 : tie.Need-returns-4
 returns-4 c =
     let s = c .before .before .before .before .before .before .before .before in
@@ -27,4 +24,4 @@ returns-4 c =
     ∙ no-later-hash (s .args .template .now) (s .args .p) (c .before .before .before .before .before .if1 .left) (c .before .before .before .if2 .left) (c .before .if3 .left)
 
 pub is-readable-spec : {M : Type 1} → statement M
-is-readable-spec = tie.close (tie.spec returns returns-2 returns-3 has-hash-requires returns-4)
+is-readable-spec = tie.close (tie.spec returns returns-2 returns-3 (λ c κs. search needs) returns-4)

@@ -9,19 +9,10 @@ use Rattle.names.proofs.PatternLaws.{runs-held, fraction-held, parsed, 
 use Rattle.names.proofs.pattern.parse.Statement.{statement}
 use Rattle.names.proofs.pattern.parse.Tie as tie
 
-before-hash-requires : tie.Need-before-hash-requires
-before-hash-requires c κs = search needs
-
-hash-run-requires : tie.Need-hash-run-requires
-hash-run-requires c κs = search needs
-
 add-end : tie.Need-add-end
 add-end c =
     let p : Pattern = record { first = c .before .before-hash .result; width = c .hash-run .result; fraction = 0; suffix = 0 } in
     omega (arith, runs-held (c .before .before .before .args .template .now) p (c .before .before-hash .ensures) (c .hash-run .ensures))
-
-fraction-run-requires : tie.Need-fraction-run-requires
-fraction-run-requires c κs = search needs
 
 returns : tie.Need-returns
 returns c = parsed _ _ (c .before .before .before .before-hash .ensures) (c .before .before .hash-run .ensures) (c .before .fraction-run .ensures) (omega (arith, without-dot _ (c .if1 .taken)))
@@ -52,10 +43,10 @@ pub parse-spec : {M : Type 1} → statement M
 parse-spec =
     tie.close
     (tie.spec
-    before-hash-requires
-    hash-run-requires
+    (λ c κs. search needs)
+    (λ c κs. search needs)
     add-end
-    fraction-run-requires
+    (λ c κs. search needs)
     returns
     add-t7
     add-t8

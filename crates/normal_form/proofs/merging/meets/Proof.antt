@@ -31,15 +31,6 @@ inside n (f ∷ l) h e = e .0
 returns : tie.Need-returns
 returns c = none (c .before .args .times .now) (c .before .args .place) (c .before .args .firsts .now) (c .if1 .taken)
 
-mul-result : tie.Need-mul-result
-mul-result c = search needs
-
-shared-slice-read-result : tie.Need-shared-slice-read-result
-shared-slice-read-result c = search needs
-
-shared-slice-read-result-2 : tie.Need-shared-slice-read-result-2
-shared-slice-read-result-2 c = search needs
-
 cast-result : tie.Need-cast-result
 cast-result c = omega (arith, c .shared-slice-known2 .given 0)
 
@@ -61,9 +52,9 @@ meets-spec =
     tie.close
     (tie.spec
     returns
-    mul-result
-    shared-slice-read-result
-    shared-slice-read-result-2
+    (λ c. search needs)
+    (λ c. search needs)
+    (λ c. search needs)
     cast-result
     mul-result-2
     shared-slice-read-result-3

@@ -16,21 +16,6 @@ entry c = c .before .before .before .before
 returns : tie.Need-returns
 returns c = let a = c .before .before .before .before .args in held-none (now (a .times)) (now (a .values)) (now (a .marks)) (a .begin) (a .end) (a .t) (c .if1 .taken)
 
-mul-last-at-most : tie.Need-mul-last-at-most
-mul-last-at-most c = search needs
-
-sub-last-at-most : tie.Need-sub-last-at-most
-sub-last-at-most c = search needs
-
-part-last-at-most-start : tie.Need-part-last-at-most-start
-part-last-at-most-start c = search needs
-
-part-last-at-most-end : tie.Need-part-last-at-most-end
-part-last-at-most-end c = search needs
-
-last-at-most-requires : tie.Need-last-at-most-requires
-last-at-most-requires c κs = search needs
-
 marked-at-requires : tie.Need-marked-at-requires
 marked-at-requires c κs =
     let e = c .before .before in
@@ -53,10 +38,10 @@ held-reading-spec =
     tie.close
     (tie.spec
     returns
-    mul-last-at-most
-    sub-last-at-most
-    part-last-at-most-start
-    part-last-at-most-end
-    last-at-most-requires
+    (λ c. search needs)
+    (λ c. search needs)
+    (λ c. search needs)
+    (λ c. search needs)
+    (λ c κs. search needs)
     marked-at-requires
     returns-2)

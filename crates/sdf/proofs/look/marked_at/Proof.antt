@@ -6,18 +6,6 @@ use Rattle.sdf.proofs.look.ReadsLaws.{marked-value, marked-block}
 use Rattle.sdf.proofs.look.marked_at.Statement.{statement}
 use Rattle.sdf.proofs.look.marked_at.Tie as tie
 
-add-at : tie.Need-add-at
-add-at c = search needs
-
-shared-slice-read-if1 : tie.Need-shared-slice-read-if1
-shared-slice-read-if1 c = search needs
-
-mul-t9 : tie.Need-mul-t9
-mul-t9 c = search needs
-
-shared-slice-read-t11 : tie.Need-shared-slice-read-t11
-shared-slice-read-t11 c = search needs
-
 returns : tie.Need-returns
 returns c =
     let s = c .before .before .before in
@@ -28,4 +16,4 @@ returns-2 : tie.Need-returns-2
 returns-2 c = let a = c .before .before .args in marked-block (now (a .values)) (now (a .marks)) (a .begin + a .place) (c .if1 .left)
 
 pub marked-at-spec : {M : Type 1} → statement M
-marked-at-spec = tie.close (tie.spec add-at shared-slice-read-if1 mul-t9 shared-slice-read-t11 returns returns-2)
+marked-at-spec = tie.close (tie.spec (λ c. search needs) (λ c. search needs) (λ c. search needs) (λ c. search needs) returns returns-2)

@@ -14,15 +14,6 @@ returns : tie.Need-returns
 unfolding clipBegin
 returns c = rw (c .if1 .taken)
 
-sub-before : tie.Need-sub-before
-sub-before c = search needs
-
-mul-result : tie.Need-mul-result
-mul-result c = search needs
-
-shared-slice-read-result : tie.Need-shared-slice-read-result
-shared-slice-read-result c = search needs
-
 returns-2 : tie.Need-returns-2
 unfolding clipBegin
 returns-2 c = go (c .before .before .args .clip) (now (c .before .before .args .ends)) (c .before .if1 .left)
@@ -33,4 +24,4 @@ returns-2 c = go (c .before .before .args .clip) (now (c .before .before .args .
 
 pub clip-begin-spec : {M : Type 1} → statement M
 clip-begin-spec =
-    tie.close (tie.spec returns sub-before mul-result shared-slice-read-result returns-2)
+    tie.close (tie.spec returns (λ c. search needs) (λ c. search needs) (λ c. search needs) returns-2)

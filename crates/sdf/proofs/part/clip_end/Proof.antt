@@ -5,15 +5,9 @@ use borrow.Author.Needs.{needs}
 use Rattle.sdf.proofs.part.clip_end.Statement.{statement}
 use Rattle.sdf.proofs.part.clip_end.Tie as tie
 
-mul-result : tie.Need-mul-result
-mul-result c = search needs
-
-shared-slice-read-result : tie.Need-shared-slice-read-result
-shared-slice-read-result c = search needs
-
 returns : tie.Need-returns
 unfolding clipEnd
 returns c = refl
 
 pub clip-end-spec : {M : Type 1} → statement M
-clip-end-spec = tie.close (tie.spec mul-result shared-slice-read-result returns)
+clip-end-spec = tie.close (tie.spec (λ c. search needs) (λ c. search needs) returns)

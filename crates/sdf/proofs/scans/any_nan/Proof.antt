@@ -5,15 +5,6 @@ use borrow.Author.Needs.{needs}
 use Rattle.sdf.proofs.scans.any_nan.Statement.{statement}
 use Rattle.sdf.proofs.scans.any_nan.Tie as tie
 
-any-not-a-number-requires : tie.Need-any-not-a-number-requires
-any-not-a-number-requires c κs = search needs
-
-any-nan-marked-requires : tie.Need-any-nan-marked-requires
-any-nan-marked-requires c κs = search needs
-
-returns : tie.Need-returns
-returns c = search needs
-
 returns-2 : tie.Need-returns-2
 returns-2 c =
     let a = c .before .before .before .before .args in
@@ -21,4 +12,4 @@ returns-2 c =
 
 pub any-nan-spec : {M : Type 1} → statement M
 any-nan-spec =
-    tie.close (tie.spec any-not-a-number-requires any-nan-marked-requires returns returns-2)
+    tie.close (tie.spec (λ c κs. search needs) (λ c κs. search needs) (λ c. search needs) returns-2)

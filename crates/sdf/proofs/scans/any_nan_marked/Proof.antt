@@ -18,17 +18,11 @@ abbrev μ-loop : tie.MeasureT-loop
 loop-holds : tie.Need-loop-holds Inv-loop μ-loop
 loop-holds c = (omega arith, refl)
 
-mul-is-nan-value : tie.Need-mul-is-nan-value Inv-loop μ-loop
-mul-is-nan-value c = search needs
-
 shared-slice-read-is-nan-value : tie.Need-shared-slice-read-is-nan-value Inv-loop μ-loop
 shared-slice-read-is-nan-value c = omega arith
 
 shared-slice-read-is-nan-value-2 : tie.Need-shared-slice-read-is-nan-value-2 Inv-loop μ-loop
 shared-slice-read-is-nan-value-2 c = omega arith
-
-is-nan-value-requires : tie.Need-is-nan-value-requires Inv-loop μ-loop
-is-nan-value-requires c κs = search needs
 
 returns : tie.Need-returns Inv-loop μ-loop
 returns c =
@@ -60,10 +54,10 @@ any-nan-marked-spec =
     Inv-loop
     μ-loop
     loop-holds
-    mul-is-nan-value
+    (λ c. search needs)
     shared-slice-read-is-nan-value
     shared-slice-read-is-nan-value-2
-    is-nan-value-requires
+    (λ c κs. search needs)
     returns
     add-i
     loop-less

@@ -25,14 +25,8 @@ one-more c = at-most-one (isNan (getD (c .before .before .before .before .before
 loop-holds : tie.Need-loop-holds Inv-loop μ-loop
 loop-holds c = (omega arith, omega arith, refl)
 
-mul-nan-found : tie.Need-mul-nan-found Inv-loop μ-loop
-mul-nan-found c = search needs
-
 shared-slice-read-nan-found : tie.Need-shared-slice-read-nan-found Inv-loop μ-loop
 shared-slice-read-nan-found c = omega arith
-
-nan-found-requires : tie.Need-nan-found-requires Inv-loop μ-loop
-nan-found-requires c κs = search needs
 
 add-found : tie.Need-add-found Inv-loop μ-loop
 add-found c = let k = c .before .before .before .loop in omega (arith, k .inv .1, one-more c)
@@ -65,9 +59,9 @@ any-not-a-number-spec =
     Inv-loop
     μ-loop
     loop-holds
-    mul-nan-found
+    (λ c. search needs)
     shared-slice-read-nan-found
-    nan-found-requires
+    (λ c κs. search needs)
     add-found
     add-i
     loop-less

@@ -31,23 +31,14 @@ loop-holds c = (omega arith, omega arith, refl)
 add-loop : tie.Need-add-loop Inv-loop μ-loop
 add-loop c = omega arith
 
-mul-fall : tie.Need-mul-fall Inv-loop μ-loop
-mul-fall c = search needs
-
 shared-slice-read-fall : tie.Need-shared-slice-read-fall Inv-loop μ-loop
 shared-slice-read-fall c = omega arith
 
 add-fall : tie.Need-add-fall Inv-loop μ-loop
 add-fall c = omega arith
 
-mul-fall-2 : tie.Need-mul-fall-2 Inv-loop μ-loop
-mul-fall-2 c = search needs
-
 shared-slice-read-fall-2 : tie.Need-shared-slice-read-fall-2 Inv-loop μ-loop
 shared-slice-read-fall-2 c = omega arith
-
-fall-requires : tie.Need-fall-requires Inv-loop μ-loop
-fall-requires c κs = search needs
 
 add-found : tie.Need-add-found Inv-loop μ-loop
 add-found c = let k = c .before .before .before .before .loop in omega (arith, k .inv .1, one-more c)
@@ -82,12 +73,12 @@ ascending-spec =
     μ-loop
     loop-holds
     add-loop
-    mul-fall
+    (λ c. search needs)
     shared-slice-read-fall
     add-fall
-    mul-fall-2
+    (λ c. search needs)
     shared-slice-read-fall-2
-    fall-requires
+    (λ c κs. search needs)
     add-found
     add-i
     loop-less

@@ -20,9 +20,6 @@ abbrev μ-loop : tie.MeasureT-loop
 loop-holds : tie.Need-loop-holds Inv-loop μ-loop
 loop-holds c = (omega arith, refl)
 
-mul-next : tie.Need-mul-next Inv-loop μ-loop
-mul-next c = search needs
-
 shared-slice-read-next : tie.Need-shared-slice-read-next Inv-loop μ-loop
 shared-slice-read-next c = omega arith
 
@@ -59,7 +56,7 @@ closes-spec =
     Inv-loop
     μ-loop
     loop-holds
-    mul-next
+    (λ c. search needs)
     shared-slice-read-next
     returns
     add-i

@@ -34,9 +34,6 @@ loop-holds : tie.Need-loop-holds Inv-loop μ-loop
 unfolding clipBegin
 loop-holds c = (omega arith, refl, c .before .before .pre, refl)
 
-mul-end : tie.Need-mul-end Inv-loop μ-loop
-mul-end c = search needs
-
 shared-slice-read-end : tie.Need-shared-slice-read-end Inv-loop μ-loop
 shared-slice-read-end c = omega arith
 
@@ -63,9 +60,6 @@ part-ascending-end c =
     let k = c .before .before .loop in
     let n = closed-next (c .before .before .before .before .before .args .ends .now) (length (c .before .before .before .before .before .args .times .now)) (k .begin) (k .i) (omega arith) (k .inv .2) in
     search needs
-
-ascending-requires : tie.Need-ascending-requires Inv-loop μ-loop
-ascending-requires c κs = search needs
 
 returns : tie.Need-returns Inv-loop μ-loop
 returns c =
@@ -104,13 +98,13 @@ parts-ascend-spec =
     Inv-loop
     μ-loop
     loop-holds
-    mul-end
+    (λ c. search needs)
     shared-slice-read-end
     mul-ascending
     sub-ascending
     part-ascending-start
     part-ascending-end
-    ascending-requires
+    (λ c κs. search needs)
     returns
     add-i
     loop-less

@@ -11,18 +11,6 @@ use Rattle.template.proofs.Expansion.{expanded-is, few-knots}
 use Rattle.template.proofs.expanding.expand_lists.Statement.{statement}
 use Rattle.template.proofs.expanding.expand_lists.Tie as tie
 
-write-starts-requires : tie.Need-write-starts-requires
-write-starts-requires c κs = search needs
-
-write-numbers-requires : tie.Need-write-numbers-requires
-write-numbers-requires c κs = search needs
-
-write-knots-requires : tie.Need-write-knots-requires
-write-knots-requires c κs = search needs
-
-copy-requires : tie.Need-copy-requires
-copy-requires c κs = search needs
-
 sort-check-and-store-requires : tie.Need-sort-check-and-store-requires
 sort-check-and-store-requires c κs =
     let s = c .before .before .before .before .before .before .before .before .before .before .before .before .before .before .before .before .before .before .before .before .before .before .before .before .before .before .before in
@@ -38,12 +26,6 @@ same-length c = c .before .before .before .before .before .before .before .befor
 
 same-length-2 : tie.Need-same-length-2
 same-length-2 c = c .before .before .before .before .before .before .before .before .sort-check-and-store .kept .1 .1 .0 ∙ c .before .before .before .before .before .before .before .before .before .before .before .before .before .before .before .before .before .before .before .before .before .before .before .before .write-numbers .kept .0
-
-same-length-3 : tie.Need-same-length-3
-same-length-3 c = search needs
-
-same-length-4 : tie.Need-same-length-4
-same-length-4 c = search needs
 
 returns : tie.Need-returns
 returns c =
@@ -63,13 +45,13 @@ pub expand-lists-spec : {M : Type 1} → statement M
 expand-lists-spec =
     tie.close
     (tie.spec
-    write-starts-requires
-    write-numbers-requires
-    write-knots-requires
-    copy-requires
+    (λ c κs. search needs)
+    (λ c κs. search needs)
+    (λ c κs. search needs)
+    (λ c κs. search needs)
     sort-check-and-store-requires
     same-length
     same-length-2
-    same-length-3
-    same-length-4
+    (λ c. search needs)
+    (λ c. search needs)
     returns)

@@ -3,14 +3,8 @@ use borrow.Author.Needs.{needs}
 use Rattle.template.proofs.expanding.knot_count.Statement.{statement}
 use Rattle.template.proofs.expanding.knot_count.Tie as tie
 
-add-result : tie.Need-add-result
-add-result c = search needs
-
 returns : tie.Need-returns
 returns c = rw (c .if1 .taken)
 
-returns-2 : tie.Need-returns-2
-returns-2 c = search needs
-
 pub knot-count-spec : {M : Type 1} → statement M
-knot-count-spec = tie.close (tie.spec add-result returns returns-2)
+knot-count-spec = tie.close (tie.spec (λ c. search needs) returns (λ c. search needs))

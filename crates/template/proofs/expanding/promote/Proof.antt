@@ -16,26 +16,11 @@ Inv-loop items₀ stride bound t₀ i₀ items t i = Promoting t₀ stride bound
 abbrev μ-loop : tie.MeasureT-loop
 μ-loop items₀ stride bound t₀ i₀ items t i = 256 - i
 
-no-blocks-requires : tie.Need-no-blocks-requires Inv-loop μ-loop
-no-blocks-requires c κs = search needs
-
 loop-holds : tie.Need-loop-holds Inv-loop μ-loop
 unfolding ofBits
 loop-holds c =
     let x = c .before .before .before .before .before .args .times in
     promote-start (x .start ⊗ 10000·0) (x .stride ⊗ 10000·0) (x .end ⊗ 10000·0 ⊕ 0·5) (c .before .before .before .before .no-blocks .result .items) (c .before .before .before .before .no-blocks .ensures .room .long)
-
-mul-items : tie.Need-mul-items Inv-loop μ-loop
-mul-items c = search needs
-
-array-write-items : tie.Need-array-write-items Inv-loop μ-loop
-array-write-items c = search needs
-
-add-i : tie.Need-add-i Inv-loop μ-loop
-add-i c = search needs
-
-loop-less : tie.Need-loop-less Inv-loop μ-loop
-loop-less c = search needs
 
 loop-again : tie.Need-loop-again Inv-loop μ-loop
 unfolding ofBits
@@ -72,12 +57,12 @@ promote-spec =
     (tie.spec
     Inv-loop
     μ-loop
-    no-blocks-requires
+    (λ c κs. search needs)
     loop-holds
-    mul-items
-    array-write-items
-    add-i
-    loop-less
+    (λ c. search needs)
+    (λ c. search needs)
+    (λ c. search needs)
+    (λ c. search needs)
     loop-again
     returns
     returns-2

@@ -24,23 +24,8 @@ loop-holds c =
     let s = c in
     (fill-start (map (λ (t : Float). t ⊘ 10000·0) (now (s .args .ts))) (now (s .args .to)) (omega (arith, length-map (now (s .args .ts)) (λ (t : Float). t ⊘ 10000·0), s .pre)), s .pre)
 
-mul-to : tie.Need-mul-to Inv-loop μ-loop
-mul-to c = search needs
-
 shared-slice-read-to : tie.Need-shared-slice-read-to Inv-loop μ-loop
 shared-slice-read-to c = omega arith
-
-mul-to-2 : tie.Need-mul-to-2 Inv-loop μ-loop
-mul-to-2 c = search needs
-
-slice-write-to : tie.Need-slice-write-to Inv-loop μ-loop
-slice-write-to c = search needs
-
-add-i : tie.Need-add-i Inv-loop μ-loop
-add-i c = search needs
-
-loop-less : tie.Need-loop-less Inv-loop μ-loop
-loop-less c = search needs
 
 loop-again : tie.Need-loop-again Inv-loop μ-loop
 unfolding ofBits
@@ -49,9 +34,6 @@ loop-again c =
     let s = c .before .before .before in
     let n = length-map (now (s .args .ts)) (λ (t : Float). t ⊘ 10000·0) in
     (fill-next (map (λ (t : Float). t ⊘ 10000·0) (now (s .args .ts))) (k .to) (k .i) _ nan (k .inv .0) (omega arith) (mapped-at (λ (t : Float). t ⊘ 10000·0) (now (s .args .ts)) (k .i) nan nan (omega arith)), length-set (k .to) (k .i) _ ∙ k .inv .1)
-
-same-length : tie.Need-same-length Inv-loop μ-loop
-same-length c = search needs
 
 returns : tie.Need-returns Inv-loop μ-loop
 returns c =
@@ -67,12 +49,12 @@ write-clip-times-spec =
     Inv-loop
     μ-loop
     loop-holds
-    mul-to
+    (λ c. search needs)
     shared-slice-read-to
-    mul-to-2
-    slice-write-to
-    add-i
-    loop-less
+    (λ c. search needs)
+    (λ c. search needs)
+    (λ c. search needs)
+    (λ c. search needs)
     loop-again
-    same-length
+    (λ c. search needs)
     returns)

@@ -9,14 +9,8 @@ use Rattle.template.proofs.Expansion.{with-bounds, without-bounds}
 use Rattle.template.proofs.expanding.write_knots.Statement.{statement}
 use Rattle.template.proofs.expanding.write_knots.Tie as tie
 
-abs-requires : tie.Need-abs-requires
-abs-requires c κs = search needs
-
 write-bounded-requires : tie.Need-write-bounded-requires
 write-bounded-requires c κs = let s = c .before .before .before .before .before .before .before in s .pre ∙ ap (λ (b : Bool). knotCount b (length (now (s .args .ts)))) (c .before .before .before .before .if1 .taken)
-
-same-length : tie.Need-same-length
-same-length c = search needs
 
 returns : tie.Need-returns
 returns c =
@@ -25,9 +19,6 @@ returns c =
 
 write-clip-times-requires : tie.Need-write-clip-times-requires
 write-clip-times-requires c κs = let s = c .before .before .before .before in s .pre ∙ ap (λ (b : Bool). knotCount b (length (now (s .args .ts)))) (c .before .if1 .left)
-
-same-length-2 : tie.Need-same-length-2
-same-length-2 c = search needs
 
 returns-2 : tie.Need-returns-2
 returns-2 c =
@@ -38,10 +29,10 @@ pub write-knots-spec : {M : Type 1} → statement M
 write-knots-spec =
     tie.close
     (tie.spec
-    abs-requires
+    (λ c κs. search needs)
     write-bounded-requires
-    same-length
+    (λ c. search needs)
     returns
     write-clip-times-requires
-    same-length-2
+    (λ c. search needs)
     returns-2)

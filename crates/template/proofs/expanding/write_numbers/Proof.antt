@@ -20,27 +20,12 @@ abbrev μ-loop : tie.MeasureT-loop
 loop-holds : tie.Need-loop-holds Inv-loop μ-loop
 loop-holds c = (fill-start (numbered 0 (now (c .args .to))) (now (c .args .to)) (omega (arith, numbered-length 0 (now (c .args .to)))), refl)
 
-mul-to : tie.Need-mul-to Inv-loop μ-loop
-mul-to c = search needs
-
-slice-write-to : tie.Need-slice-write-to Inv-loop μ-loop
-slice-write-to c = search needs
-
-add-i : tie.Need-add-i Inv-loop μ-loop
-add-i c = search needs
-
-loop-less : tie.Need-loop-less Inv-loop μ-loop
-loop-less c = search needs
-
 loop-again : tie.Need-loop-again Inv-loop μ-loop
 loop-again c =
     let k = c .before .loop in
     let s = c .before .before in
     let n = numbered-length 0 (now (s .args .to)) in
     (fill-next (numbered 0 (now (s .args .to))) (k .to) (k .i) _ 0 (k .inv .0) (omega arith) (numbered-at (now (s .args .to)) (k .i) 0 (omega arith)), length-set (k .to) (k .i) _ ∙ k .inv .1)
-
-same-length : tie.Need-same-length Inv-loop μ-loop
-same-length c = search needs
 
 returns : tie.Need-returns Inv-loop μ-loop
 returns c =
@@ -56,10 +41,10 @@ write-numbers-spec =
     Inv-loop
     μ-loop
     loop-holds
-    mul-to
-    slice-write-to
-    add-i
-    loop-less
+    (λ c. search needs)
+    (λ c. search needs)
+    (λ c. search needs)
+    (λ c. search needs)
     loop-again
-    same-length
+    (λ c. search needs)
     returns)

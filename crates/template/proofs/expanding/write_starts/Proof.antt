@@ -25,26 +25,8 @@ loop-holds c =
     let s = c .before .before in
     (fill-start (map (stageTime (offsetOf (s .args .times) (s .args .offset))) (now (s .args .ts))) (now (s .args .to)) (omega (arith, length-map (now (s .args .ts)) (stageTime (offsetOf (s .args .times) (s .args .offset))), s .pre)), s .pre)
 
-mul-stage-time : tie.Need-mul-stage-time Inv-loop μ-loop
-mul-stage-time c = search needs
-
 shared-slice-read-stage-time : tie.Need-shared-slice-read-stage-time Inv-loop μ-loop
 shared-slice-read-stage-time c = omega arith
-
-stage-time-requires : tie.Need-stage-time-requires Inv-loop μ-loop
-stage-time-requires c κs = search needs
-
-mul-to : tie.Need-mul-to Inv-loop μ-loop
-mul-to c = search needs
-
-slice-write-to : tie.Need-slice-write-to Inv-loop μ-loop
-slice-write-to c = search needs
-
-add-i : tie.Need-add-i Inv-loop μ-loop
-add-i c = search needs
-
-loop-less : tie.Need-loop-less Inv-loop μ-loop
-loop-less c = search needs
 
 loop-again : tie.Need-loop-again Inv-loop μ-loop
 unfolding ofBits
@@ -53,9 +35,6 @@ loop-again c =
     let s = c .before .before .before .before .before .before in
     let n = length-map (now (s .args .ts)) (stageTime (offsetOf (s .args .times) (s .args .offset))) in
     (fill-next (map (stageTime (offsetOf (s .args .times) (s .args .offset))) (now (s .args .ts))) (k .to) (k .i) _ nan (k .inv .0) (omega arith) (c .stage-time .ensures ∙ mapped-at (stageTime (offsetOf (s .args .times) (s .args .offset))) (now (s .args .ts)) (k .i) nan nan (omega arith)), length-set (k .to) (k .i) _ ∙ k .inv .1)
-
-same-length : tie.Need-same-length Inv-loop μ-loop
-same-length c = search needs
 
 returns : tie.Need-returns Inv-loop μ-loop
 returns c =
@@ -71,13 +50,13 @@ write-starts-spec =
     Inv-loop
     μ-loop
     loop-holds
-    mul-stage-time
+    (λ c. search needs)
     shared-slice-read-stage-time
-    stage-time-requires
-    mul-to
-    slice-write-to
-    add-i
-    loop-less
+    (λ c κs. search needs)
+    (λ c. search needs)
+    (λ c. search needs)
+    (λ c. search needs)
+    (λ c. search needs)
     loop-again
-    same-length
+    (λ c. search needs)
     returns)

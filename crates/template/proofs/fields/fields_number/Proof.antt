@@ -41,36 +41,21 @@ returns-2 : tie.Need-returns-2
 unfolding templateFieldsNumber template1
 returns-2 c = rw (le-ltb _ _ (c .before .if1 .left), lt-ltb _ _ (c .if2 .taken))
 
-is-unstorable-requires : tie.Need-is-unstorable-requires
-is-unstorable-requires c κs = search needs
-
 returns-3 : tie.Need-returns-3
 unfolding templateFieldsNumber template2 timesUnstorable
 returns-3 c = rw (short (c .before .before), sym (c .before .is-unstorable .ensures) ∙ c .if3 .taken)
-
-any-unstorable-requires : tie.Need-any-unstorable-requires
-any-unstorable-requires c κs = search needs
 
 returns-4 : tie.Need-returns-4
 unfolding templateFieldsNumber template2 timesUnstorable
 returns-4 c = rw (short (c .before .before .before .before), not-numbers (c .before .before), sym (c .before .any-unstorable .ensures) ∙ c .if4 .taken)
 
-is-nan-default-requires : tie.Need-is-nan-default-requires
-is-nan-default-requires c κs = search needs
-
 returns-5 : tie.Need-returns-5
 unfolding templateFieldsNumber template2 timesUnstorable
 returns-5 c = rw (short (c .before .before .before .before .before .before), not-numbers (c .before .before .before .before), not-blocks (c .before .before), sym (c .before .is-nan-default .ensures) ∙ c .if5 .taken)
 
-is-disordered-requires : tie.Need-is-disordered-requires
-is-disordered-requires c κs = search needs
-
 returns-6 : tie.Need-returns-6
 unfolding templateFieldsNumber template7 timesDisordered
 returns-6 c = rw (short (c .before .before .before .before .before .before .before .before), stored (c .before .before), sym (c .before .is-disordered .ensures) ∙ c .if6 .taken)
-
-is-readable-requires : tie.Need-is-readable-requires
-is-readable-requires c κs = search needs
 
 returns-7 : tie.Need-returns-7
 unfolding templateFieldsNumber template6
@@ -86,14 +71,14 @@ fields-number-spec =
     (tie.spec
     returns
     returns-2
-    is-unstorable-requires
+    (λ c κs. search needs)
     returns-3
-    any-unstorable-requires
+    (λ c κs. search needs)
     returns-4
-    is-nan-default-requires
+    (λ c κs. search needs)
     returns-5
-    is-disordered-requires
+    (λ c κs. search needs)
     returns-6
-    is-readable-requires
+    (λ c κs. search needs)
     returns-7
     returns-8)

@@ -14,9 +14,6 @@ returns-2 : tie.Need-returns-2
 unfolding timesDisordered ofBits
 returns-2 c = rw (c .before .before .if1 .left, c .if2 .taken)
 
-abs-requires : tie.Need-abs-requires
-abs-requires c κs = search needs
-
 returns-3 : tie.Need-returns-3
 unfolding timesDisordered ofBits
 returns-3 c = rw (c .before .before .before .before .before .if1 .left, c .before .before .before .if2 .left, c .before .before .if3 .taken) (ap (λ (a : Float). lt (c .before .before .before .before .before .before .before .args .times .stride) a) (c .before .abs .ensures))
@@ -26,4 +23,4 @@ unfolding timesDisordered ofBits
 returns-4 c = rw (c .before .before .before .if1 .left, c .before .if2 .left, c .if3 .left)
 
 pub is-disordered-spec : {M : Type 1} → statement M
-is-disordered-spec = tie.close (tie.spec returns returns-2 abs-requires returns-3 returns-4)
+is-disordered-spec = tie.close (tie.spec returns returns-2 (λ c κs. search needs) returns-3 returns-4)

@@ -18,29 +18,17 @@ end-fits c = holding _ _ (c .before .is-storable2 .ensures) (c .if2 .left)
 stride-finite : (c : tie.Else3) → finite (c .before .before .before .before .before .before .args .times .stride) ≡ true
 stride-finite c = holding _ _ (c .before .is-finite .ensures) (c .if3 .left)
 
-is-storable-requires : tie.Need-is-storable-requires
-is-storable-requires c κs = search needs
-
 returns : tie.Need-returns
 unfolding timesUnstorable
 returns c = rw (untrue _ _ (c .before .is-storable .ensures) (c .if1 .taken))
-
-is-storable-requires-2 : tie.Need-is-storable-requires-2
-is-storable-requires-2 c κs = search needs
 
 returns-2 : tie.Need-returns-2
 unfolding timesUnstorable
 returns-2 c = rw (start-fits (c .before .before), untrue _ _ (c .before .is-storable2 .ensures) (c .if2 .taken))
 
-is-finite-requires : tie.Need-is-finite-requires
-is-finite-requires c κs = search needs
-
 returns-3 : tie.Need-returns-3
 unfolding timesUnstorable
 returns-3 c = rw (start-fits (c .before .before .before .before), end-fits (c .before .before), untrue _ _ (c .before .is-finite .ensures) (c .if3 .taken))
-
-is-finite-requires-2 : tie.Need-is-finite-requires-2
-is-finite-requires-2 c κs = search needs
 
 returns-4 : tie.Need-returns-4
 unfolding timesUnstorable
@@ -54,12 +42,12 @@ pub is-unstorable-spec : {M : Type 1} → statement M
 is-unstorable-spec =
     tie.close
     (tie.spec
-    is-storable-requires
+    (λ c κs. search needs)
     returns
-    is-storable-requires-2
+    (λ c κs. search needs)
     returns-2
-    is-finite-requires
+    (λ c κs. search needs)
     returns-3
-    is-finite-requires-2
+    (λ c κs. search needs)
     returns-4
     returns-5)

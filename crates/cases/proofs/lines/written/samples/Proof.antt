@@ -12,77 +12,26 @@ Inv-loop word count times values marks out₀ full shown n₀ i₀ out n i = len
 abbrev μ-loop : tie.MeasureT-loop
 μ-loop word count times values marks out₀ full shown n₀ i₀ out n i = shown - i
 
-least-requires : tie.Need-least-requires Inv-loop μ-loop
-least-requires c κs = search needs
-
-least-requires-2 : tie.Need-least-requires-2 Inv-loop μ-loop
-least-requires-2 c κs = search needs
-
-least-requires-3 : tie.Need-least-requires-3 Inv-loop μ-loop
-least-requires-3 c κs = search needs
-
-begin-requires : tie.Need-begin-requires Inv-loop μ-loop
-begin-requires c κs = search needs
-
-loop-holds : tie.Need-loop-holds Inv-loop μ-loop
-loop-holds c = search needs
-
-mul-sample : tie.Need-mul-sample Inv-loop μ-loop
-mul-sample c = search needs
-
-shared-slice-read-sample : tie.Need-shared-slice-read-sample Inv-loop μ-loop
-shared-slice-read-sample c = search needs
-
-mul-sample-2 : tie.Need-mul-sample-2 Inv-loop μ-loop
-mul-sample-2 c = search needs
-
-shared-slice-read-sample-2 : tie.Need-shared-slice-read-sample-2 Inv-loop μ-loop
-shared-slice-read-sample-2 c = search needs
-
-shared-slice-read-sample-3 : tie.Need-shared-slice-read-sample-3 Inv-loop μ-loop
-shared-slice-read-sample-3 c = search needs
-
-sample-requires : tie.Need-sample-requires Inv-loop μ-loop
-sample-requires c κs = search needs
-
-add-i : tie.Need-add-i Inv-loop μ-loop
-add-i c = search needs
-
-loop-less : tie.Need-loop-less Inv-loop μ-loop
-loop-less c = search needs
-
-loop-again : tie.Need-loop-again Inv-loop μ-loop
-loop-again c = search needs
-
-put-byte-requires : tie.Need-put-byte-requires Inv-loop μ-loop
-put-byte-requires c κs = search needs
-
-same-length : tie.Need-same-length Inv-loop μ-loop
-same-length c = search needs
-
-returns : tie.Need-returns Inv-loop μ-loop
-returns c = search needs
-
 pub samples-spec : {M : Type 1} → statement M
 samples-spec =
     tie.close
     (tie.spec
     Inv-loop
     μ-loop
-    least-requires
-    least-requires-2
-    least-requires-3
-    begin-requires
-    loop-holds
-    mul-sample
-    shared-slice-read-sample
-    mul-sample-2
-    shared-slice-read-sample-2
-    shared-slice-read-sample-3
-    sample-requires
-    add-i
-    loop-less
-    loop-again
-    put-byte-requires
-    same-length
-    returns)
+    (λ c κs. search needs)
+    (λ c κs. search needs)
+    (λ c κs. search needs)
+    (λ c κs. search needs)
+    (λ c. search needs)
+    (λ c. search needs)
+    (λ c. search needs)
+    (λ c. search needs)
+    (λ c. search needs)
+    (λ c. search needs)
+    (λ c κs. search needs)
+    (λ c. search needs)
+    (λ c. search needs)
+    (λ c. search needs)
+    (λ c κs. search needs)
+    (λ c. search needs)
+    (λ c. search needs))

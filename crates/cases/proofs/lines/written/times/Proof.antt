@@ -12,57 +12,21 @@ Inv-loop word count times out₀ full shown n₀ i₀ out n i = length out ≡ l
 abbrev μ-loop : tie.MeasureT-loop
 μ-loop word count times out₀ full shown n₀ i₀ out n i = shown - i
 
-least-requires : tie.Need-least-requires Inv-loop μ-loop
-least-requires c κs = search needs
-
-begin-requires : tie.Need-begin-requires Inv-loop μ-loop
-begin-requires c κs = search needs
-
-loop-holds : tie.Need-loop-holds Inv-loop μ-loop
-loop-holds c = search needs
-
-mul-double : tie.Need-mul-double Inv-loop μ-loop
-mul-double c = search needs
-
-shared-slice-read-double : tie.Need-shared-slice-read-double Inv-loop μ-loop
-shared-slice-read-double c = search needs
-
-double-requires : tie.Need-double-requires Inv-loop μ-loop
-double-requires c κs = search needs
-
-add-i : tie.Need-add-i Inv-loop μ-loop
-add-i c = search needs
-
-loop-less : tie.Need-loop-less Inv-loop μ-loop
-loop-less c = search needs
-
-loop-again : tie.Need-loop-again Inv-loop μ-loop
-loop-again c = search needs
-
-put-byte-requires : tie.Need-put-byte-requires Inv-loop μ-loop
-put-byte-requires c κs = search needs
-
-same-length : tie.Need-same-length Inv-loop μ-loop
-same-length c = search needs
-
-returns : tie.Need-returns Inv-loop μ-loop
-returns c = search needs
-
 pub times-spec : {M : Type 1} → statement M
 times-spec =
     tie.close
     (tie.spec
     Inv-loop
     μ-loop
-    least-requires
-    begin-requires
-    loop-holds
-    mul-double
-    shared-slice-read-double
-    double-requires
-    add-i
-    loop-less
-    loop-again
-    put-byte-requires
-    same-length
-    returns)
+    (λ c κs. search needs)
+    (λ c κs. search needs)
+    (λ c. search needs)
+    (λ c. search needs)
+    (λ c. search needs)
+    (λ c κs. search needs)
+    (λ c. search needs)
+    (λ c. search needs)
+    (λ c. search needs)
+    (λ c κs. search needs)
+    (λ c. search needs)
+    (λ c. search needs))

@@ -28,8 +28,5 @@ float-from-bits-result : tie.Need-float-from-bits-result
 float-from-bits-result c =
     subst (λ (k : Bool). T (not k)) (sym (nanBits-above binary64 (c .before .args .bits) ∙ le-ltb _ _ (c .if1 .left))) tt
 
-returns-2 : tie.Need-returns-2
-returns-2 c = search needs
-
 pub double-of-spec : {M : Type 1} → statement M
-double-of-spec = tie.close (tie.spec returns float-from-bits-result returns-2)
+double-of-spec = tie.close (tie.spec returns float-from-bits-result (λ c. search needs))
