@@ -1,6 +1,9 @@
 // A set's lists in arrays with counts, made of plain lists and taken apart again.
 use definitions::Knot;
 use definitions::Start;
+use definitions::limits::BLOCKS;
+use definitions::limits::KNOTS;
+use definitions::limits::STARTS;
 ghost use mathlib.Core.Path.{_≡_};
 ghost use mathlib.Core.List.{[]};
 ghost use Prim.Native.Nat.{_≤_};
@@ -13,39 +16,39 @@ ghost use Rattle.clip.specs.Holding.{Room, Holds, AllRoom, activeIn, act
 
 #[repr(C)]
 pub struct Active {
-    pub items: [Start; 256],
+    pub items: [Start; STARTS],
     pub count: usize,
 }
 
 #[repr(C)]
 pub struct Knots {
-    pub items: [Knot; 512],
+    pub items: [Knot; KNOTS],
     pub count: usize,
 }
 
 #[repr(C)]
 pub struct Blocks {
-    pub items: [f64; 256],
+    pub items: [f64; BLOCKS],
     pub count: usize,
 }
 
 // Room for a set's lists as plain ones. Each array is lent once, to a function that works on slices.
 pub struct Scratch {
-    pub times: [f64; 256],
-    pub numbers: [u64; 256],
-    pub xs: [f64; 512],
-    pub ys: [f64; 512],
-    pub blocks: [f64; 256],
+    pub times: [f64; STARTS],
+    pub numbers: [u64; STARTS],
+    pub xs: [f64; KNOTS],
+    pub ys: [f64; KNOTS],
+    pub blocks: [f64; BLOCKS],
 }
 
 pub fn blank() -> Scratch
     ensures { λ r. ⌜ AllRoom r ⌝ }
 {
-    let times = [0.0; 256];
-    let numbers = [0; 256];
-    let xs = [0.0; 512];
-    let ys = [0.0; 512];
-    let blocks = [0.0; 256];
+    let times = [0.0; STARTS];
+    let numbers = [0; STARTS];
+    let xs = [0.0; KNOTS];
+    let ys = [0.0; KNOTS];
+    let blocks = [0.0; BLOCKS];
     Scratch {
         times,
         numbers,
@@ -59,7 +62,7 @@ pub fn no_active() -> Active
     ensures { λ r. ⌜ Holds maxActive (r .items) (r .count) [] ⌝ }
 {
     let none = Start { time: 0.0, clip: 0 };
-    let items = [none; 256];
+    let items = [none; STARTS];
     Active { items, count: 0 }
 }
 
@@ -67,14 +70,14 @@ pub fn no_knots() -> Knots
     ensures { λ r. ⌜ Holds maxKnots (r .items) (r .count) [] ⌝ }
 {
     let none = Knot { x: 0.0, y: 0.0 };
-    let items = [none; 512];
+    let items = [none; KNOTS];
     Knots { items, count: 0 }
 }
 
 pub fn no_blocks() -> Blocks
     ensures { λ r. ⌜ Holds maxBlocks (r .items) (r .count) [] ⌝ }
 {
-    let items = [0.0; 256];
+    let items = [0.0; BLOCKS];
     Blocks { items, count: 0 }
 }
 

@@ -4,6 +4,7 @@ use crate::Prepared;
 use crate::storage;
 use definitions::Default;
 use definitions::Missing;
+use definitions::refusal;
 ghost use mathlib.Core.Path.{_≡_};
 ghost use Rattle.definitions.specs.ClipSet.{nanDefault};
 ghost use Rattle.definitions.specs.Retime.{sorted};
@@ -33,22 +34,22 @@ fn lists_number(times: &[f64], xs: &[f64], blocks: &[f64], default: Default) -> 
     ensures { λ r. ⌜ r ≡ listsNumber (was times) (was xs) (was blocks) default ⌝ }
 {
     if lists::any_unstorable(times) {
-        return 2;
+        return refusal::UNSTORABLE;
     }
     if lists::any_unstorable(xs) {
-        return 2;
+        return refusal::UNSTORABLE;
     }
     if lists::any_unstorable(blocks) {
-        return 2;
+        return refusal::UNSTORABLE;
     }
     if lists::two_equal(times) {
-        return 4;
+        return refusal::EQUAL_STARTS;
     }
     if lists::three_equal(xs) {
-        return 5;
+        return refusal::THREE_EQUAL_KNOTS;
     }
     if 2 < default.mark {
-        return 9;
+        return refusal::BAD_SAMPLES;
     }
     0
 }

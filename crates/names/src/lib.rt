@@ -8,6 +8,8 @@ pub mod pattern;
 
 use body::Body;
 use definitions::ClipTime;
+use definitions::limits::TEMPLATE_BYTES;
+use definitions::refusal;
 use pattern::Pattern;
 ghost use mathlib.Core.Path.{_≡_};
 ghost use mathlib.Core.List.{_++_};
@@ -53,20 +55,20 @@ fn put_name(template: &[u8], p: Pattern, b: Body, out: &mut [u8])
 pub fn name(template: &[u8], time: ClipTime, out: &mut [u8]) -> Named
     ensures { λ r. ⌜ Names (was template) time (was out) (after out) r ⌝ }
 {
-    if 255 < template.len() {
-        return Named::Refused(1);
+    if TEMPLATE_BYTES < template.len() {
+        return Named::Refused(refusal::MISSHAPEN);
     }
     if !gf::is_storable(time.0) {
-        return Named::Refused(2);
+        return Named::Refused(refusal::UNSTORABLE);
     }
     let p = pattern::parse(template);
     if !pattern::is_readable(template, p) {
-        return Named::Refused(6);
+        return Named::Refused(refusal::UNREADABLE_TEMPLATE);
     }
     let b = body::body_at(p, time.0);
     let n = p.first + body::body_length(b) + (template.len() - p.suffix);
     if out.len() < n {
-        return Named::Refused(22);
+        return Named::Refused(refusal::NO_ROOM);
     }
     put_name(template, p, b, out);
     Named::Written(n)

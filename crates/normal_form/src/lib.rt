@@ -1,4 +1,6 @@
 // The normal form of time samples.
+use definitions::limits::SAMPLES;
+use definitions::refusal;
 use sdf::Counted;
 use sdf::scans;
 ghost use mathlib.Core.Path.{_≡_};
@@ -13,16 +15,16 @@ fn listed_number(times: &[f64], values: &[f64], marks: &[u8]) -> u8
     ensures { λ r. ⌜ r ≡ listedNumber (was times) (was values) (was marks) ⌝ }
 {
     if scans::unlike_lengths(times, values, marks) {
-        return 1;
+        return refusal::MISSHAPEN;
     }
     if lists::any_unstorable(times) {
-        return 2;
+        return refusal::UNSTORABLE;
     }
     if scans::any_nan(values, marks) {
-        return 2;
+        return refusal::UNSTORABLE;
     }
     if scans::bad_marks(marks) {
-        return 9;
+        return refusal::BAD_SAMPLES;
     }
     0
 }
@@ -44,9 +46,9 @@ pub fn normalize_time_samples(
         return Counted { number, count: 0 };
     }
     let n = times.len();
-    let mut places = [0u16; 4096];
-    let mut firsts = [0u16; 4096];
-    let mut lasts = [0u16; 4096];
+    let mut places = [0u16; SAMPLES];
+    let mut firsts = [0u16; SAMPLES];
+    let mut lasts = [0u16; SAMPLES];
     merging::normalize_into(
         times,
         values,

@@ -1,4 +1,5 @@
 // Time samples as they are lent: when they are refused.
+use definitions::refusal;
 ghost use Rattle.definitions.specs.Moments.{was};
 ghost use Rattle.sdf.specs.Judged.{Judged};
 
@@ -19,25 +20,25 @@ pub fn samples_number(clips: u64, times: &[f64], values: &[f64], marks: &[u8], e
     ensures { λ r. ⌜ Judged clips (was times) (was values) (was marks) (was ends) r ⌝ }
 {
     if scans::unlike_lengths(times, values, marks) {
-        return 1;
+        return refusal::MISSHAPEN;
     }
     if ends.len() as u64 != clips {
-        return 1;
+        return refusal::MISSHAPEN;
     }
     if lists::any_unstorable(times) {
-        return 2;
+        return refusal::UNSTORABLE;
     }
     if scans::any_nan(values, marks) {
-        return 2;
+        return refusal::UNSTORABLE;
     }
     if scans::bad_marks(marks) {
-        return 9;
+        return refusal::BAD_SAMPLES;
     }
     if !scans::closes(ends, times.len()) {
-        return 9;
+        return refusal::BAD_SAMPLES;
     }
     if !scans::parts_ascend(times, ends) {
-        return 9;
+        return refusal::BAD_SAMPLES;
     }
     0
 }

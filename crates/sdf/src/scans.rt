@@ -1,4 +1,5 @@
 // The tests over lent samples, each in one pass over its lists.
+use definitions::limits::SAMPLES;
 ghost use mathlib.Core.Path.{_≡_};
 ghost use mathlib.Core.Bool.{Bool, cond};
 ghost use lib.Dec.{T, ltb};
@@ -15,7 +16,7 @@ pub fn unlike_lengths(times: &[f64], values: &[f64], marks: &[u8]) -> bool
     ensures { λ r. ⌜ r ≡ Samples.unlikeLengths (was times) (was values) (was marks) ⌝ }
 {
     let count = times.len();
-    if count > 4096 {
+    if count > SAMPLES {
         return true;
     }
     if values.len() != count {

@@ -4,6 +4,7 @@ use clip::storage;
 use clip::storing;
 use definitions::Missing;
 use definitions::TemplateTimes;
+use definitions::limits::CLIPS;
 ghost use mathlib.Core.Path.{_≡_};
 ghost use mathlib.Core.List.{map};
 ghost use Prim.Native.Nat.{_≤_, _+_};
@@ -15,7 +16,7 @@ ghost use Rattle.template.specs.Expanding.{offsetOf, Promotes, timesOfCl
 
 // The times t and their number; of a 257th only the number tells.
 pub struct Promoted {
-    pub items: [f64; 256],
+    pub items: [f64; CLIPS],
     pub count: usize,
 }
 
@@ -29,7 +30,7 @@ pub fn promote(times: TemplateTimes) -> Promoted
     let bound = times.end * 10000.0 + 0.5;
     let mut t = times.start * 10000.0;
     let mut i: usize = 0;
-    while i < 256 {
+    while i < CLIPS {
         if t <= bound {
             items[i] = t;
             t = t + stride;
@@ -41,7 +42,10 @@ pub fn promote(times: TemplateTimes) -> Promoted
     if t <= bound {
         return Promoted { items, count: 257 };
     }
-    Promoted { items, count: 256 }
+    Promoted {
+        items,
+        count: CLIPS,
+    }
 }
 
 fn stage_time(t: f64, times: TemplateTimes, offset: bool) -> f64

@@ -2,6 +2,9 @@
 use clip::storing;
 use definitions::Missing;
 use definitions::TemplateTimes;
+use definitions::limits::BLOCKS;
+use definitions::limits::TEMPLATE_BYTES;
+use definitions::refusal;
 ghost use mathlib.Core.Path.{_≡_};
 ghost use Rattle.definitions.specs.Moments.{was};
 ghost use Rattle.template.specs.Expanding.{offsetOf, timesUnstorable, timesDisordered, templateFields, templateFieldsNumber};
@@ -51,26 +54,26 @@ pub fn fields_number(
 ) -> u8
     ensures { λ r. ⌜ r ≡ templateFieldsNumber (templateFields (was template) times offset (was blocks) manifest) ⌝ }
 {
-    if 255 < template.len() {
-        return 1;
+    if TEMPLATE_BYTES < template.len() {
+        return refusal::MISSHAPEN;
     }
-    if 256 < blocks.len() {
-        return 1;
+    if BLOCKS < blocks.len() {
+        return refusal::MISSHAPEN;
     }
     if is_unstorable(times, offset) {
-        return 2;
+        return refusal::UNSTORABLE;
     }
     if lists::any_unstorable(blocks) {
-        return 2;
+        return refusal::UNSTORABLE;
     }
     if storing::is_nan_default(manifest.default) {
-        return 2;
+        return refusal::UNSTORABLE;
     }
     if is_disordered(times, offset) {
-        return 7;
+        return refusal::DISORDERED_TEMPLATE;
     }
     if !names::is_readable(template) {
-        return 6;
+        return refusal::UNREADABLE_TEMPLATE;
     }
     0
 }

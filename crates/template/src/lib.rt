@@ -8,6 +8,8 @@ use clip::storing;
 use definitions::Default;
 use definitions::Missing;
 use definitions::TemplateTimes;
+use definitions::limits::CLIPS;
+use definitions::refusal;
 ghost use Rattle.definitions.specs.Moments.{was};
 ghost use Rattle.clip.specs.Holding.{manifest};
 ghost use Rattle.template.specs.Expanding.{templateFields, Expands};
@@ -33,8 +35,8 @@ pub fn expand_template(
     }
     let promoted = expanding::promote(times);
     let n = promoted.count;
-    if 256 < n {
-        return storing::refused(8);
+    if CLIPS < n {
+        return storing::refused(refusal::TOO_MANY_CLIPS);
     }
     let m = expanding::knot_count(n, offset);
     let ts = promoted.items;
