@@ -15,12 +15,11 @@ use Rattle.gf.proofs.KeyLaws.{key→lt, key→le, le→key, key→eq, lt→key,
 use Rattle.definitions.specs.Lists.{any}
 use Rattle.definitions.specs.Doubles.{FiniteDouble}
 use Rattle.definitions.specs.Timing.{lastAtMost}
-use Rattle.laws.proofs.list.Tests.{is-true}
+use Rattle.laws.proofs.list.Tests.{is-true, or-l, or-r}
 use Rattle.laws.specs.list.Every.{Every, Chain}
-use Rattle.laws.proofs.list.Every.{every-at, chain-far, chain-map}
+use Rattle.laws.proofs.list.Every.{every-at, chain-far, chain-map, every-by}
 use Rattle.laws.specs.list.Places.{Le, Ascending}
 use Rattle.laws.proofs.list.Places.{atMost, beyond, last-is, key-at-most, key-above}
-use Rattle.laws.proofs.cell.Every.{every-by, or-l, or-r}
 use Rattle.laws.specs.cell.Neighbours.{IsUpper}
 
 -- a time at a place is listed

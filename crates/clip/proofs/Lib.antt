@@ -1,5 +1,4 @@
--- Laws that belong to no one function.
-pub mod Answers
+-- What the proofs of src/ share.
 pub mod Packing
 pub mod Stored
 pub mod Moved

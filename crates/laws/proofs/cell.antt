@@ -1,6 +1,4 @@
--- What is shown of the definitions of `cell_laws`.
--- What holds of every entry of a list
-pub mod Every
+-- Cells: why a value's changes can be found.
 -- The place of the last time ≤ t: it is monotone, and stays while no time is passed
 pub mod Places
 -- The clip time: on a stretch that passes no knot it goes by one line, and rises or falls

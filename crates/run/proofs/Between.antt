@@ -14,12 +14,11 @@ use Rattle.definitions.specs.declared.Knot.{Knot}
 use Rattle.definitions.specs.Lists.{any, gather}
 use Rattle.definitions.specs.Value.{spans, inverse, onPair, greatest}
 use Rattle.definitions.specs.Track.{Entry}
-use Rattle.laws.proofs.list.Tests.{is-true}
+use Rattle.laws.proofs.list.Tests.{is-true, or-l, or-r}
 use Rattle.laws.specs.list.Every.{Every}
 use Rattle.laws.proofs.list.Every.{every-map}
 use Rattle.laws.specs.list.Places.{Fits}
 use Rattle.laws.specs.track.Steps.{Level}
-use Rattle.laws.proofs.cell.Every.{or-l, or-r}
 use Rattle.laws.specs.cell.Ends.{Number}
 use Rattle.laws.proofs.cell.Keys.{none-passed}
 use Rattle.laws.specs.cell.Neighbours.{IsLower}

@@ -16,7 +16,7 @@ use Rattle.definitions.specs.Doubles.{FiniteDouble}
 use Rattle.definitions.specs.Value.{spans, inverse, greatest, maximum, lowerNeighbour}
 use Rattle.laws.proofs.list.Tests.{is-true}
 use Rattle.laws.specs.list.Every.{Every}
-use Rattle.laws.proofs.cell.Every.{every-keep}
+use Rattle.laws.proofs.list.Every.{every-keep}
 use Rattle.laws.specs.cell.Neighbours.{IsLower}
 use Rattle.laws.proofs.cell.Neighbours.{lower-found}
 use Rattle.laws.specs.cell.Places.{Fits}

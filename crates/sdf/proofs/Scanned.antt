@@ -10,27 +10,14 @@ use native.Mathlib.Omega.{arith}
 use borrow.Author.Tests.{ltb-true, ltb-false, ne-eqb}
 use lib.Dec.{T, leb, ltb, eqb, eqb→eq, leb→le}
 use lib.ListN.{length, getD, take, drop, length-drop}
-use lib.Ieee.{Float, nan, inf, fin, lt, ne, isNan}
+use lib.Ieee.{Float, nan, lt, isNan}
 use Rattle.definitions.specs.Lists.{any, all, zipWith, below}
 use Rattle.definitions.specs.Doubles.{ascending}
 use Rattle.definitions.specs.ClipSet.{markValue, markBlock}
 use Rattle.definitions.specs.Samples.{nanValue, closes, clipBegin, clipEnd}
 use lib.Ieee.Fits.{and-l, and-r}
-use lib.Ieee.Compare.{differs-from-itself}
-use Rattle.laws.proofs.list.Tests.{is-false}
 use Rattle.sdf.specs.Parts.{part}
 use Rattle.lists.proofs.Fronts.{front, no-front}
-
--- a NaN differs from itself, and nothing else does
-pub differs : (x : Float) → ne x x ≡ isNan x
-unfolding ne isNan
-differs nan = refl
-differs (inf true) = refl
-differs (inf false) = refl
-differs (fin s m e) = is-false (ne (fin s m e) (fin s m e)) (λ t. never (fin s m e) (differs-from-itself (fin s m e) t) refl)
-  where
-    never : (x : Float) → x ≡ nan → x ≡ fin s m e → ⊥
-    never x p q = let z : _≡_ {A = ℕ} 0 1 = cc in omega arith
 
 -- ---- two lists side by side
 

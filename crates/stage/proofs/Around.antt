@@ -20,11 +20,10 @@ use Rattle.definitions.specs.ClipSet.{ClipSet, maxKnots}
 use Rattle.definitions.specs.Explicit.{knot}
 use Rattle.definitions.specs.Timing.{lastAtMost}
 use Rattle.definitions.specs.Samples.{Samples}
-use Rattle.laws.proofs.list.Tests.{holds, is-true}
+use Rattle.laws.proofs.list.Tests.{holds, is-true, both-l, both-r}
 use Rattle.laws.specs.list.Every.{Every}
-use Rattle.laws.proofs.list.Every.{every-at}
+use Rattle.laws.proofs.list.Every.{every-at, every-map, every-zip, every-append, every-left, every-right, every-gather}
 use Rattle.laws.proofs.list.Places.{atMost, at-most-is, last-is, last-later}
-use Rattle.laws.proofs.cell.Every.{every-map, every-zip, every-append, every-left, every-right, every-gather, both-l, both-r}
 use Rattle.laws.specs.cell.Places.{Fits}
 use Rattle.laws.specs.cell.Lent.{setOf, samplesOf, AcceptedLists}
 use Rattle.laws.proofs.cell.Lent.{zip-length}

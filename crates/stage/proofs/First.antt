@@ -15,7 +15,7 @@ use Rattle.gf.specs.Doubles.{0·0, totalKey}
 use Rattle.definitions.specs.Doubles.{FiniteDouble}
 use Rattle.laws.specs.list.Every.{Every}
 use Rattle.laws.proofs.set.Stored.{total→key}
-use Rattle.laws.proofs.cell.Every.{any-with, every-map, every-zip}
+use Rattle.laws.proofs.list.Every.{any-with, every-map, every-zip}
 use Rattle.laws.specs.cell.Places.{Fits}
 use Rattle.laws.specs.cell.Neighbours.{IsUpper}
 use Rattle.window.specs.declared.Bound.{Bound}

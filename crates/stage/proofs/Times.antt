@@ -24,10 +24,10 @@ use Rattle.definitions.specs.Samples.{Samples, clipBegin, clipEnd, clipTimes}
 use Rattle.definitions.specs.Value.{spans, inverse, onPair, stageTimesForClipTime, windowSampleTimes}
 use Rattle.definitions.specs.StageSamples.{timesOfClip, stageSampleTimes}
 use Rattle.laws.specs.list.Every.{Every}
-use Rattle.laws.proofs.list.Every.{every-at}
+use Rattle.laws.proofs.list.Every.{every-at, every-map, every-append, every-left, every-right, every-gather, every-take, every-drop}
 use Rattle.laws.specs.set.Stored.{Stored}
 use Rattle.laws.proofs.set.Stored.{stored-finite}
-use Rattle.laws.proofs.cell.Every.{every-map, every-append, every-left, every-right, every-gather, every-take, every-drop, both-l, both-r, or-split}
+use Rattle.laws.proofs.list.Tests.{both-l, both-r, or-split}
 use Rattle.laws.specs.cell.Places.{Fits}
 use Rattle.laws.proofs.cell.Inverse.{inverse-fin-up, inverse-fin-down}
 use Rattle.laws.specs.cell.Lent.{start, activeOf, knotsOf, setOf, samplesOf, AcceptedLists}

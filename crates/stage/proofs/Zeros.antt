@@ -21,11 +21,10 @@ use Rattle.definitions.specs.Doubles.{FiniteDouble}
 use Rattle.definitions.specs.ClipSet.{knotTimes, clip}
 use Rattle.definitions.specs.Timing.{lastAtMost}
 use Rattle.definitions.specs.Value.{spans, inverse, onPair, stageTimesForClipTime}
-use Rattle.laws.proofs.list.Tests.{is-true, is-false}
+use Rattle.laws.proofs.list.Tests.{is-true, is-false, both, both-l, both-r, or-l, or-r, or-split}
 use Rattle.laws.specs.list.Every.{Every}
-use Rattle.laws.proofs.list.Every.{every-at}
+use Rattle.laws.proofs.list.Every.{every-at, any-with, every-map, every-zip, every-append, every-left, every-right, every-keep, every-kept, every-by, every-gather}
 use Rattle.laws.proofs.list.Places.{atMost, at-most-length, beyond, up-to, last-is, last-inside}
-use Rattle.laws.proofs.cell.Every.{any-with, every-map, every-zip, every-append, every-left, every-right, every-keep, every-kept, every-by, every-gather, both, both-l, both-r, or-l, or-r, or-split}
 use Rattle.laws.specs.cell.Places.{Fits}
 use Rattle.laws.specs.cell.Lent.{knotsOf, AcceptedLists}
 use Rattle.laws.proofs.cell.Lent.{knot-times}

@@ -18,10 +18,9 @@ use Rattle.definitions.specs.declared.Knot.{Knot}
 use Rattle.definitions.specs.Lists.{any, keep}
 use Rattle.definitions.specs.Timing.{lastAtMost}
 use Rattle.definitions.specs.Value.{spans, inverse, onPair, jump}
-use Rattle.laws.proofs.list.Tests.{is-true, is-false, holds}
+use Rattle.laws.proofs.list.Tests.{is-true, is-false, holds, both, or-l, or-r}
 use Rattle.laws.specs.list.Every.{Every}
-use Rattle.laws.proofs.list.Every.{every-at}
-use Rattle.laws.proofs.cell.Every.{any-with, every-by, every-zip, every-keep, every-kept, every-append, every-left, every-right, both, or-l, or-r}
+use Rattle.laws.proofs.list.Every.{every-at, any-with, every-by, every-zip, every-keep, every-kept, every-append, every-left, every-right}
 use Rattle.laws.specs.cell.Ends.{Number}
 use Rattle.laws.specs.cell.Places.{Fits}
 use Rattle.laws.proofs.cell.Window.{inf-below}

@@ -8,7 +8,8 @@ use lib.Ieee.{Float, lt, le, eq}
 use Rattle.gf.proofs.KeyLaws.{le-no-nan, lt→le, le-refl, le-both, le-or-lt, le-trans}
 use Rattle.definitions.specs.Lists.{any}
 use Rattle.laws.specs.list.Every.{Every}
-use Rattle.laws.proofs.cell.Every.{every-map, every-zip, or-l, or-r}
+use Rattle.laws.proofs.list.Tests.{or-l, or-r}
+use Rattle.laws.proofs.list.Every.{every-map, every-zip}
 use Rattle.laws.specs.cell.Places.{Fits}
 use Rattle.window.specs.declared.Bound.{Bound}
 use Rattle.window.specs.declared.Bound.the-variants.{At, Nothing}

@@ -12,8 +12,7 @@ use Rattle.definitions.specs.Lists.{keep, pairs, gather}
 use Rattle.definitions.specs.Explicit.{knot}
 use Rattle.definitions.specs.Value.{onPair, stageTimesForClipTime}
 use Rattle.laws.specs.list.Every.{Every}
-use Rattle.laws.proofs.list.Every.{zip-at}
-use Rattle.laws.proofs.cell.Every.{every-map, every-append, every-left, every-right, every-kept, every-swap}
+use Rattle.laws.proofs.list.Every.{zip-at, every-map, every-append, every-left, every-right, every-kept, every-swap}
 use Rattle.laws.specs.cell.Lent.{knotsOf}
 use Rattle.laws.proofs.cell.Lent.{zip-length}
 use Rattle.window.specs.Inverses.{onSegment, inversesOf}

@@ -12,7 +12,7 @@ use Rattle.gf.proofs.KeyLaws.{le-trans, le-refl, le-no-nan, lt→le, lt-not-le,
 use Rattle.definitions.specs.Lists.{keep}
 use Rattle.definitions.specs.Value.{upperNeighbour, minimum, smallest}
 use Rattle.laws.specs.list.Every.{Every}
-use Rattle.laws.proofs.cell.Every.{every-zip, every-keep, every-kept}
+use Rattle.laws.proofs.list.Every.{every-zip, every-keep, every-kept}
 use Rattle.laws.specs.cell.Places.{Fits}
 use Rattle.laws.proofs.cell.Places.{Clear}
 use Rattle.laws.specs.cell.Ends.{Number}

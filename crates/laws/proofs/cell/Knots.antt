@@ -18,7 +18,8 @@ use Rattle.definitions.specs.Lists.{any}
 use Rattle.definitions.specs.ClipSet.{knotTimes}
 use Rattle.definitions.specs.Timing.{lastAtMost, lastKnot, onSegment, mapTime}
 use Rattle.laws.specs.list.Every.{Every}
-use Rattle.laws.proofs.cell.Every.{every-map, every-getD, every-of-map, or-l, or-not, nor-l}
+use Rattle.laws.proofs.list.Tests.{or-l, or-not, nor-l}
+use Rattle.laws.proofs.list.Every.{every-map, every-getD, every-to-map}
 use Rattle.laws.specs.cell.Places.{Fits}
 use Rattle.laws.proofs.cell.Places.{Clear, not-le-lt, le-same, lt-same, place-same}
 use Rattle.laws.specs.cell.Knots.{SoundKnot, plain, flat, segment, lineOf, along}
@@ -28,7 +29,7 @@ abbrev pub Alike : Float → Float → Type 0
 Alike a b = T (le a b) × T (le b a)
 
 pub knots-fit : (knots : List Knot) → Every SoundKnot knots → Every Fits (knotTimes knots)
-knots-fit knots s = every-of-map Fits (λ (k : Knot). k .x) knots (every-map SoundKnot (λ (k : Knot). Fits (k .x)) (λ k q. q .fx) knots s)
+knots-fit knots s = every-to-map (λ (k : Knot). k .x) Fits knots (every-map SoundKnot (λ (k : Knot). Fits (k .x)) (λ k q. q .fx) knots s)
 
 no-nan : (x : Float) → T (within 40 x) → T (not (isNan x))
 no-nan x b = finite-no-nan x (within-finite 40 x b)

@@ -17,7 +17,7 @@ use Rattle.definitions.specs.Timing.{activePosition}
 use Rattle.definitions.specs.Samples.{Samples}
 use Rattle.definitions.specs.Value.{directSource, gathered, lowerNeighbour, upperNeighbour, maximum, minimum, greatest, jump}
 use Rattle.laws.specs.list.Every.{Every}
-use Rattle.laws.proofs.cell.Every.{any-with, every-zip, every-keep, every-kept}
+use Rattle.laws.proofs.list.Every.{any-with, every-zip, every-keep, every-kept}
 use Rattle.laws.specs.cell.Places.{Fits}
 use Rattle.laws.proofs.cell.Places.{le-same, lt-same}
 use Rattle.laws.specs.cell.Knots.{SoundKnot}

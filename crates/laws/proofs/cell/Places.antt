@@ -10,7 +10,7 @@ use Rattle.gf.proofs.KeyLaws.{same-test, le-trans, le-or-lt, le-lt-trans, lt-no
 use Rattle.definitions.specs.Lists.{any, keep}
 use Rattle.definitions.specs.Timing.{lastAtMost}
 use Rattle.laws.specs.list.Every.{Every}
-use Rattle.laws.proofs.cell.Every.{or-l, or-r}
+use Rattle.laws.proofs.list.Tests.{or-l, or-r}
 use Rattle.laws.specs.cell.Places.{Fits}
 
 -- x does not lie above t and up to u

@@ -29,7 +29,8 @@ use Rattle.laws.specs.track.Track as steps
 use Rattle.laws.proofs.track.Track as steps-laws
 use Rattle.laws.proofs.track.Laws.{held-low, held-rest, rising-has, track-of, track-unique}
 use Rattle.laws.specs.list.Every.{Every}
-use Rattle.laws.proofs.cell.Every.{every-getD, both, both-l, both-r, or-l, or-r, or-split}
+use Rattle.laws.proofs.list.Tests.{both, both-l, both-r, or-l, or-r, or-split}
+use Rattle.laws.proofs.list.Every.{every-getD}
 use Rattle.laws.specs.cell.Places.{Fits}
 use Rattle.laws.proofs.cell.Direct.{SoundSet, SoundSamples}
 use Rattle.laws.specs.cell.Keys.{entryAtKey}

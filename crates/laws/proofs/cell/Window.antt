@@ -23,7 +23,8 @@ use Rattle.definitions.specs.Timing.{lastAtMost}
 use Rattle.definitions.specs.Samples.{Samples, clipTimes}
 use Rattle.definitions.specs.Value.{contains, timeOr, window, spans, inverse, onPair, stageTimesForClipTime, startOf, windowSampleTimes, contributes, contributedTimes, gathered, lowerNeighbour, upperNeighbour, maximum, minimum}
 use Rattle.laws.specs.list.Every.{Every}
-use Rattle.laws.proofs.cell.Every.{every-map, every-zip, every-append, every-left, every-right, every-keep, every-kept, every-gather, every-of-map, both, both-l, both-r, or-not, nor-l}
+use Rattle.laws.proofs.list.Tests.{both, both-l, both-r, or-not, nor-l}
+use Rattle.laws.proofs.list.Every.{every-map, every-zip, every-append, every-left, every-right, every-keep, every-kept, every-gather, every-to-map}
 use Rattle.laws.specs.cell.Places.{Fits}
 use Rattle.laws.proofs.cell.Places.{Clear, not-le-lt, any-le, keep-le-same, keep-lt-same}
 use Rattle.laws.specs.cell.Knots.{SoundKnot}
@@ -235,7 +236,7 @@ module _ (set : ClipSet) (s : Samples) (S : SoundSet set) (A : SoundSamples s) w
     pub window-knots : Every (Clear t u) (knotTimes (set .knots))
     window-knots =
         every-zip (λ (x : Float). Fits x × T (finite x)) (λ (x : Float). T (inside p x) → Clear t u x) (Clear t u) (λ x f c. knot-clear x (f .0) (f .1) c) (knotTimes (set .knots))
-        (every-of-map (λ (x : Float). Fits x × T (finite x)) (λ (k : Knot). k .x) (set .knots) (every-map SoundKnot (λ (k : Knot). Fits (k .x) × T (finite (k .x))) (λ k q. (q .fx, within-finite 40 (k .x) (q .bx))) (set .knots) (S .knots)))
+        (every-to-map (λ (k : Knot). k .x) (λ (x : Float). Fits x × T (finite x)) (set .knots) (every-map SoundKnot (λ (k : Knot). Fits (k .x) × T (finite (k .x))) (λ k q. (q .fx, within-finite 40 (k .x) (q .bx))) (set .knots) (S .knots)))
         (every-kept (Clear t u) (inside p) (knotTimes (set .knots)) inside-clear)
 
     pub lower-stays : lowerNeighbour (gathered set s (at t (set .active))) t ≡ lowerNeighbour (gathered set s (at t (set .active))) u

@@ -1,14 +1,16 @@
 -- A property of every entry of a list, and a relation between neighbours: by entries, by places, and through `map`. Assumes nothing.
 use mathlib.Core.Path.{_≡_, refl}
+use mathlib.Core.Logic.{inl, inr}
 use Prim.Native.Nat.{ℕ, zero, suc, _≤_, _<_, zero-le, suc-le-suc}
 use native.Mathlib.Nat.{not-suc-le-zero, le-of-suc-le-suc}
-use mathlib.Core.Bool.{Bool, false, not}
+use mathlib.Core.Bool.{Bool, true, false, not, cond}
+use native.Mathlib.Omega.{arith}
 use mathlib.Core.List.{List, [], _∷_, _++_, map}
 use lib.Dec.{T}
 use lib.ListN.{length, getD, take, drop}
 use lib.Ieee.Fits.{and-l, and-r}
-use Rattle.definitions.specs.Lists.{any, all, pairsFrom, pairs, zipWith}
-use Rattle.laws.proofs.list.Tests.{or-false, not-false}
+use Rattle.definitions.specs.Lists.{any, all, keep, gather, pairsFrom, pairs, zipWith}
+use Rattle.laws.proofs.list.Tests.{or-false, or-split, not-false}
 use Rattle.laws.specs.list.Every.{Every, ChainFrom, Chain}
 
 module _ {A : Type 0} where
@@ -52,6 +54,53 @@ module _ {A : Type 0} where
   pub all-every : (p : A → Bool) (xs : List A) → T (all p xs) → Every (λ (x : A). T (p x)) xs
   all-every p [] h = tt
   all-every p (x ∷ xs) h = (and-l (p x) (all p xs) h, all-every p xs (and-r (p x) (all p xs) h))
+
+  -- an entry that passes, with what holds of every entry
+  pub any-with : (p : A → Bool) (Q : A → Type 0) (l : List A) → T (any p l) → Every Q l → (x : A) × T (p x) × Q x
+  any-with p Q [] h q = absurd h
+  any-with p Q (x ∷ xs) h q = elim (or-split (p x) (any p xs) h) [
+    | inl a ↦ (x, a, q .0)
+    | inr b ↦ any-with p Q xs b (q .1)
+  ]
+
+  pub every-zip : (P Q R : A → Type 0) → ((x : A) → P x → Q x → R x) → (l : List A) → Every P l → Every Q l → Every R l
+  every-zip P Q R f [] h k = tt
+  every-zip P Q R f (x ∷ xs) h k = (f x (h .0) (k .0), every-zip P Q R f xs (h .1) (k .1))
+
+  pub every-left : (P : A → Type 0) (a b : List A) → Every P (a ++ b) → Every P a
+  every-left P [] b h = tt
+  every-left P (x ∷ a) b h = (h .0, every-left P a b (h .1))
+
+  pub every-right : (P : A → Type 0) (a b : List A) → Every P (a ++ b) → Every P b
+  every-right P [] b h = h
+  every-right P (x ∷ a) b h = every-right P a b (h .1)
+
+  pub every-keep : (P : A → Type 0) (f : A → Bool) (l : List A) → Every P l → Every P (keep f l)
+  every-keep P f [] h = tt
+  every-keep P f (x ∷ xs) h = go (f x) (every-keep P f xs (h .1))
+    where
+      go : (b : Bool) → Every P (keep f xs) → Every P (cond b (x ∷ keep f xs) (keep f xs))
+      go true r = (h .0, r)
+      go false r = r
+
+  -- what holds of the entries that pass
+  pub every-kept : (P : A → Type 0) (f : A → Bool) (l : List A) → Every P (keep f l) → Every (λ (x : A). T (f x) → P x) l
+  every-kept P f [] h = tt
+  every-kept P f (x ∷ xs) h = go (f x) h (every-kept P f xs)
+    where
+      go : (b : Bool) → Every P (cond b (x ∷ keep f xs) (keep f xs)) → (Every P (keep f xs) → Every (λ (y : A). T (f y) → P y) xs) → (T b → P x) × Every (λ (y : A). T (f y) → P y) xs
+      go true k r = (λ _. k .0, r (k .1))
+      go false k r = (λ b. absurd b, r k)
+
+  pub every-getD : (P : A → Type 0) (l : List A) (i : ℕ) (d : A) → Every P l → P d → P (getD l i d)
+  every-getD P [] i d h k = k
+  every-getD P (x ∷ xs) zero d h k = h .0
+  every-getD P (x ∷ xs) (suc i) d h k = every-getD P xs i d (h .1) k
+
+  -- by places, as a program reads a list
+  pub every-by : (P : A → Type 0) (l : List A) (d : A) → ((i : ℕ) → i < length l → P (getD l i d)) → Every P l
+  every-by P [] d h = tt
+  every-by P (x ∷ xs) d h = (h 0 (omega arith), every-by P xs d (λ i k. h (suc i) (omega arith)))
 
   pub chain-at : (R : A → A → Type 0) (xs : List A) (i : ℕ) (d : A) → Chain R xs → suc i < length xs → R (getD xs i d) (getD xs (suc i) d)
   chain-at R [] i d c h = absurd (not-suc-le-zero h)
@@ -145,3 +194,23 @@ module _ {A B C : Type 0} (f : A → B → C) where
   zip-at (x ∷ xs) [] i a b c h g = absurd (not-suc-le-zero g)
   zip-at (x ∷ xs) (y ∷ ys) zero a b c h g = refl
   zip-at (x ∷ xs) (y ∷ ys) (suc i) a b c h g = zip-at xs ys i a b c (le-of-suc-le-suc h) (le-of-suc-le-suc g)
+
+-- ---- through `gather`, and for each of two lists
+
+module _ {A B : Type 0} where
+  pub every-gather : (P : A → Type 0) (Q : B → Type 0) (f : A → List B) → ((x : A) → P x → Every Q (f x)) → (l : List A) → Every P l → Every Q (gather f l)
+  every-gather P Q f g [] h = tt
+  every-gather P Q f g (x ∷ xs) h = every-append Q (f x) (gather f xs) (g x (h .0)) (every-gather P Q f g xs (h .1))
+
+  -- for each of two lists in either order
+  pub every-swap : (R : A → B → Type 0) (a : List A) (b : List B) → Every (λ (x : A). Every (λ (y : B). R x y) b) a → Every (λ (y : B). Every (λ (x : A). R x y) a) b
+  every-swap R a [] h = tt
+  every-swap R a (y ∷ b) h = (firsts a h, every-swap R a b (rests a h))
+    where
+      firsts : (l : List A) → Every (λ (x : A). R x y × Every (λ (z : B). R x z) b) l → Every (λ (x : A). R x y) l
+      firsts [] k = tt
+      firsts (x ∷ l) k = (k .0 .0, firsts l (k .1))
+
+      rests : (l : List A) → Every (λ (x : A). R x y × Every (λ (z : B). R x z) b) l → Every (λ (x : A). Every (λ (z : B). R x z) b) l
+      rests [] k = tt
+      rests (x ∷ l) k = (k .0 .1, rests l (k .1))

@@ -22,12 +22,11 @@ use Rattle.definitions.specs.ClipSet.{ClipSet, stage}
 use Rattle.definitions.specs.Timing.{lastAtMost, mapTime}
 use Rattle.definitions.specs.Samples.{Samples, clipTimes}
 use Rattle.definitions.specs.Value.{jump, valueSource}
-use Rattle.laws.proofs.list.Tests.{holds}
+use Rattle.laws.proofs.list.Tests.{holds, both}
 use Rattle.laws.specs.list.Every.{Every}
-use Rattle.laws.proofs.list.Every.{every-at}
+use Rattle.laws.proofs.list.Every.{every-at, every-kept, every-left, every-zip}
 use Rattle.laws.specs.list.Places.{Ascending}
 use Rattle.laws.proofs.list.Places.{fitting, last-inside}
-use Rattle.laws.proofs.cell.Every.{both, every-kept, every-left, every-zip}
 use Rattle.laws.specs.cell.Places.{Fits}
 use Rattle.laws.proofs.cell.Places.{Clear, not-le-lt, place-mono, place-same}
 use Rattle.laws.proofs.cell.Window.{inf-below}

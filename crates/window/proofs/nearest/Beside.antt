@@ -15,12 +15,11 @@ use Rattle.gf.specs.declared.interval.Interval.{Interval}
 use Rattle.definitions.specs.Lists.{keep}
 use Rattle.definitions.specs.Doubles.{FiniteDouble}
 use Rattle.definitions.specs.Timing.{lastAtMost}
-use Rattle.laws.proofs.list.Tests.{is-true}
+use Rattle.laws.proofs.list.Tests.{is-true, both, both-l, both-r}
 use Rattle.laws.specs.list.Every.{Every}
-use Rattle.laws.proofs.list.Every.{every-at}
+use Rattle.laws.proofs.list.Every.{every-at, every-by, every-kept}
 use Rattle.laws.specs.list.Places.{Ascending}
 use Rattle.laws.proofs.list.Places.{atMost, at-most-length, beyond, last-is, key-at-most, key-above}
-use Rattle.laws.proofs.cell.Every.{every-by, every-kept, both, both-l, both-r}
 use Rattle.laws.specs.cell.Ends.{Number}
 use Rattle.laws.specs.cell.Places.{Fits}
 use Rattle.window.specs.declared.Bound.{Bound}

@@ -19,9 +19,8 @@ use Rattle.definitions.specs.Lists.{pairs}
 use Rattle.definitions.specs.ClipSet.{maxKnots}
 use Rattle.definitions.specs.Explicit.{knot}
 use Rattle.definitions.specs.Value.{spans, inverse}
-use Rattle.laws.proofs.list.Tests.{holds}
+use Rattle.laws.proofs.list.Tests.{holds, both, both-l, or-l, or-r, or-split}
 use Rattle.laws.specs.list.Every.{Every}
-use Rattle.laws.proofs.cell.Every.{both, both-l, or-l, or-r, or-split}
 use Rattle.laws.specs.cell.Ends.{Number}
 use Rattle.laws.specs.cell.Lent.{knotsOf}
 use Rattle.lists.specs.Segments.{knotAt}

@@ -1,6 +1,6 @@
 -- `sdf::scans::is_nan_value` meets its contract. Assumes nothing.
 use borrow.Author.Tests.{eq-eqb, ne-eqb}
-use Rattle.sdf.proofs.Scanned.{differs}
+use Rattle.gf.proofs.Tests.{differs}
 use Rattle.sdf.proofs.scans.is_nan_value.Statement.{statement}
 use Rattle.sdf.proofs.scans.is_nan_value.Tie as tie
 

@@ -1,7 +1,7 @@
 -- `sdf::scans::nan_found` meets its contract. Assumes nothing.
 use mathlib.Core.Path.{sym, ap, _∙_}
 use mathlib.Core.Bool.{Bool, cond}
-use Rattle.sdf.proofs.Scanned.{differs}
+use Rattle.gf.proofs.Tests.{differs}
 use Rattle.sdf.proofs.scans.nan_found.Statement.{statement}
 use Rattle.sdf.proofs.scans.nan_found.Tie as tie
 

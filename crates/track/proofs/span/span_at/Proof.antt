@@ -9,8 +9,7 @@ use borrow.Author.Tests.{eqb-true, ltb-true}
 use Rattle.gf.specs.Key.{ofKey}
 use Rattle.gf.proofs.KeyLaws.{ofKey-fits, ofKey-finite}
 use Rattle.definitions.specs.Doubles.{FiniteDouble}
-use Rattle.laws.proofs.list.Tests.{holds, is-true}
-use Rattle.laws.proofs.cell.Every.{both-l, both-r}
+use Rattle.laws.proofs.list.Tests.{holds, is-true, both-l, both-r}
 use Rattle.value.proofs.WindowOf.{window-lent, window-nears}
 use Rattle.cell.specs.WindowPlaces.{PlaceAt}
 use Rattle.cell.proofs.Lent.{place-window}

@@ -7,8 +7,7 @@ use lib.ListN.{getD}
 use lib.Ieee.{Float, nan, eq}
 use denote.Ref.{now}
 use Rattle.definitions.specs.Lists.{any}
-use Rattle.laws.proofs.list.Tests.{holds, is-true}
-use Rattle.laws.proofs.cell.Every.{both-l, both-r}
+use Rattle.laws.proofs.list.Tests.{holds, is-true, both-l, both-r}
 use Rattle.window.proofs.Parts.{ready-clip}
 use Rattle.value.proofs.WindowOf.{window-samples, window-gap}
 use borrow.Author.Needs.{needs}

@@ -1,18 +1,12 @@
 -- `cases::text::numbers::bits_of` meets its contract: what differs from itself is the NaN. Assumes nothing.
 use borrow.Author.Needs.{needs}
-use mathlib.Core.Path.{_≡_, sym, ap, subst}
-use mathlib.Core.Bool.{false, not, true≢false}
+use mathlib.Core.Path.{sym, ap, subst}
 use lib.Dec.{T}
-use lib.Ieee.{Float, nan, inf, fin, binary64, ne, isNan, toBits}
+use lib.Ieee.{binary64, toBits}
 use lib.Ieee.Compare.{differs-from-itself}
+use Rattle.gf.proofs.Tests.{not-nan}
 use Rattle.cases.proofs.text.numbers.bits_of.Statement.{statement}
 use Rattle.cases.proofs.text.numbers.bits_of.Tie as tie
-
-not-nan : (x : Float) → ne x x ≡ false → T (not (isNan x))
-unfolding isNan ne
-not-nan nan e = absurd (true≢false e)
-not-nan (inf s) e = tt
-not-nan (fin s m k) e = tt
 
 returns : tie.Need-returns
 unfolding toBits
