@@ -1,4 +1,6 @@
 // Standard input as lines, in one buffer: its bytes from `from` to `end` are still to be answered.
+use crate::text::Stop;
+use crate::text::scan;
 
 pub struct Buffer {
     pub from: usize,
@@ -20,15 +22,8 @@ pub fn empty() -> Buffer {
 // The place of the next line end, `end` or beyond if there is none.
 pub fn line_end(input: &[u8], buffer: Buffer) -> usize {
     let end = buffer.end;
-    let mut i = buffer.from;
-    while i < end {
-        if i >= input.len() {
-            return end;
-        }
-        if input[i] == b'\n' {
-            return i;
-        }
-        i += 1;
+    if end <= input.len() {
+        return scan(&input[..end], buffer.from, Stop::LineEnd);
     }
     end
 }

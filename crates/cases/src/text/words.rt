@@ -14,45 +14,47 @@ fn is_blank(b: u8) -> bool {
     }
 }
 
-// The first place from `at` on that is no blank.
+// What a scan looks for.
+pub enum Stop {
+    Word,
+    Blank,
+    Comment,
+    LineEnd,
+}
+
+fn stops_at(b: u8, stop: Stop) -> bool {
+    match stop {
+        Stop::Word => !is_blank(b),
+        Stop::Blank => is_blank(b),
+        Stop::Comment => b == b';',
+        Stop::LineEnd => b == b'\n',
+    }
+}
+
+// The first place from `at` on where it stands, the end of the text if it stands nowhere.
+pub fn scan(text: &[u8], at: usize, stop: Stop) -> usize {
+    let mut i = at;
+    while i < text.len() {
+        if stops_at(text[i], stop) {
+            return i;
+        }
+        i += 1;
+    }
+    i
+}
+
 pub fn skip_blanks(line: &[u8], at: usize) -> usize {
-    let mut i = at;
-    while i < line.len() {
-        if !is_blank(line[i]) {
-            return i;
-        }
-        i += 1;
-    }
-    i
+    scan(line, at, Stop::Word)
 }
 
-// The first place from `at` on that is a blank: behind the word that stands there.
+// Behind the word that stands at `at`.
 pub fn word_end(line: &[u8], at: usize) -> usize {
-    let mut i = at;
-    while i < line.len() {
-        if is_blank(line[i]) {
-            return i;
-        }
-        i += 1;
-    }
-    i
-}
-
-// The place of the line's comment, its end if it has none.
-fn comment(line: &[u8]) -> usize {
-    let mut i: usize = 0;
-    while i < line.len() {
-        if line[i] == b';' {
-            return i;
-        }
-        i += 1;
-    }
-    i
+    scan(line, at, Stop::Blank)
 }
 
 // The line up to its comment.
 pub fn without_comment(line: &[u8]) -> &[u8] {
-    first_bytes(line, comment(line))
+    first_bytes(line, scan(line, 0, Stop::Comment))
 }
 
 // The next word, empty if there is none.

@@ -1,18 +1,18 @@
--- `cases::text::words::skip_blanks` is safe and ends: each turn passes a byte of the line. Assumes nothing.
+-- `cases::text::words::scan` is safe and ends: each turn passes a byte of the text. Assumes nothing.
 use borrow.Author.Needs.{needs}
 use Prim.Native.Nat.{_-_}
 use lib.ListN.{length}
-use Rattle.cases.proofs.text.words.skip_blanks.Statement.{statement}
-use Rattle.cases.proofs.text.words.skip_blanks.Tie as tie
+use Rattle.cases.proofs.text.words.scan.Statement.{statement}
+use Rattle.cases.proofs.text.words.scan.Tie as tie
 
 abbrev Inv-loop : tie.InvT-loop
-Inv-loop line at i₀ i = Unit {0}
+Inv-loop text at stop i₀ i = Unit {0}
 
 abbrev μ-loop : tie.MeasureT-loop
-μ-loop line at i₀ i = length line - i
+μ-loop text at stop i₀ i = length text - i
 
-pub skip-blanks-spec : {M : Type 1} → statement M
-skip-blanks-spec =
+pub scan-spec : {M : Type 1} → statement M
+scan-spec =
     tie.close
     (tie.spec
     Inv-loop
