@@ -1,4 +1,4 @@
--- What every way to a set ends with: the numbers that its ordered lists may still give, and the set in its arrays. Assumes nothing.
+-- The last checks of every set: the numbers that its ordered lists may still give, and the set in its arrays. Assumes nothing.
 use Prim.Native.Nat.{ℕ, _≤_}
 use mathlib.Core.Path.{_≡_}
 use mathlib.Core.Bool.{_||_}

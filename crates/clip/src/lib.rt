@@ -1,4 +1,4 @@
-// Clip sets by value: how they are stored, what every way to one ends with, and their retiming.
+// A prepared clip set by value: how it is stored, the checks that every set passes, and its retiming.
 mod retiming;
 pub mod storage;
 pub mod storing;

@@ -1,4 +1,4 @@
-// What every way to a set ends with: its lists are in their order, and 2, 4, 5, 9 may still refuse it.
+// The last checks of every set, whether explicit, expanded or retimed: its lists are in order, and 2, 4, 5 or 9 may still refuse it.
 use crate::ClipSet;
 use crate::Prepared;
 use crate::storage;
@@ -85,7 +85,7 @@ pub fn check_and_store(
     Prepared { number: 0, set }
 }
 
-// The same of lists in any order.
+// Checks and stores lists in any order.
 pub fn sort_check_and_store(
     clips: u64,
     times: &mut [f64],

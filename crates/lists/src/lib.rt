@@ -32,8 +32,7 @@ fn unstorable(time: f64) -> u64
     1
 }
 
-// A time that is not finite, or beyond 2^40, is among them. They are counted, and no count ends the loop, so that several
-// are tested at once.
+// A time that is not finite, or beyond 2^40, is among them. No early exit, so that the loop vectorises.
 pub fn any_unstorable(times: &[f64]) -> bool
     ensures { λ r. ⌜ r ≡ anyUnstorable (was times) ⌝ }
 {

@@ -43,7 +43,7 @@ pub fn is_place(times: &[f64], place: usize, t: f64) -> bool
     is_reached(times, place, t)
 }
 
-// Whether it is, of any number.
+// A hint may be any number: one beyond the list is never the place.
 fn is_near(times: &[f64], place: usize, t: f64) -> bool
     requires { ⌜ Ascending (now times) ⌝ }
     ensures { λ r. ⌜ ((r ≡ true) → lastAtMost (was times) t ≡ place) ⌝ }

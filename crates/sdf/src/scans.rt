@@ -45,7 +45,7 @@ fn nan_found(value: f64) -> u64
     0
 }
 
-// A NaN is among the values. They are counted, and no count ends the loop, so that several are tested at once.
+// A NaN is among the values. No early exit, so that the loop vectorises.
 fn any_not_a_number(values: &[f64]) -> bool
     ensures { λ r. ⌜ r ≡ any isNan (was values) ⌝ }
 {

@@ -36,7 +36,7 @@ fn equal_found(block: f64, start: f64) -> u64
     0
 }
 
-// A manifest block equals this start. They are counted, and no count ends the loop, so that several are tested at once.
+// A manifest block equals this start. No early exit, so that the loop vectorises.
 pub fn blocked_at(blocks: &[f64], start: f64) -> bool
     ensures { λ r. ⌜ r ≡ any (λ (b : Float). eq b start) (was blocks) ⌝ }
 {

@@ -34,7 +34,7 @@ fn is_beyond(s: Segment, c: f64, t: f64) -> bool
     stage_time(s, c) <= t
 }
 
-// Whether the sample at `n` does, or there is none.
+// The sample at `n` lies behind the place, or there is none at `n`.
 fn begins_at(cs: &[f64], s: Segment, t: f64, n: usize) -> bool
     ensures { λ r. ⌜ ((r ≡ true) → n < length (was cs) → isBeyond t (s .a, s .b) (getD (was cs) n nan) ≡ true) ⌝ ∗ ⌜ ((r ≡ false) → (n < length (was cs)) × (isBeyond t (s .a, s .b) (getD (was cs) n nan) ≡ false)) ⌝ }
 {
@@ -44,7 +44,7 @@ fn begins_at(cs: &[f64], s: Segment, t: f64, n: usize) -> bool
     true
 }
 
-// Whether `n` is a place in the list or its end, and the sample before it does not, or there is none.
+// `n` is a place in the list or its end, and the sample before it, if there is one, lies before the place.
 fn ends_before(cs: &[f64], s: Segment, t: f64, n: usize) -> bool
     ensures { λ r. ⌜ ((r ≡ true) → (n ≤ length (was cs)) × ((i : ℕ) → suc i ≡ n → isBeyond t (s .a, s .b) (getD (was cs) i nan) ≡ false)) ⌝ }
 {

@@ -179,8 +179,8 @@ fn near_starts(w: Window, t: f64) -> Neighbours
     first
 }
 
-// The neighbours of `t` among the times of its window, whose samples are `cs`. A hint is any number. Tops spare many searches a pass over the knots; there
-// may be none.
+// The neighbours of `t` among the times of its window, whose samples are `cs`. A hint is any number. Where the latest inverse times
+// are at hand no search passes over the knots.
 pub fn neighbours_in(
     xs: &[f64],
     ys: &[f64],

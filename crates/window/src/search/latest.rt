@@ -57,7 +57,7 @@ fn latest_inverse(xs: &[f64], ys: &[f64], i: usize) -> f64
     top
 }
 
-// The same where latest may be at hand.
+// The same, read off where the latest inverse times are at hand.
 pub fn latest_before(xs: &[f64], ys: &[f64], latest: &[f64], i: usize) -> f64
     requires { ⌜ length (now xs) ≡ length (now ys) ⌝ ∗ ⌜ Every SoundSegment (pairs (knotsOf (now xs) (now ys))) ⌝ ∗ ⌜ LatestOf (now xs) (now ys) (now latest) ⌝ ∗ ⌜ i < length (now xs) ⌝ ∗ ⌜ 0 < i ⌝ }
     ensures { λ r. ⌜ ReachOf (was xs) (was ys) i r ⌝ }
