@@ -10,7 +10,7 @@ use native.Mathlib.Omega.{arith}
 use lib.Dec.{T}
 use lib.ListN.{length, getD}
 use lib.Ieee.{Float, nan, isNan, eq, lt, le}
-use Rattle.gf.specs.Key.{key}
+use Rattle.gf.specs.Doubles.{key}
 use Rattle.gf.proofs.KeyLaws.{key→lt, key→le, le→key, key→eq, lt→key, finite-no-nan, le-or-lt}
 use Rattle.definitions.specs.Lists.{any}
 use Rattle.definitions.specs.Doubles.{FiniteDouble}

@@ -7,7 +7,7 @@ use Prim.Native.Nat.{ℕ, _-_, _<_, min}
 use native.Mathlib.Omega.{arith}
 use lib.Dec.{T}
 use lib.Ieee.{Float, isNan}
-use Rattle.gf.specs.Key.{key, ofKey}
+use Rattle.gf.specs.Doubles.{key, ofKey}
 use Rattle.gf.proofs.KeyLaws.{ofKey-fits, ofKey-no-nan, le→key, le-no-nan}
 use Rattle.definitions.specs.ClipSet.{ClipSet, stage}
 use Rattle.definitions.specs.Samples.{Samples, clipTimes}

@@ -7,9 +7,8 @@ use native.Mathlib.Omega.{arith}
 use lib.Dec.{T}
 use lib.Ieee.{Float, eq}
 use borrow.Author.Tests.{le-ltb}
-use Rattle.gf.specs.Key.{key}
+use Rattle.gf.specs.Doubles.{key, storable}
 use Rattle.gf.proofs.KeyLaws.{lt→key, eq→key}
-use Rattle.gf.specs.Doubles.{storable}
 use Rattle.definitions.specs.Lists.{any, pairsFrom}
 use Rattle.definitions.specs.Doubles.{twoEqual}
 use Rattle.definitions.specs.ClipSet as Definitions

@@ -8,11 +8,10 @@ use lib.Dec.{T, not-T}
 use lib.ListN.{getElem?}
 use lib.Ieee.{Float, round, add, sub, mul, div, neg, lt, le, eq, toBits, ofBits, fits}
 use lib.Ieee.Bits.{is-true, is-false}
-use Rattle.gf.specs.Key.{key, ofKey}
+use Rattle.gf.specs.Doubles.{key, ofKey, totalKey, truncated}
 use Rattle.gf.proofs.KeyLaws.{lt-not-le, eq→key}
 use Rattle.definitions.specs.declared.Answer.the-variants.{Value}
 use Rattle.definitions.specs.ClipSet.{ClipSet, stage}
-use Rattle.gf.specs.Doubles.{totalKey, truncated}
 use Rattle.definitions.specs.Doubles.{lowest, FiniteDouble}
 use Rattle.definitions.specs.Explicit.{explicitSet}
 use Rattle.definitions.specs.Timing.{lastAtMost, activePosition, onSegment, mapTime, mapStageToClip}

@@ -8,13 +8,10 @@ use mathlib.Core.Bool.{Bool, true, false, not}
 use mathlib.Core.List.{List, [], _∷_, map}
 use lib.Dec.{eqb}
 use lib.Ieee.{Float, nan, round, neg, add, sub, mul, div, lt, le, eq, toBits, ofBits, isNan}
-use Rattle.gf.specs.Exactly.{within}
-use Rattle.gf.specs.Key.{key, ofKey}
-use Rattle.gf.specs.Lerp.{lerp, share}
+use Rattle.gf.specs.Doubles.{within, key, ofKey, lerp, share, abs, isWhole, truncated, isClipNumber, signBit, totalKey}
 use Rattle.definitions.specs.declared.Knot.{Knot}
 use Rattle.definitions.specs.declared.LayerOffset.{LayerOffset}
 use Rattle.definitions.specs.declared.Answer.the-variants.{Value, Blocked, Absent}
-use Rattle.gf.specs.Doubles.{abs, isWhole, truncated, isClipNumber, signBit, totalKey}
 use Rattle.definitions.specs.Doubles.{lowest, nextLower}
 use Rattle.definitions.specs.ClipSet.{ClipSet, noSet, standing, asAccepted, asRetimed, stage, clip, nanDefault, beyondLimits, equalStarts, equalKnots, badDefaultMark, activeTimes}
 use Rattle.definitions.specs.Explicit.{ExplicitFields, explicitSet, explicitNumber, explicit1, explicit2, explicit3}

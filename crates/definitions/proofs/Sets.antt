@@ -8,7 +8,7 @@ use mathlib.Core.Option.{Option, none, some}
 use lib.Dec.{eqb}
 use lib.IntN.{pos}
 use lib.Ieee.{Float, fin, binary64, round, neg, toBits}
-use Rattle.gf.specs.Key.{key, ofKey, most}
+use Rattle.gf.specs.Doubles.{key, ofKey, most}
 use Rattle.definitions.specs.declared.Knot.{Knot}
 use Rattle.definitions.specs.declared.Answer.{Answer}
 use Rattle.definitions.specs.Lists.{all}

@@ -9,7 +9,7 @@ use native.Mathlib.Decide.{decLe}
 use lib.Dec.{T, T-not, eqb, eqb-refl, lit≤}
 use native.Mathlib.Nat.{le-of-eq, eq-or-lt-of-le}
 use lib.Ieee.{Float, binary64, isNan, eq, lt, le, toBits}
-use Rattle.gf.specs.Key.{key, ofKey, least, most}
+use Rattle.gf.specs.Doubles.{key, ofKey, least, most}
 use Rattle.gf.proofs.KeyLaws.{key-ofKey, ofKey-fits, ofKey-finite, finite→key, finite-no-nan, lt→key, key→lt, key→le, key→eq, le-or-lt}
 use Rattle.definitions.specs.declared.StageTime.{StageTime}
 use Rattle.definitions.specs.declared.Answer.{Answer}

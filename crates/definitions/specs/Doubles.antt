@@ -6,7 +6,7 @@ use mathlib.Core.List.{List}
 use lib.Dec.{T}
 use lib.Ieee.{Float, binary64, eq, lt, fits}
 use lib.Ieee.Scale.{finite}
-use Rattle.gf.specs.Key.{key, ofKey, least}
+use Rattle.gf.specs.Doubles.{key, ofKey, least}
 use Rattle.definitions.specs.Lists.{any, all, pairs}
 
 -- ---- the neighbours. `key`, `ofKey` and `least` of the crate `gf`: the place of a double in numeric order, one for both zeros.

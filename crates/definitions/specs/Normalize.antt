@@ -5,7 +5,7 @@ use mathlib.Core.List.{List, [], _∷_}
 use lib.Dec.{ltb}
 use lib.ListN.{length}
 use lib.Ieee.{Float, eq}
-use Rattle.gf.specs.Key.{key}
+use Rattle.gf.specs.Doubles.{key}
 use Rattle.definitions.specs.Lists.{_if_else_, sortBy}
 use Rattle.definitions.specs.Samples.{unlikeLengths, samples2, badMarks}
 

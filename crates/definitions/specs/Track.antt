@@ -6,12 +6,11 @@ use mathlib.Core.List.{List, [], _∷_, List·Memᴰ, map}
 use lib.Dec.{T, eqb, ltb}
 use lib.ListN.{length}
 use lib.Ieee.{Float, binary64, eq, lt, le, toBits}
-use Rattle.gf.specs.Key.{key, ofKey}
+use Rattle.gf.specs.Doubles.{key, ofKey, 0·0}
 use Rattle.definitions.specs.declared.StageTime.{StageTime}
 use Rattle.definitions.specs.declared.Answer.{Answer}
 use Rattle.definitions.specs.declared.Answer.the-variants.{Value, Blocked, Absent}
 use Rattle.definitions.specs.Lists.{any, writtenOver, _if_else_, _then_}
-use Rattle.gf.specs.Doubles.{0·0}
 use Rattle.definitions.specs.Doubles.{lowest, nextLower, FiniteDouble, ascending}
 use Rattle.definitions.specs.ClipSet.{Model, noSet, standing, markValue, markBlock, markNone, stage}
 use Rattle.definitions.specs.Samples.{Samples, samplesNumber}

@@ -8,8 +8,7 @@ use lib.Ieee.{Float, binary64, fits}
 use borrow.Author.Tests.{eq-eqb, ne-eqb}
 use Rattle.gf.specs.declared.class.Class.the-variants.{Zero, Fraction, Whole, NotFinite}
 use Rattle.gf.specs.declared.pattern.Fields.{Fields}
-use Rattle.gf.specs.Classes.{classOf}
-use Rattle.gf.specs.Patterns.{fieldsOf}
+use Rattle.gf.specs.Doubles.{classOf, fieldsOf}
 use Rattle.gf.proofs.Fields.{wholeOr, exponentOf, digitsOf, class-subnormal, class-below-one, class-with-point, class-without-point, class-not-finite}
 use Rattle.gf.proofs.FieldsOf.{few-digits}
 

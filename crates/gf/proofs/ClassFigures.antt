@@ -5,8 +5,7 @@ use Prim.Native.Nat.{ℕ}
 use lib.Ieee.{binary64, ofBits, le}
 use Rattle.gf.specs.declared.class.Class.{Class}
 use Rattle.gf.specs.declared.class.Class.the-variants.{Zero, Fraction, Whole, NotFinite}
-use Rattle.gf.specs.Doubles.{isWhole, truncated, isClipNumber}
-use Rattle.gf.specs.Classes.{classOf}
+use Rattle.gf.specs.Doubles.{isWhole, truncated, isClipNumber, classOf}
 
 abbrev at : ℕ → Class
 at b = classOf (ofBits binary64 b)

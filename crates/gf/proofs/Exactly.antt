@@ -17,7 +17,7 @@ use Rattle.gf.proofs.Fraction.{over, under, le→cross, lt→cross, Rou
 use Rattle.gf.proofs.Units.{unit, unit-exact, rounds-self}
 use Rattle.gf.proofs.KeyLaws.{between}
 use Rattle.gf.proofs.Ops.{nought, nonneg, nonpos, add-over, add-under, add-rounds, sub-over, sub-under, sub-rounds, mul-over, mul-under, mul-rounds, div-rounds, num-pos}
-use Rattle.gf.specs.Exactly.{power, within}
+use Rattle.gf.specs.Doubles.{power, within}
 
 ruleset ring = (add-mul, mul-add, mul-assoc, mul-comm, mul-left-comm)
 

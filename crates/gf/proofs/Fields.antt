@@ -14,8 +14,7 @@ use lib.Ieee.Bits.{ofBits-toBits}
 use borrow.Author.Tests.{eq-eqb, ne-eqb}
 use Rattle.gf.specs.declared.class.Class.{Class}
 use Rattle.gf.specs.declared.class.Class.the-variants.{Zero, Fraction, Whole, NotFinite}
-use Rattle.gf.specs.Doubles.{isWhole}
-use Rattle.gf.specs.Classes.{classOf}
+use Rattle.gf.specs.Doubles.{isWhole, classOf}
 use Rattle.gf.proofs.KeyLaws.{same-test}
 
 -- ---- equal fractions are whole together

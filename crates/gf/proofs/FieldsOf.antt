@@ -6,7 +6,7 @@ use lib.Bits.{bitAnd, and-mask}
 use lib.Pow.{field}
 use lib.Ieee.{Float, binary64, hid, top, toBits}
 use Rattle.gf.specs.declared.pattern.Fields.{Fields}
-use Rattle.gf.specs.Patterns.{fieldsOf}
+use Rattle.gf.specs.Doubles.{fieldsOf}
 
 -- ---- by shift and mask
 

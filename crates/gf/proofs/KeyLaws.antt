@@ -18,7 +18,7 @@ use lib.Ieee.Positive.{first-pos}
 use lib.Ieee.Bits.{toBits-lt, toBits-ofBits, ofBits-fits, nanBits-is, nanBits-above, is-true, is-false}
 use Rattle.gf.proofs.Units.{same-bits}
 use Rattle.gf.proofs.Rank.{rank, sign, toBits-rank, rank-fin, rank-zero, rank-pos, size→rank<, size≡rank}
-use Rattle.gf.specs.Key.{keyBits, key, least, most, bitsKey, ofKey}
+use Rattle.gf.specs.Doubles.{keyBits, key, least, most, bitsKey, ofKey}
 
 -- ---- a sign and a rank as one number, with t for zero
 

@@ -9,8 +9,7 @@ use lib.Ieee.Positive.{positive}
 use Rattle.gf.proofs.KeyLaws.{finite-no-nan, lt→le, le-refl, le-both, between}
 use Rattle.gf.proofs.Ops.{nought, add-mono-right, sub-mono, mul-mono-right, mul-anti-right, div-mono}
 use Rattle.gf.proofs.Exactly.{one, sub-nonneg, sub-nonpos, sub-positive, div-nonneg, div-nonpos, div-le-one, mul-nonneg, mul-nonpos, mul-le-self, mul-ge-self, mul-zero-le, mul-zero-ge, add-ge-self, add-le-self, within-finite, sub-within}
-use Rattle.gf.specs.Exactly.{within, power}
-use Rattle.gf.specs.Lerp.{share, lerp}
+use Rattle.gf.specs.Doubles.{within, power, share, lerp}
 
 pub lerp-fits : (x0 x1 y0 y1 t : Float) → T (fits binary64 (lerp x0 x1 y0 y1 t))
 unfolding lerp

@@ -10,8 +10,7 @@ use lib.Ieee.{Float, nan, inf, fin, binary64, up, down, below, level, le, fits, 
 use lib.Ieee.Bits.{ofBits-toBits, nanBits-is}
 use lib.Ieee.Fits.{down-pos, eq→eqb}
 use borrow.Author.Tests.{lt-ltb}
-use Rattle.gf.specs.Doubles.{abs}
-use Rattle.gf.specs.Exactly.{power, within}
+use Rattle.gf.specs.Doubles.{abs, power, within}
 use Rattle.gf.proofs.KeyLaws.{same-test}
 use Rattle.gf.proofs.Rank.{rank, sign, toBits-rank, rank-fin, any-sign}
 

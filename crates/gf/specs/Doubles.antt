@@ -2,11 +2,13 @@
 -- Numeric order and equality are `le`, `lt` and `eq` of `lib.Ieee`: "-0.0 and 0.0 are one time" for them, and no test holds of a NaN.
 -- Assumes nothing.
 use Prim.Native.Nat.{ℕ, _+_, _-_, _*_, _/_, _%_}
-use mathlib.Core.Bool.{Bool, false, _&&_, _||_, cond}
+use mathlib.Core.Bool.{Bool, true, false, _&&_, _||_, cond}
 use lib.IntN.{pos, negsuc}
 use lib.Dec.{eqb, ltb}
-use lib.Ieee.{Float, nan, inf, fin, binary64, up, down, add, sub, mul, div, lt, le, toBits}
-use Rattle.gf.specs.Exactly.{within}
+use lib.Ieee.{Float, nan, inf, fin, binary64, hid, top, up, down, add, sub, mul, div, lt, le, toBits, ofBits}
+use Rattle.gf.specs.declared.pattern.Fields.{Fields}
+use Rattle.gf.specs.declared.class.Class.{Class}
+use Rattle.gf.specs.declared.class.Class.the-variants.{Zero, Fraction, Whole, NotFinite}
 
 -- ---- arithmetic: "each operation rounded"
 
@@ -43,6 +45,16 @@ abs nan = nan
 abs (inf s) = inf false
 abs (fin s m e) = fin false m e
 
+-- ---- in a segment
+
+-- where t lies in the segment from x0 to x1, as a number from 0 to 1
+unfoldable pub share : Float → Float → Float → Float
+share x0 x1 t = div binary64 (sub binary64 t x0) (sub binary64 x1 x0)
+
+unfoldable pub lerp : Float → Float → Float → Float → Float → Float
+unfolding share
+lerp x0 x1 y0 y1 t = add binary64 y0 (mul binary64 (sub binary64 y1 y0) (share x0 x1 t))
+
 -- sa + (c − ca)/(cb − ca)·(sb − sa)
 abbrev pub inverseOf : Float → Float → Float → Float → Float → Float
 inverseOf sa sb ca cb c = sa ⊕ (c ⊖ ca) ⊘ (cb ⊖ ca) ⊗ (sb ⊖ sa)
@@ -52,6 +64,13 @@ abbrev pub spansOf : Float → Float → Float → Bool
 spansOf ca cb c = (lt ca cb && le ca c && le c cb) || (lt cb ca && le cb c && le c ca)
 
 -- ---- finite, magnitude, whole
+
+-- ± 2 ^ k
+abbrev pub power : Bool → ℕ → Float
+power s k = fin s 1 (pos k)
+
+unfoldable pub within : ℕ → Float → Bool
+within k x = le (power true k) x && le x (power false k)
 
 -- "magnitude at most 2^40 for every stored time": finite, and from -2^40 to 2^40, both included
 abbrev pub storable : Float → Bool
@@ -79,6 +98,17 @@ signBit nan = false
 signBit (inf s) = s
 signBit (fin s m e) = s
 
+-- ---- "sign, exponent and fraction", and the class that they decide
+
+abbrev pub fieldsOf : Float → Fields
+fieldsOf x = let b = toBits binary64 x in record { sign = b / top binary64; exponent = b % top binary64 / hid binary64; fraction = b % hid binary64 }
+
+-- zero, fraction, whole number or not finite, from what each of them means
+unfoldable pub classOf : Float → Class
+classOf nan = NotFinite
+classOf (inf s) = NotFinite
+classOf (fin s m e) = cond (eqb m 0) Zero (cond (isWhole (fin s m e)) Whole Fraction)
+
 -- ---- two orders, for two purposes
 
 -- The order of `total_cmp`, which "places -0.0 before 0.0", as a number: by it the lists of a set are sorted. From the pattern b: 2^63 + b for a clear sign,
@@ -86,4 +116,27 @@ signBit (fin s m e) = s
 unfoldable pub totalKey : Float → ℕ
 totalKey x = let b = toBits binary64 x in cond (ltb b 0x8000_0000_0000_0000) (0x8000_0000_0000_0000 + b) (0xffff_ffff_ffff_ffff - b)
 
--- The second order, `key` of `Key`, is numeric: one place for both zeros ("zero is one double among the neighbours"), and `ofKey` of that place is 0.0.
+-- The second order is numeric: one place for both zeros ("zero is one double among the neighbours"), and `ofKey` of that place is 0.0. The key is 2 ^ 63 with the
+-- pattern of the size added, or taken off where the sign is set; each key from `least` to `most` is one finite double's, or both zeros'.
+
+-- of a bit pattern
+abbrev pub keyBits : ℕ → ℕ
+keyBits b = cond (ltb b 0x8000_0000_0000_0000) (0x8000_0000_0000_0000 + b) (0x8000_0000_0000_0000 - b % 0x8000_0000_0000_0000)
+
+unfoldable pub key : Float → ℕ
+key x = keyBits (toBits binary64 x)
+
+-- the keys of the least and the greatest finite double
+abbrev pub least : ℕ
+least = 0x8000_0000_0000_0000 - 0x7fef_ffff_ffff_ffff
+
+abbrev pub most : ℕ
+most = 0x8000_0000_0000_0000 + 0x7fef_ffff_ffff_ffff
+
+-- the double of a key: of the two zeros it is 0.0
+
+abbrev pub bitsKey : ℕ → ℕ
+bitsKey k = cond (ltb k 0x8000_0000_0000_0000) (0x1_0000_0000_0000_0000 - k) (k - 0x8000_0000_0000_0000)
+
+unfoldable pub ofKey : ℕ → Float
+ofKey k = ofBits binary64 (bitsKey k)

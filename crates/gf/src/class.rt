@@ -4,8 +4,7 @@ use crate::pattern::fields_of;
 ghost use mathlib.Core.Path.{_≡_};
 ghost use Prim.Native.Nat.{_%_, _^_, _<_};
 ghost use lib.Dec.{eqb};
-ghost use Rattle.gf.specs.Doubles.{isWhole};
-ghost use Rattle.gf.specs.Classes.{classOf};
+ghost use Rattle.gf.specs.Doubles.{isWhole, classOf};
 
 // `Fraction` has a part below 1, `Whole` is a whole number other than 0, and `NotFinite` is an
 // infinity or a NaN.

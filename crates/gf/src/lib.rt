@@ -18,8 +18,6 @@ ghost use lib.Dec.{T};
 ghost use lib.Ieee.{isNan};
 ghost use lib.Ieee.Scale.{finite};
 ghost use Rattle.gf.specs.Doubles as Doubles;
-ghost use Rattle.gf.specs.Key as Key;
-ghost use Rattle.gf.specs.Lerp as Lerp;
 
 // The keys of the lowest and of the greatest finite double.
 pub const LEAST: u64 = 0x0010_0000_0000_0001;
@@ -29,7 +27,7 @@ pub const MOST: u64 = 0xffef_ffff_ffff_ffff;
 // The place of `x` in the order of the doubles. Both zeros have the key 2^63.
 pub fn key(x: f64) -> u64
     requires { ⌜ T (not (isNan x)) ⌝ }
-    ensures { λ r. ⌜ r ≡ Key.key x ⌝ }
+    ensures { λ r. ⌜ r ≡ Doubles.key x ⌝ }
 {
     let b = f64::to_bits(x);
     if b < 0x8000_0000_0000_0000 {
@@ -41,8 +39,8 @@ pub fn key(x: f64) -> u64
 
 // The finite double with the key `k`. Of the two zeros it is +0.0.
 pub fn of_key(k: u64) -> f64
-    requires { ⌜ (Key.least ≤ k) × (k ≤ Key.most) ⌝ }
-    ensures { λ r. ⌜ r ≡ Key.ofKey k ⌝ }
+    requires { ⌜ (Doubles.least ≤ k) × (k ≤ Doubles.most) ⌝ }
+    ensures { λ r. ⌜ r ≡ Doubles.ofKey k ⌝ }
 {
     if k < 0x8000_0000_0000_0000 {
         f64::from_bits(0x8000_0000_0000_0000 + (0x8000_0000_0000_0000 - k))
@@ -53,7 +51,7 @@ pub fn of_key(k: u64) -> f64
 
 // The value at `t` of the line through two points.
 pub fn lerp(x0: f64, x1: f64, y0: f64, y1: f64, t: f64) -> f64
-    ensures { λ r. ⌜ r ≡ Lerp.lerp x0 x1 y0 y1 t ⌝ }
+    ensures { λ r. ⌜ r ≡ Doubles.lerp x0 x1 y0 y1 t ⌝ }
 {
     y0 + (y1 - y0) * ((t - x0) / (x1 - x0))
 }

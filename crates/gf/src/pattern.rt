@@ -5,7 +5,7 @@ ghost use mathlib.Core.Bool.{not};
 ghost use Prim.Native.Nat.{_+_, _*_, _<_};
 ghost use lib.Dec.{T};
 ghost use lib.Ieee.{isNan};
-ghost use Rattle.gf.specs.Patterns.{fieldsOf};
+ghost use Rattle.gf.specs.Doubles.{fieldsOf};
 
 // How far left the exponent stands, and the masks of the two fields behind the sign.
 const EXPONENT_AT: u64 = 52;

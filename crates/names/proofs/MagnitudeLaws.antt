@@ -12,9 +12,8 @@ use lib.Ieee.Exact.{HasValue, odd-sign}
 use lib.Ieee.Scale.{finite}
 use lib.Ieee.Positive.{num, den, den-pos}
 use lib.Ieee.Bits.{ofBits-toBits}
-use Rattle.gf.specs.Doubles.{storable, signBit}
+use Rattle.gf.specs.Doubles.{storable, signBit, power}
 use Rattle.gf.proofs.Fraction.{over, under, le→cross}
-use Rattle.gf.specs.Exactly.{power}
 use Rattle.gf.proofs.Exactly.{within-lo, within-hi, within-finite}
 use Rattle.names.specs.Magnitude.{Measures}
 

@@ -9,7 +9,7 @@ use borrow.Author.Tests.{lt-ltb, le-ltb}
 use lib.Dec.{ltb}
 use lib.ListN.{length, getD, length-map}
 use lib.Ieee.{Float, nan, eq}
-use Rattle.gf.specs.Key.{key}
+use Rattle.gf.specs.Doubles.{key}
 use Rattle.definitions.specs.Lists.{_if_else_, sortBy, below}
 use Rattle.definitions.specs.Samples.{unlikeLengths, samples2, badMarks}
 use Rattle.definitions.specs.Normalize.{TimeSample, timeSamples, merge, mergeEqual, normalizeTimeSamples, normalizeNumber}

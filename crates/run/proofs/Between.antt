@@ -8,7 +8,7 @@ use native.Mathlib.Decide.{decLe}
 use lib.Dec.{T}
 use lib.ListN.{length, getD}
 use lib.Ieee.{Float, nan, le, eq}
-use Rattle.gf.specs.Key.{key, ofKey, least, most}
+use Rattle.gf.specs.Doubles.{key, ofKey, least, most}
 use Rattle.gf.proofs.KeyLaws.{key-ofKey, ofKey-fits, ofKey-no-nan, ofKey-mono, le→key, key→le, key→eq, le-trans, le-no-nan}
 use Rattle.definitions.specs.declared.Knot.{Knot}
 use Rattle.definitions.specs.Lists.{any, gather}

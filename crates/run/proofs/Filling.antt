@@ -6,7 +6,7 @@ use native.Mathlib.Omega.{arith}
 use lib.ListN.{length, take, drop, set, length-append, take-append-drop}
 use lib.Seq.{take-append-seam, drop-append-add, drop-drop, length-take-le}
 use lib.Ieee.{Float}
-use Rattle.gf.specs.Key.{ofKey}
+use Rattle.gf.specs.Doubles.{ofKey}
 use Rattle.definitions.specs.Track.{Entry, Change, Outputs}
 use Rattle.laws.specs.track.Track as steps
 use Rattle.laws.proofs.track.Laws.{put, length-put, length-part, no-part}

@@ -8,8 +8,7 @@ use borrow.Author.Tests.{ne-eqb}
 use lib.Dec.{T}
 use lib.ListN.{length, getD}
 use lib.Ieee.{Float, nan}
-use Rattle.gf.specs.Key.{ofKey}
-use Rattle.gf.specs.Doubles.{0·0}
+use Rattle.gf.specs.Doubles.{ofKey, 0·0}
 use Rattle.definitions.specs.declared.Answer.the-variants.{Value, Blocked}
 use Rattle.definitions.specs.Value.{marked}
 use Rattle.definitions.specs.Track.{Entry, alike}

@@ -8,7 +8,7 @@ use Prim.Native.Nat.{ℕ, _-_}
 use native.Mathlib.Nat.{le-antisymm}
 use lib.Dec.{T}
 use lib.Ieee.{Float, lt, le}
-use Rattle.gf.specs.Key.{key, ofKey}
+use Rattle.gf.specs.Doubles.{key, ofKey}
 use Rattle.gf.proofs.KeyLaws.{ofKey-fits, le→key, le-no-nan}
 use Rattle.definitions.specs.declared.Knot.{Knot}
 use Rattle.definitions.specs.Lists.{keep}

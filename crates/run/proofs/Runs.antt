@@ -11,7 +11,7 @@ use borrow.Author.Tests.{ltb-true, ltb-false, lt-ltb, le-ltb, leb-true, leb-fals
 use lib.Dec.{T, ltb, leb}
 use lib.ListN.{length, getD}
 use lib.Ieee.{Float, nan, lt, le}
-use Rattle.gf.specs.Key.{key, ofKey, least, most}
+use Rattle.gf.specs.Doubles.{key, ofKey, least, most}
 use Rattle.gf.proofs.KeyLaws.{key-ofKey, ofKey-fits, ofKey-no-nan, lt-is, le-is, le→key, lt→key, key→le, finite-no-nan}
 use Rattle.gf.proofs.Exactly.{within-finite}
 use Rattle.definitions.specs.declared.Knot.{Knot}

@@ -9,7 +9,7 @@ use native.Mathlib.Omega.{arith}
 use lib.Dec.{T}
 use lib.ListN.{length, set, length-append}
 use lib.Ieee.{Float}
-use Rattle.gf.specs.Key.{ofKey}
+use Rattle.gf.specs.Doubles.{ofKey}
 use Rattle.definitions.specs.Track.{Entry, Outputs, alike}
 use Rattle.definitions.proofs.Tracks.{alike-refl}
 use Rattle.laws.proofs.list.Tests.{holds, is-true}

@@ -7,7 +7,7 @@ use Prim.Native.Nat.{ℕ, _-_, _≤_, _<_}
 use lib.Dec.{T}
 use lib.ListN.{length, getD}
 use lib.Ieee.{Float, nan, lt, le}
-use Rattle.gf.specs.Key.{key, ofKey}
+use Rattle.gf.specs.Doubles.{key, ofKey}
 use Rattle.definitions.specs.declared.Knot.{Knot}
 use Rattle.definitions.specs.Lists.{keep}
 use Rattle.definitions.specs.Doubles.{FiniteDouble}

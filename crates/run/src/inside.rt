@@ -13,7 +13,7 @@ use window::crossing::crossing;
 ghost use mathlib.Core.Path.{_≡_};
 ghost use Prim.Native.Nat.{_≤_, _<_};
 ghost use lib.ListN.{length};
-ghost use Rattle.gf.specs.Key as Key;
+ghost use Rattle.gf.specs.Doubles as Key;
 ghost use Rattle.definitions.specs.Moments.{was, after};
 ghost use Rattle.laws.specs.list.Places.{Ascending};
 ghost use Rattle.window.specs.SoundSegments.{SoundSegment};

@@ -21,7 +21,7 @@ use walk::offer;
 ghost use mathlib.Core.Path.{_≡_};
 ghost use Prim.Native.Nat.{_≤_, _<_};
 ghost use lib.ListN.{length};
-ghost use Rattle.gf.specs.Key as Key;
+ghost use Rattle.gf.specs.Doubles as Key;
 ghost use Rattle.definitions.specs.Moments.{was, after};
 ghost use Rattle.laws.specs.list.Places.{Ascending};
 ghost use Rattle.laws.specs.cell.Keys.{Keys};

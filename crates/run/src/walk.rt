@@ -2,7 +2,7 @@
 use cell::step::entry::Entry;
 use cell::step::entry::alike;
 ghost use Prim.Native.Nat.{_≤_};
-ghost use Rattle.gf.specs.Key as Key;
+ghost use Rattle.gf.specs.Doubles as Key;
 ghost use Rattle.definitions.specs.Moments.{was, after};
 ghost use Rattle.cell.specs.step.Entries.{entryIs};
 ghost use Rattle.run.specs.Walks.{outputs, Room, Offered};

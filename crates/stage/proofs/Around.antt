@@ -11,7 +11,7 @@ use lib.Dec.{T, ltb}
 use lib.ListN.{length, getD}
 use lib.Ieee.{Float, nan, inf, lt, le}
 use borrow.Author.Tests.{ltb-true, lt-ltb, ne-eqb}
-use Rattle.gf.specs.Key.{key}
+use Rattle.gf.specs.Doubles.{key}
 use Rattle.gf.proofs.KeyLaws.{le→key, lt→key, lt→le, le-no-nan, le-or-lt, finite-no-nan}
 use Rattle.definitions.specs.declared.Missing.{Missing}
 use Rattle.definitions.specs.Lists.{gather, below}

@@ -9,9 +9,8 @@ use native.Mathlib.Omega.{arith}
 use native.Mathlib.Decide.{decLe}
 use lib.Dec.{T}
 use lib.Ieee.{Float, binary64, isNan, eq, lt, le}
-use Rattle.gf.specs.Key.{key}
+use Rattle.gf.specs.Doubles.{key, 0·0, totalKey}
 use Rattle.gf.proofs.KeyLaws.{isZero, eq→le, same-or-zeros, key-inj, key→lt, lt→key, key→eq, eq→key, le→key, le-no-nan, lt→le, finite-no-nan}
-use Rattle.gf.specs.Doubles.{0·0, totalKey}
 use Rattle.definitions.specs.Doubles.{FiniteDouble}
 use Rattle.laws.specs.list.Every.{Every}
 use Rattle.laws.proofs.set.Stored.{total→key}

@@ -9,10 +9,9 @@ use native.Mathlib.Omega.{arith}
 use lib.Dec.{T, ltb}
 use lib.Ieee.{Float, binary64, toBits, eq, lt, le}
 use borrow.Author.Tests.{ltb-true, ltb-false}
-use Rattle.gf.specs.Key.{key}
+use Rattle.gf.specs.Doubles.{key, totalKey}
 use Rattle.gf.proofs.KeyLaws.{key→le, key→eq, key→lt, lt→key, eq→key, lt→le, le→key, lt-le-trans, finite-no-nan, bits-lt}
 use Rattle.gf.proofs.Units.{same-bits}
-use Rattle.gf.specs.Doubles.{totalKey}
 use Rattle.definitions.specs.Lists.{keep, sortBy}
 use Rattle.definitions.specs.Doubles.{FiniteDouble}
 use Rattle.definitions.specs.StageSamples.{dropEqual, dedup}

@@ -12,7 +12,7 @@ use lib.ListN.{length, getD, getElem?, drop}
 use lib.Ieee.{Float, nan, fits, lt, le}
 use lib.Ieee.Scale.{finite}
 use Rattle.gf.proofs.KeyLaws.{le-trans, lt-le-trans}
-use Rattle.gf.specs.Exactly.{power}
+use Rattle.gf.specs.Doubles.{power}
 use Rattle.gf.proofs.Exactly.{within-lo}
 use Rattle.definitions.specs.declared.Missing.{Missing}
 use Rattle.definitions.specs.declared.Knot.{Knot}

@@ -8,7 +8,7 @@ use lib.ListN.{length, take, drop, length-map}
 use lib.Seq.{take-append-seam}
 use lib.Ieee.{Float}
 use borrow.Author.Tests.{lt-ltb, le-ltb}
-use Rattle.gf.specs.Key.{least, most}
+use Rattle.gf.specs.Doubles.{least, most}
 use Rattle.definitions.specs.Lists.{_if_else_, writtenOver}
 use Rattle.definitions.specs.ClipSet.{ClipSet}
 use Rattle.definitions.specs.Samples.{Samples}

@@ -7,7 +7,7 @@ use native.Mathlib.Decide.{decLe}
 use native.Mathlib.Omega.{arith}
 use lib.ListN.{length, length-append}
 use lib.Ieee.{Float}
-use Rattle.gf.specs.Key.{ofKey}
+use Rattle.gf.specs.Doubles.{ofKey}
 use Rattle.definitions.specs.declared.Missing.{Missing}
 use Rattle.definitions.specs.ClipSet.{ClipSet, stage}
 use Rattle.definitions.specs.Samples.{Samples}

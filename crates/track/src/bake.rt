@@ -15,7 +15,7 @@ ghost use mathlib.Core.Path.{_≡_};
 ghost use Prim.Native.Nat.{_<_};
 ghost use lib.ListN.{length};
 ghost use Rattle.gf.specs.Doubles.{0·0};
-ghost use Rattle.gf.specs.Key as Key;
+ghost use Rattle.gf.specs.Doubles as Key;
 ghost use Rattle.definitions.specs.Track.{slots};
 ghost use Rattle.definitions.specs.Moments.{was, after};
 ghost use Rattle.laws.specs.cell.Lent.{setOf, samplesOf, AcceptedLists};

@@ -30,7 +30,7 @@ use value::value::answer_of;
 ghost use mathlib.Core.Path.{_≡_};
 ghost use Prim.Native.Nat.{_<_};
 ghost use lib.ListN.{length};
-ghost use Rattle.gf.specs.Key.{ofKey};
+ghost use Rattle.gf.specs.Doubles.{ofKey};
 ghost use Rattle.definitions.specs.Moments.{was};
 ghost use Rattle.laws.specs.cell.Keys.{Keys};
 ghost use Rattle.laws.specs.cell.Lent.{AcceptedLists};

@@ -2,7 +2,7 @@
 use mathlib.Core.List.{List}
 use Prim.Native.Nat.{ℕ}
 use lib.Ieee.{Float}
-use Rattle.gf.specs.Key.{ofKey}
+use Rattle.gf.specs.Doubles.{ofKey}
 use Rattle.definitions.specs.Timing.{lastAtMost}
 use Rattle.laws.specs.cell.Knots as Knots
 use Rattle.cell.specs.declared.step.line.Line.{Line}

@@ -7,8 +7,7 @@ use lib.Ieee.{Float, nan, inf, fin}
 use lib.Ieee.Scale.{finite}
 use Rattle.gf.specs.declared.class.Class.{Class}
 use Rattle.gf.specs.declared.class.Class.the-variants.{Zero, Fraction, Whole, NotFinite}
-use Rattle.gf.specs.Doubles.{isWhole}
-use Rattle.gf.specs.Classes.{classOf}
+use Rattle.gf.specs.Doubles.{isWhole, classOf}
 use Rattle.gf.proofs.is_finite.Statement.{statement}
 use Rattle.gf.proofs.is_finite.Tie as tie
 

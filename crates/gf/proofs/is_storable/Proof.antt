@@ -4,7 +4,7 @@ use mathlib.Core.Bool.{false}
 use lib.Dec.{T}
 use lib.Ieee.{Float, le, ofBits}
 use lib.Ieee.Compare.{differs-from-itself}
-use Rattle.gf.specs.Exactly.{power, within}
+use Rattle.gf.specs.Doubles.{power, within}
 use Rattle.gf.proofs.Tests.{not-nan}
 use Rattle.gf.proofs.SignCleared.{abs-within}
 use Rattle.gf.proofs.is_storable.Statement.{statement}

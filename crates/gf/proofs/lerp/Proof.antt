@@ -1,6 +1,6 @@
 -- `gf::lerp` meets its contract: its body is the definition of `lerp`. Assumes nothing.
 use mathlib.Core.Path.{refl}
-use Rattle.gf.specs.Lerp.{lerp}
+use Rattle.gf.specs.Doubles.{lerp}
 use Rattle.gf.proofs.lerp.Statement.{statement}
 use Rattle.gf.proofs.lerp.Tie as tie
 

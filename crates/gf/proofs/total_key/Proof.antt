@@ -7,8 +7,7 @@ use lib.Ieee.{binary64, toBits}
 use lib.Ieee.Bits.{toBits-lt}
 use lib.Ieee.Compare.{differs-from-itself}
 use borrow.Author.Tests.{lt-ltb, le-ltb}
-use Rattle.gf.specs.Doubles.{totalKey}
-use Rattle.gf.specs.Patterns.{fieldsOf}
+use Rattle.gf.specs.Doubles.{totalKey, fieldsOf}
 use Rattle.gf.proofs.Tests.{not-nan}
 use Rattle.gf.proofs.FieldsOf.{few-digits, clear-sign, set-sign, rank-is}
 use Rattle.gf.proofs.total_key.Statement.{statement}

@@ -5,8 +5,7 @@ use mathlib.Core.List.{List, [], _∷_}
 use mathlib.Core.Option.{some}
 use Prim.Native.Nat.{ℕ}
 use lib.Ieee.{Float, binary64, fits, round, add, sub, mul, div, neg, lt, le, eq, ofBits}
-use Rattle.gf.specs.Exactly.{within}
-use Rattle.gf.specs.Lerp.{lerp, share}
+use Rattle.gf.specs.Doubles.{within, lerp, share}
 use Rattle.definitions.specs.declared.Knot.{Knot}
 use Rattle.definitions.specs.declared.Start.{Start}
 use Rattle.definitions.specs.ClipSet.{ClipSet, stage}

@@ -13,7 +13,7 @@ use Rattle.gf.proofs.Fraction.{over, under, Rounds, Part, rounds-mono, round-ne
 use Rattle.gf.proofs.KeyLaws.{between, le-trans}
 use Rattle.gf.proofs.Ops.{nought, sub-over, sub-under, sub-rounds, sub-mono, add-mono-right, mul-mono, div-mono}
 use Rattle.gf.proofs.Exactly.{one, nought-fits, sub-nonneg, sub-nonpos, sub-positive, div-nonneg, div-le-one, mul-nonneg, mul-le-self, add-ge-self, within-finite, within-more, add-within, sub-within}
-use Rattle.gf.specs.Exactly.{within, power}
+use Rattle.gf.specs.Doubles.{within, power}
 use Rattle.definitions.specs.declared.Knot.{Knot}
 use Rattle.definitions.specs.Value.{inverse}
 use Rattle.laws.specs.cell.Places.{Fits}

@@ -8,7 +8,7 @@ use native.Mathlib.Nat.{le-of-eq}
 use native.Mathlib.Omega.{arith}
 use lib.Dec.{T}
 use lib.Ieee.{Float, isNan, lt, le}
-use Rattle.gf.specs.Key.{key, ofKey, least, most}
+use Rattle.gf.specs.Doubles.{key, ofKey, least, most}
 use Rattle.gf.proofs.KeyLaws.{key-ofKey, ofKey-fits, ofKey-no-nan, ofKey-mono, ofKey-key, le→key, key→le, key→lt, lt→key, le-no-nan, lt→le}
 use Rattle.gf.proofs.LerpLaws.{Inside}
 use Rattle.definitions.specs.Doubles.{FiniteDouble}

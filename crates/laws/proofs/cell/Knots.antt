@@ -8,10 +8,9 @@ use native.Mathlib.Nat.{le-of-eq}
 use lib.Dec.{T, T-not}
 use lib.ListN.{getD}
 use lib.Ieee.{Float, isNan, eq, lt, le}
-use Rattle.gf.specs.Exactly.{within}
+use Rattle.gf.specs.Doubles.{within, lerp}
 use Rattle.gf.proofs.Exactly.{within-finite}
 use Rattle.gf.proofs.KeyLaws.{finite-no-nan, le-trans, le-refl, le-or-lt, le-no-nan, lt→le, eq→le, le-lt-trans, eq→key, key→le}
-use Rattle.gf.specs.Lerp.{lerp}
 use Rattle.gf.proofs.LerpLaws.{lerp-fits, lerp-mono, lerp-anti, lerp-start, start, Doubles, Segment, Inside}
 use Rattle.definitions.specs.declared.Knot.{Knot}
 use Rattle.definitions.specs.Lists.{any}

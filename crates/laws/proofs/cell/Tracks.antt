@@ -10,13 +10,12 @@ use lib.Dec.{T, T-not, not-T, leb, eqb, eqb→eq, lit≤}
 use lib.ListN.{getD}
 use lib.Ieee.{Float, binary64, fits, isNan, eq, lt, le, toBits}
 use Rattle.gf.proofs.Units.{same-bits}
-use Rattle.gf.specs.Key.{key, ofKey, least, most}
+use Rattle.gf.specs.Doubles.{key, ofKey, least, most, 0·0}
 use Rattle.gf.proofs.KeyLaws.{key-ofKey, ofKey-fits, ofKey-finite, ofKey-no-nan, finite→key, finite-no-nan, le-is, key→lt, lt→key, key→eq, eq→key}
 use Rattle.definitions.specs.declared.Answer.{Answer}
 use Rattle.definitions.specs.declared.Answer.the-variants.{Value, Blocked, Absent}
 use Rattle.definitions.specs.declared.StageTime.{StageTime}
 use Rattle.definitions.specs.Lists.{any, all, pairsFrom}
-use Rattle.gf.specs.Doubles.{0·0}
 use Rattle.definitions.specs.Doubles.{lowest, nextLower, FiniteDouble, ascending}
 use Rattle.definitions.specs.ClipSet.{ClipSet, markValue, stage}
 use Rattle.definitions.specs.Samples.{Samples, clipBegin}

@@ -3,7 +3,7 @@ use mathlib.Core.Path.{_≡_, sym, ap}
 use native.Mathlib.Nat.{le-of-eq}
 use lib.Dec.{T}
 use lib.Ieee.{Float, eq}
-use Rattle.gf.specs.Key.{key}
+use Rattle.gf.specs.Doubles.{key}
 use Rattle.gf.proofs.KeyLaws.{key→le, finite-no-nan, le-both}
 use Rattle.definitions.specs.Doubles.{FiniteDouble}
 use Rattle.definitions.specs.ClipSet.{ClipSet, stage}

@@ -11,7 +11,7 @@ use lib.Dec.{T, ltb, leb·suc-suc}
 use lib.ListN.{length, getD}
 use lib.Ieee.{Float, binary64, fits, le}
 use borrow.Author.Tests.{ltb-true, ltb-false, lt-ltb, le-ltb, leb-false}
-use Rattle.gf.specs.Key.{key}
+use Rattle.gf.specs.Doubles.{key}
 use Rattle.gf.proofs.KeyLaws.{le-trans, le-is, le→key, finite-no-nan}
 use Rattle.definitions.specs.Lists.{any}
 use Rattle.definitions.specs.Doubles.{FiniteDouble}

@@ -9,11 +9,10 @@ use lib.Dec.{T, ltb}
 use lib.ListN.{length, getD}
 use lib.Ieee.{Float, binary64, isNan, toBits, lt, le, eq}
 use borrow.Author.Tests.{ltb-true, ltb-false}
-use Rattle.gf.specs.Key.{key}
+use Rattle.gf.specs.Doubles.{key, storable, totalKey}
 use Rattle.gf.proofs.KeyLaws.{bits-lt, key→le, lt→le, finite-no-nan}
 use Rattle.gf.proofs.Exactly.{within-finite}
 use Rattle.definitions.specs.Lists.{pairs}
-use Rattle.gf.specs.Doubles.{storable, totalKey}
 use Rattle.definitions.specs.Doubles.{FiniteDouble, ascending, twoEqual}
 use Rattle.definitions.specs.ClipSet.{anyUnstorable}
 use Rattle.laws.specs.list.Every.{Every, Chain}

@@ -5,7 +5,7 @@ use Prim.Native.Nat.{suc}
 use lib.Dec.{T}
 use lib.ListN.{getD}
 use lib.Ieee.{Float, lt, le}
-use Rattle.gf.specs.Exactly.{within}
+use Rattle.gf.specs.Doubles.{within}
 use Rattle.definitions.specs.declared.Knot.{Knot}
 use Rattle.definitions.specs.ClipSet.{knotTimes}
 use Rattle.definitions.specs.Timing.{lastAtMost, lastKnot, onSegment}

@@ -7,7 +7,7 @@ use native.Mathlib.Decide.{ℕ-discrete}
 use native.Mathlib.Omega.{arith}
 use lib.IntN.{ℤ, ℤ-discrete}
 use lib.Ieee.{Float, nan, inf, fin}
-use Rattle.gf.specs.Key.{key, ofKey}
+use Rattle.gf.specs.Doubles.{key, ofKey}
 use Rattle.definitions.specs.Track.{Entry, Change, Track}
 use Rattle.laws.specs.track.Track as steps
 

@@ -12,7 +12,7 @@ use lib.ListN.{length, getD, drop, length-drop}
 use lib.Seq.{length-take-le}
 use lib.Ieee.{Float, nan, inf, eq, lt, le, isNan, fits}
 use borrow.Author.Tests.{ltb-true, lt-ltb}
-use Rattle.gf.specs.Key.{key, ofKey}
+use Rattle.gf.specs.Doubles.{key, ofKey}
 use Rattle.gf.proofs.KeyLaws.{key-ofKey, ofKey-fits, ofKey-finite, ofKey-mono, le-trans, le-lt-trans, lt→le, le-no-nan, finite-no-nan}
 use Rattle.definitions.specs.declared.Missing.{Missing}
 use Rattle.definitions.specs.declared.Source.the-variants.{Sample as sample}

@@ -11,8 +11,7 @@ use lib.ListN.{length, getD, drop, length-drop}
 use lib.Seq.{length-take-le}
 use lib.Ieee.{Float, nan, inf, fits, eq, lt, le}
 use borrow.Author.Tests.{ltb-true, ltb-false, lt-ltb}
-use Rattle.gf.specs.Doubles.{0·0}
-use Rattle.gf.specs.Key.{key, ofKey, least, most}
+use Rattle.gf.specs.Doubles.{0·0, key, ofKey, least, most}
 use Rattle.gf.proofs.KeyLaws.{ofKey-fits, ofKey-no-nan, ofKey-finite, key-ofKey, le→key, lt→key, key→le, key→lt, finite→key, key→finite, finite-no-nan, le-no-nan, lt→le, lt-not-le}
 use Rattle.definitions.specs.declared.Missing.{Missing}
 use Rattle.definitions.specs.declared.Source.{Source}

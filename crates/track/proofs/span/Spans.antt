@@ -9,8 +9,7 @@ use lib.Dec.{T}
 use lib.ListN.{length, getD, drop, length-drop}
 use lib.Seq.{getD-take, getD-drop, length-take-le}
 use lib.Ieee.{Float, le}
-use Rattle.gf.specs.Doubles.{0·0}
-use Rattle.gf.specs.Key.{ofKey}
+use Rattle.gf.specs.Doubles.{0·0, ofKey}
 use Rattle.gf.proofs.KeyLaws.{ofKey-fits, ofKey-mono}
 use Rattle.gf.proofs.LerpLaws.{Inside}
 use Rattle.definitions.specs.declared.Missing.{Missing}

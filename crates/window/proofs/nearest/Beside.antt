@@ -9,7 +9,7 @@ use lib.Dec.{T, ltb}
 use lib.ListN.{length, getD}
 use lib.Ieee.{Float, nan, lt, le}
 use borrow.Author.Tests.{ltb-true, lt-ltb}
-use Rattle.gf.specs.Key.{key}
+use Rattle.gf.specs.Doubles.{key}
 use Rattle.gf.proofs.KeyLaws.{le→key, lt→key, key→le, key→lt, le-refl, le-no-nan, lt→le, finite-no-nan}
 use Rattle.gf.specs.declared.interval.Interval.{Interval}
 use Rattle.definitions.specs.Lists.{keep}

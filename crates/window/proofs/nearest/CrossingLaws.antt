@@ -10,7 +10,7 @@ use lib.Dec.{T, ltb, leb}
 use lib.ListN.{length, getD}
 use lib.Ieee.{Float, nan, lt, le}
 use borrow.Author.Tests.{ltb-true, ltb-false, lt-ltb, le-ltb, leb-true, leb-false}
-use Rattle.gf.specs.Key.{key}
+use Rattle.gf.specs.Doubles.{key}
 use Rattle.gf.proofs.KeyLaws.{lt-is, le-is, le→key, lt→key, key→le, finite-no-nan}
 use Rattle.gf.proofs.Exactly.{within-finite}
 use Rattle.gf.specs.declared.interval.Interval.{Interval}

@@ -11,7 +11,7 @@ use lib.ListN.{length, getD, set, length-set}
 use lib.Seq.{getD-set-same, getD-set-other}
 use lib.Ieee.{Float, nan, eq, lt, le}
 use borrow.Author.Tests.{ltb-false, eqb-true, eqb-false}
-use Rattle.gf.specs.Key.{key}
+use Rattle.gf.specs.Doubles.{key}
 use Rattle.gf.proofs.KeyLaws.{lt→key, key→lt, key→le, lt-is, eq-is, le-refl, le-trans, le-no-nan, lt→le, finite-no-nan}
 use Rattle.gf.proofs.Exactly.{within-finite}
 use Rattle.definitions.specs.declared.Knot.{Knot}

@@ -10,7 +10,7 @@ use native.Mathlib.Decide.{decLe}
 use lib.Dec.{T}
 use lib.ListN.{length, getD}
 use lib.Ieee.{Float, nan, le}
-use Rattle.gf.specs.Key.{key}
+use Rattle.gf.specs.Doubles.{key}
 use Rattle.gf.proofs.KeyLaws.{le→key, le-no-nan, le-trans}
 use Rattle.gf.specs.declared.interval.Interval.{Interval}
 use Rattle.definitions.specs.declared.Knot.{Knot}

@@ -5,7 +5,7 @@ use Prim.Native.Nat.{ℕ, _-_, _≤_, _<_}
 use lib.Dec.{ltb}
 use lib.ListN.{length, getD}
 use lib.Ieee.{Float, nan}
-use Rattle.gf.specs.Key.{key}
+use Rattle.gf.specs.Doubles.{key}
 use Rattle.gf.specs.declared.interval.Interval.{Interval}
 use Rattle.laws.specs.cell.Ends.{Number}
 use Rattle.window.specs.declared.Neighbours.{Neighbours}

@@ -4,7 +4,7 @@ use mathlib.Core.Bool.{cond}
 use mathlib.Core.List.{List}
 use Prim.Native.Nat.{_≤_, _<_}
 use lib.Ieee.{Float, le}
-use Rattle.gf.specs.Key.{key}
+use Rattle.gf.specs.Doubles.{key}
 use Rattle.gf.specs.declared.interval.Interval.{Interval}
 use Rattle.laws.specs.list.Every.{Every}
 use Rattle.laws.specs.cell.Ends.{Number}

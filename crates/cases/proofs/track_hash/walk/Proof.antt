@@ -3,7 +3,7 @@ use Prim.Native.Nat.{_-_}
 use native.Mathlib.Omega.{arith}
 use borrow.Author.Needs.{needs}
 use lib.Dec.{lit≤}
-use Rattle.gf.specs.Key as Key
+use Rattle.gf.specs.Doubles as Key
 use Rattle.window.proofs.Parts.{ready-readable}
 use Rattle.cell.proofs.Lent.{no-place-is, few-knots}
 use Rattle.track.specs.Fills.{CursorIs}

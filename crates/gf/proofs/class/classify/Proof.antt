@@ -6,7 +6,7 @@ use lib.Dec.{T}
 use lib.Ieee.{binary64, fits}
 use lib.Ieee.Compare.{differs-from-itself}
 use Rattle.gf.specs.declared.class.Class.the-variants.{Whole, Fraction}
-use Rattle.gf.specs.Classes.{classOf}
+use Rattle.gf.specs.Doubles.{classOf}
 use Rattle.gf.proofs.Tests.{not-nan}
 use Rattle.gf.proofs.ClassArms.{arm-nought, arm-subnormal, arm-below-one, arm-with-point, arm-without-point, arm-not-finite}
 use Rattle.gf.proofs.class.classify.Statement.{statement}

@@ -8,8 +8,7 @@ use lib.Dec.{eqb, eqb·suc-zero}
 use lib.Ieee.{Float, nan, inf, fin, up, down}
 use Rattle.gf.specs.declared.class.Class.{Class}
 use Rattle.gf.specs.declared.class.Class.the-variants.{Zero, Fraction, Whole, NotFinite}
-use Rattle.gf.specs.Doubles.{isWhole}
-use Rattle.gf.specs.Classes.{classOf}
+use Rattle.gf.specs.Doubles.{isWhole, classOf}
 use Rattle.gf.proofs.class.is_whole.Statement.{statement}
 use Rattle.gf.proofs.class.is_whole.Tie as tie
 

@@ -4,7 +4,7 @@ use mathlib.Core.Bool.{not}
 use native.Mathlib.Omega.{arith}
 use lib.Dec.{T}
 use lib.Ieee.{Float, isNan}
-use Rattle.gf.specs.Key.{key}
+use Rattle.gf.specs.Doubles.{key}
 use Rattle.run.specs.Runs.{inverseKey}
 use Rattle.run.proofs.Runs.{span-number}
 use borrow.Author.Needs.{needs}

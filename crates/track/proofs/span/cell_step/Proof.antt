@@ -4,7 +4,7 @@ use Prim.Native.Nat.{ℕ, _-_, min}
 use native.Mathlib.Omega.{arith}
 use lib.ListN.{length}
 use lib.Ieee.{Float}
-use Rattle.gf.specs.Key.{ofKey}
+use Rattle.gf.specs.Doubles.{ofKey}
 use Rattle.gf.proofs.KeyLaws.{ofKey-fits, ofKey-finite}
 use Rattle.definitions.specs.Doubles.{FiniteDouble}
 use Rattle.definitions.specs.ClipSet.{ClipSet}

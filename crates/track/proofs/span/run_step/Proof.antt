@@ -6,7 +6,7 @@ use native.Mathlib.Nat.{le-of-eq}
 use native.Mathlib.Omega.{arith}
 use lib.ListN.{length}
 use lib.Ieee.{Float}
-use Rattle.gf.specs.Key.{key, ofKey}
+use Rattle.gf.specs.Doubles.{key, ofKey}
 use Rattle.gf.proofs.KeyLaws.{ofKey-fits, ofKey-finite, finite→key, finite-no-nan}
 use Rattle.definitions.specs.declared.Segment.{Segment}
 use Rattle.definitions.specs.Doubles.{FiniteDouble}

@@ -6,7 +6,7 @@ use lib.Dec.{eqb, ltb}
 use lib.ListN.{length}
 use lib.Ieee.{Float}
 use borrow.Author.Tests.{eqb-true, ltb-true}
-use Rattle.gf.specs.Key.{ofKey}
+use Rattle.gf.specs.Doubles.{ofKey}
 use Rattle.gf.proofs.KeyLaws.{ofKey-fits, ofKey-finite}
 use Rattle.definitions.specs.Doubles.{FiniteDouble}
 use Rattle.laws.proofs.list.Tests.{holds, is-true, both-l, both-r}
