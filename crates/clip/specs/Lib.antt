@@ -1,4 +1,4 @@
--- What the contracts on sets by value cite, and what a crate that accepts one cites.
+-- What contracts on prepared sets cite.
 pub mod Holding
 pub mod Storing
 pub mod Retiming

@@ -1,4 +1,4 @@
--- Laws of the definitions, for the proofs of the code. Each module uses only those above it.
+-- Sets that calls can make, and samples that are accepted for them.
 pub mod Stored
 pub mod Sound
 pub mod Accepted

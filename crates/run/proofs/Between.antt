@@ -17,9 +17,8 @@ use Rattle.definitions.specs.Track.{Entry}
 use Rattle.laws.proofs.list.Tests.{is-true, or-l, or-r}
 use Rattle.laws.specs.list.Every.{Every}
 use Rattle.laws.proofs.list.Every.{every-map}
-use Rattle.laws.specs.list.Places.{Fits}
+use Rattle.laws.specs.list.Places.{Fits, Number}
 use Rattle.laws.specs.track.Steps.{Level}
-use Rattle.laws.specs.cell.Ends.{Number}
 use Rattle.laws.proofs.cell.Keys.{none-passed}
 use Rattle.laws.specs.cell.Neighbours.{IsLower}
 use Rattle.laws.proofs.cell.Places.{keep-le-same}

@@ -19,7 +19,7 @@ use Rattle.laws.specs.list.Every.{Every}
 use Rattle.laws.proofs.list.Every.{every-keep}
 use Rattle.laws.specs.cell.Neighbours.{IsLower}
 use Rattle.laws.proofs.cell.Neighbours.{lower-found}
-use Rattle.laws.specs.cell.Places.{Fits}
+use Rattle.laws.specs.list.Places.{Fits}
 use Rattle.window.specs.Inverses.{onSegment}
 use Rattle.window.proofs.SoundSegments.{inverse-fits}
 use Rattle.run.specs.Runs.{passedBy}

@@ -18,9 +18,8 @@ use Rattle.definitions.specs.declared.Knot.{Knot}
 use Rattle.definitions.specs.Value.{spans, inverse, onPair}
 use Rattle.laws.proofs.list.Tests.{is-true, both, both-l, both-r, or-l, or-r, or-split}
 use Rattle.laws.specs.list.Every.{Every}
-use Rattle.laws.specs.list.Places.{Ascending}
+use Rattle.laws.specs.list.Places.{Ascending, Number}
 use Rattle.laws.proofs.list.Every.{every-by}
-use Rattle.laws.specs.cell.Ends.{Number}
 use Rattle.laws.proofs.cell.Inverse.{inverse-fin-up, inverse-fin-down, inverse-up, inverse-down}
 use Rattle.window.specs.Inverses.{onSegment}
 use Rattle.window.proofs.Inverses.{every-of}

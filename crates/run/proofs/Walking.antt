@@ -14,9 +14,8 @@ use Rattle.definitions.specs.Track.{Entry, Outputs, alike}
 use Rattle.definitions.proofs.Tracks.{alike-refl}
 use Rattle.laws.proofs.list.Tests.{holds, is-true}
 use Rattle.laws.specs.track.Track.{Change}
-use Rattle.laws.specs.track.Laws.{Agree}
+use Rattle.laws.specs.track.Steps.{Agree, Level}
 use Rattle.laws.proofs.track.Laws.{changes-none, changes-still, changes-next, changes-agree, changes-split}
-use Rattle.laws.specs.track.Steps.{Level}
 use Rattle.laws.proofs.track.Steps.{StopAt, still-level, still-stop, change-stop}
 use Rattle.laws.specs.cell.Tracks.{entry-same}
 use Rattle.cell.specs.declared.step.entry.Entry as declared

@@ -11,7 +11,7 @@ use Rattle.definitions.specs.ClipSet.{maxSamples}
 use Rattle.definitions.specs.Samples.{unlikeLengths}
 use Rattle.laws.proofs.list.Tests.{or-false}
 use Rattle.laws.specs.list.Every.{Every}
-use Rattle.laws.specs.cell.Places.{Fits}
+use Rattle.laws.specs.list.Places.{Fits}
 
 -- what owning a list of doubles tells, as a property of every entry
 pub every-fits : (xs : List Float) → ((i : ℕ) → Fits (getD xs i nan)) → Every Fits xs

@@ -1,4 +1,4 @@
--- What the check of lent samples promises, and what its 0 gives. Assumes nothing.
+-- What the check of lent samples promises. Assumes nothing.
 use mathlib.Core.Path.{_≡_}
 use mathlib.Core.List.{List}
 use Prim.Native.Nat.{ℕ}
@@ -6,7 +6,7 @@ use lib.Ieee.{Float}
 use Rattle.definitions.specs.ClipSet.{ClipSet}
 use Rattle.definitions.specs.Samples.{samplesNumber}
 use Rattle.laws.specs.list.Every.{Every}
-use Rattle.laws.specs.cell.Places.{Fits}
+use Rattle.laws.specs.list.Places.{Fits}
 use Rattle.laws.specs.cell.Lent.{samplesOf}
 
 -- r is the samples' number for every set with that many clips, and the doubles are ones that a program can hold

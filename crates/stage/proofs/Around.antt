@@ -24,7 +24,7 @@ use Rattle.laws.proofs.list.Tests.{holds, is-true, both-l, both-r}
 use Rattle.laws.specs.list.Every.{Every}
 use Rattle.laws.proofs.list.Every.{every-at, every-map, every-zip, every-append, every-left, every-right, every-gather}
 use Rattle.laws.proofs.list.Places.{atMost, at-most-is, last-is, last-later}
-use Rattle.laws.specs.cell.Places.{Fits}
+use Rattle.laws.specs.list.Places.{Fits}
 use Rattle.laws.specs.cell.Lent.{setOf, samplesOf, AcceptedLists}
 use Rattle.laws.proofs.cell.Lent.{zip-length}
 use Rattle.window.specs.declared.Bound.{Bound}

@@ -15,7 +15,7 @@ use Rattle.definitions.specs.Doubles.{FiniteDouble}
 use Rattle.laws.specs.list.Every.{Every}
 use Rattle.laws.proofs.set.Stored.{total→key}
 use Rattle.laws.proofs.list.Every.{any-with, every-map, every-zip}
-use Rattle.laws.specs.cell.Places.{Fits}
+use Rattle.laws.specs.list.Places.{Fits}
 use Rattle.laws.specs.cell.Neighbours.{IsUpper}
 use Rattle.window.specs.declared.Bound.{Bound}
 use Rattle.window.specs.declared.Bound.the-variants.{At, Nothing}

@@ -17,7 +17,7 @@ use Rattle.gf.proofs.KeyLaws.{isZero}
 use Rattle.gf.proofs.Exactly.{sub-positive}
 use Rattle.gf.specs.Doubles.{0·0, totalKey}
 use Rattle.definitions.specs.Doubles.{FiniteDouble}
-use Rattle.laws.specs.cell.Places.{Fits}
+use Rattle.laws.specs.list.Places.{Fits}
 use Rattle.stage.specs.MinusZero.{minusZero}
 
 -- ---- a sum is -0.0 only if its first term is

@@ -19,7 +19,7 @@ use Rattle.laws.specs.list.Every.{Every, Chain, ChainFrom}
 use Rattle.laws.proofs.set.Stored.{total→key}
 use Rattle.laws.proofs.list.Sorting.{every-sort, sort-every, sort-sorted}
 use Rattle.laws.proofs.list.Every.{every-map, every-zip, every-keep}
-use Rattle.laws.specs.cell.Places.{Fits}
+use Rattle.laws.specs.list.Places.{Fits}
 use Rattle.window.specs.declared.Bound.{Bound}
 use Rattle.window.specs.declared.Bound.the-variants.{At, Nothing}
 use Rattle.window.specs.Bounds.{In}

@@ -28,7 +28,7 @@ use Rattle.laws.proofs.list.Every.{every-at, every-map, every-append, every-lef
 use Rattle.laws.specs.set.Stored.{Stored}
 use Rattle.laws.proofs.set.Stored.{stored-finite}
 use Rattle.laws.proofs.list.Tests.{both-l, both-r, or-split}
-use Rattle.laws.specs.cell.Places.{Fits}
+use Rattle.laws.specs.list.Places.{Fits}
 use Rattle.laws.proofs.cell.Inverse.{inverse-fin-up, inverse-fin-down}
 use Rattle.laws.specs.cell.Lent.{start, activeOf, knotsOf, setOf, samplesOf, AcceptedLists}
 use Rattle.laws.proofs.cell.Lent.{zip-here, zip-length, active-times, knot-times}

@@ -25,7 +25,7 @@ use Rattle.laws.proofs.list.Tests.{is-true, is-false, both, both-l, both-r, or-
 use Rattle.laws.specs.list.Every.{Every}
 use Rattle.laws.proofs.list.Every.{every-at, any-with, every-map, every-zip, every-append, every-left, every-right, every-keep, every-kept, every-by, every-gather}
 use Rattle.laws.proofs.list.Places.{atMost, at-most-length, beyond, up-to, last-is, last-inside}
-use Rattle.laws.specs.cell.Places.{Fits}
+use Rattle.laws.specs.list.Places.{Fits}
 use Rattle.laws.specs.cell.Lent.{knotsOf, AcceptedLists}
 use Rattle.laws.proofs.cell.Lent.{knot-times}
 use Rattle.window.specs.Parts.{partOf}

@@ -13,9 +13,8 @@ use Rattle.definitions.specs.Timing.{lastAtMost, lastKnot, onSegment, mapTime}
 use Rattle.laws.proofs.list.Tests.{is-false, holds}
 use Rattle.laws.proofs.list.Every.{zip-at}
 use Rattle.laws.proofs.set.LastKnot.{last-knot-is}
-use Rattle.laws.specs.list.Places.{Ascending}
+use Rattle.laws.specs.list.Places.{Ascending, Fits}
 use Rattle.laws.proofs.list.Places.{beyond, up-to, last-is}
-use Rattle.laws.specs.cell.Places.{Fits}
 use Rattle.laws.specs.cell.Lent.{knotsOf}
 use Rattle.laws.proofs.cell.Lent.{knot-times, zip-length}
 use Rattle.lists.specs.Segments.{knotAt}

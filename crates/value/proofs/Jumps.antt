@@ -12,9 +12,8 @@ use Rattle.gf.proofs.KeyLaws.{eq→key, key→le, le-trans, lt-le-trans}
 use Rattle.definitions.specs.Lists.{any, pairs, pairsFrom}
 use Rattle.definitions.specs.Timing.{lastAtMost}
 use Rattle.laws.proofs.list.Tests.{is-true, is-false, holds, both, both-l, both-r}
-use Rattle.laws.specs.list.Places.{Ascending}
+use Rattle.laws.specs.list.Places.{Ascending, Fits}
 use Rattle.laws.proofs.list.Places.{atMost, at-most-length, at-most-is, last-is, last-later}
-use Rattle.laws.specs.cell.Places.{Fits}
 use borrow.Author.Tests.{lt-ltb}
 use Rattle.window.proofs.Pairs.{jumpsAt}
 use Rattle.window.proofs.nearest.Beside.{number-at, climb}

@@ -21,8 +21,7 @@ use Rattle.definitions.specs.Value.{spans, inverse, onPair, jump}
 use Rattle.laws.proofs.list.Tests.{is-true, is-false, holds, both, or-l, or-r}
 use Rattle.laws.specs.list.Every.{Every}
 use Rattle.laws.proofs.list.Every.{every-at, any-with, every-by, every-zip, every-keep, every-kept, every-append, every-left, every-right}
-use Rattle.laws.specs.cell.Ends.{Number}
-use Rattle.laws.specs.cell.Places.{Fits}
+use Rattle.laws.specs.list.Places.{Number, Fits}
 use Rattle.laws.proofs.cell.Window.{inf-below}
 use Rattle.laws.specs.cell.Neighbours.{IsLower, IsUpper}
 use Rattle.laws.specs.cell.Lent.{knotsOf}

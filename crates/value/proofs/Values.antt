@@ -21,7 +21,7 @@ use Rattle.definitions.specs.Samples.{Samples}
 use Rattle.definitions.specs.Value.{directSource, gathered, greatest, maximum, lowerNeighbour, upperNeighbour, jump, valueSource}
 use Rattle.laws.specs.list.Every.{Every}
 use Rattle.laws.proofs.list.Every.{every-map, every-keep}
-use Rattle.laws.specs.cell.Places.{Fits}
+use Rattle.laws.specs.list.Places.{Fits}
 use Rattle.laws.proofs.cell.Places.{Clear}
 use Rattle.laws.proofs.cell.Knots.{Alike}
 use Rattle.laws.proofs.cell.Direct.{SoundSet, SoundSamples, direct-alike}

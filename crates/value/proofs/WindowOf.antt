@@ -21,9 +21,8 @@ use Rattle.definitions.specs.Value.{startOf, gathered, directSource}
 use Rattle.laws.proofs.list.Tests.{is-true, holds}
 use Rattle.laws.specs.list.Every.{Every}
 use Rattle.laws.proofs.list.Every.{every-at, every-by}
-use Rattle.laws.specs.list.Places.{Ascending}
+use Rattle.laws.specs.list.Places.{Ascending, Fits}
 use Rattle.laws.proofs.list.Places.{atMost, at-most-length, at-most-is, beyond, last-is}
-use Rattle.laws.specs.cell.Places.{Fits}
 use Rattle.laws.proofs.cell.Places.{Clear, place-same}
 use Rattle.laws.proofs.cell.Window.{inf-below, inf-above}
 use Rattle.laws.specs.cell.Neighbours.{IsLower}

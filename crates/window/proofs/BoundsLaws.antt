@@ -10,7 +10,7 @@ use Rattle.definitions.specs.Lists.{any}
 use Rattle.laws.specs.list.Every.{Every}
 use Rattle.laws.proofs.list.Tests.{or-l, or-r}
 use Rattle.laws.proofs.list.Every.{every-map, every-zip}
-use Rattle.laws.specs.cell.Places.{Fits}
+use Rattle.laws.specs.list.Places.{Fits}
 use Rattle.window.specs.declared.Bound.{Bound}
 use Rattle.window.specs.declared.Bound.the-variants.{At, Nothing}
 use Rattle.window.specs.Bounds.{LowerIs, UpperIs, In}

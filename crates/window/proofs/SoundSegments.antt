@@ -19,10 +19,9 @@ use Rattle.definitions.specs.ClipSet.{knotTimes}
 use Rattle.definitions.specs.Value.{spans, inverse}
 use Rattle.laws.specs.list.Every.{Every, Chain, ChainFrom}
 use Rattle.laws.proofs.list.Every.{every-at}
-use Rattle.laws.specs.list.Places.{Le}
+use Rattle.laws.specs.list.Places.{Le, Fits}
 use Rattle.laws.proofs.set.Stored.{length-pairs, pairs-at}
 use Rattle.laws.proofs.list.Tests.{both-l, both-r, or-split}
-use Rattle.laws.specs.cell.Places.{Fits}
 use Rattle.laws.specs.cell.Knots.{SoundKnot}
 use Rattle.laws.proofs.cell.Inverse.{inverse-fin-up, inverse-fin-down, inverse-up, inverse-down}
 use Rattle.window.specs.SoundSegments.{SoundSegment}

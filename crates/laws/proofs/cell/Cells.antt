@@ -17,7 +17,7 @@ use Rattle.definitions.specs.Samples.{Samples, clipTimes, heldPlace}
 use Rattle.definitions.specs.declared.Source.{Source}
 use Rattle.definitions.specs.declared.Source.the-variants.{Sample as sample, Absent as absent}
 use Rattle.definitions.specs.Value.{sampleOf, readClip, contributes, manifestDefault, gapSource, _orElse_, sourceAt, directSource, valueSource}
-use Rattle.laws.specs.cell.Places.{Fits}
+use Rattle.laws.specs.list.Places.{Fits}
 use Rattle.laws.proofs.cell.Places.{place-mono}
 use Rattle.laws.specs.cell.Knots.{Line, lineOf, along}
 use Rattle.laws.proofs.cell.Knots.{map-along, line-same, map-fits, map-turns}

@@ -20,7 +20,7 @@ use Rattle.definitions.specs.declared.Source.{Source}
 use Rattle.definitions.specs.Value.{sampleOf, readClip, manifestDefault, gapSource, _orElse_, contributes, sourceAt, directSource}
 use Rattle.laws.specs.list.Every.{Every}
 use Rattle.laws.proofs.list.Every.{every-map, every-take, every-drop}
-use Rattle.laws.specs.cell.Places.{Fits}
+use Rattle.laws.specs.list.Places.{Fits}
 use Rattle.laws.proofs.cell.Places.{place-same}
 use Rattle.laws.specs.cell.Knots.{SoundKnot}
 use Rattle.laws.proofs.cell.Knots.{Alike, map-fits, map-alike, clear-alike}

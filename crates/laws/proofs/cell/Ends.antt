@@ -13,9 +13,8 @@ use Rattle.definitions.specs.Lists.{keep}
 use Rattle.definitions.specs.Value.{upperNeighbour, minimum, smallest}
 use Rattle.laws.specs.list.Every.{Every}
 use Rattle.laws.proofs.list.Every.{every-zip, every-keep, every-kept}
-use Rattle.laws.specs.cell.Places.{Fits}
+use Rattle.laws.specs.list.Places.{Fits, Number}
 use Rattle.laws.proofs.cell.Places.{Clear}
-use Rattle.laws.specs.cell.Ends.{Number}
 
 -- ---- the smallest of a list
 

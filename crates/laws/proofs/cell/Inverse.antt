@@ -16,7 +16,7 @@ use Rattle.gf.proofs.Exactly.{one, nought-fits, sub-nonneg, sub-nonpos, sub-pos
 use Rattle.gf.specs.Doubles.{within, power}
 use Rattle.definitions.specs.declared.Knot.{Knot}
 use Rattle.definitions.specs.Value.{inverse}
-use Rattle.laws.specs.cell.Places.{Fits}
+use Rattle.laws.specs.list.Places.{Fits}
 use Rattle.laws.specs.cell.Knots.{SoundKnot}
 
 -- ---- signs

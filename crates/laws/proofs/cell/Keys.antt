@@ -19,7 +19,7 @@ use Rattle.definitions.specs.Value.{says, upperNeighbour, valueSource, valueInS
 use Rattle.definitions.specs.Track.{entryOf}
 use Rattle.laws.specs.list.Every.{Every}
 use Rattle.laws.proofs.list.Every.{every-zip}
-use Rattle.laws.specs.cell.Places.{Fits}
+use Rattle.laws.specs.list.Places.{Fits}
 use Rattle.laws.proofs.cell.Places.{Clear}
 use Rattle.laws.proofs.cell.Knots.{alike-eq}
 use Rattle.laws.proofs.cell.Direct.{SoundSet, SoundSamples}

@@ -19,7 +19,7 @@ use Rattle.definitions.specs.Timing.{lastAtMost, lastKnot, onSegment, mapTime}
 use Rattle.laws.specs.list.Every.{Every}
 use Rattle.laws.proofs.list.Tests.{or-l, or-not, nor-l}
 use Rattle.laws.proofs.list.Every.{every-map, every-getD, every-to-map}
-use Rattle.laws.specs.cell.Places.{Fits}
+use Rattle.laws.specs.list.Places.{Fits}
 use Rattle.laws.proofs.cell.Places.{Clear, not-le-lt, le-same, lt-same, place-same}
 use Rattle.laws.specs.cell.Knots.{SoundKnot, plain, flat, segment, lineOf, along}
 

@@ -17,7 +17,7 @@ use Rattle.laws.proofs.set.Stored.{stored-finite}
 use Rattle.laws.specs.list.Every.{Every, ChainFrom, Chain}
 use Rattle.laws.proofs.list.Every.{every-map}
 use Rattle.laws.proofs.list.Tests.{both}
-use Rattle.laws.specs.cell.Places.{Fits}
+use Rattle.laws.specs.list.Places.{Fits}
 use Rattle.laws.specs.cell.Knots.{SoundKnot}
 use Rattle.laws.proofs.cell.Direct.{SoundSet, SoundSamples}
 use Rattle.laws.specs.set.Sound.{Sound, knotValues}

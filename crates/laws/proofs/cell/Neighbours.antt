@@ -18,7 +18,7 @@ use Rattle.definitions.specs.Samples.{Samples}
 use Rattle.definitions.specs.Value.{directSource, gathered, lowerNeighbour, upperNeighbour, maximum, minimum, greatest, jump}
 use Rattle.laws.specs.list.Every.{Every}
 use Rattle.laws.proofs.list.Every.{any-with, every-zip, every-keep, every-kept}
-use Rattle.laws.specs.cell.Places.{Fits}
+use Rattle.laws.specs.list.Places.{Fits, Number}
 use Rattle.laws.proofs.cell.Places.{le-same, lt-same}
 use Rattle.laws.specs.cell.Knots.{SoundKnot}
 use Rattle.laws.proofs.cell.Knots.{Alike, alike-eq}
@@ -27,7 +27,6 @@ use Rattle.laws.proofs.cell.Window.{gathered-fit}
 use Rattle.laws.specs.cell.Stretches.{severalStarts, heldBetween}
 use Rattle.laws.proofs.cell.Stretches.{held-many, held-few}
 use Rattle.laws.specs.cell.Cells.{constant, cellBy, cellOf, directCell}
-use Rattle.laws.specs.cell.Ends.{Number}
 use Rattle.laws.proofs.cell.Ends.{minimum-all, minimum-one}
 use Rattle.laws.specs.cell.Neighbours.{IsLower, IsUpper}
 

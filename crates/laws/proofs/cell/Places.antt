@@ -11,7 +11,7 @@ use Rattle.definitions.specs.Lists.{any, keep}
 use Rattle.definitions.specs.Timing.{lastAtMost}
 use Rattle.laws.specs.list.Every.{Every}
 use Rattle.laws.proofs.list.Tests.{or-l, or-r}
-use Rattle.laws.specs.cell.Places.{Fits}
+use Rattle.laws.specs.list.Places.{Fits}
 
 -- x does not lie above t and up to u
 abbrev pub Clear : Float → Float → Float → Type 0

@@ -19,7 +19,7 @@ use Rattle.definitions.specs.Samples.{Samples}
 use Rattle.definitions.specs.Value.{directSource, gathered, lowerNeighbour, upperNeighbour, maximum, greatest, jump, between, readingTime, valueSource}
 use Rattle.laws.specs.list.Every.{Every}
 use Rattle.laws.proofs.list.Every.{every-map, every-keep}
-use Rattle.laws.specs.cell.Places.{Fits}
+use Rattle.laws.specs.list.Places.{Fits}
 use Rattle.laws.proofs.cell.Places.{Clear}
 use Rattle.laws.proofs.cell.Knots.{Alike, alike-eq, knots-fit, clear-parts, clear-alike}
 use Rattle.laws.proofs.cell.Direct.{SoundSet, SoundSamples, SameStart, direct-alike}

@@ -30,7 +30,7 @@ use Rattle.laws.proofs.track.Laws.{held-low, held-rest, rising-has, tra
 use Rattle.laws.specs.list.Every.{Every}
 use Rattle.laws.proofs.list.Tests.{both, both-l, both-r, or-l, or-r, or-split}
 use Rattle.laws.proofs.list.Every.{every-getD}
-use Rattle.laws.specs.cell.Places.{Fits}
+use Rattle.laws.specs.list.Places.{Fits}
 use Rattle.laws.proofs.cell.Direct.{SoundSet, SoundSamples}
 use Rattle.laws.specs.cell.Keys.{entryAtKey}
 use Rattle.laws.proofs.cell.Keys.{entry-of-key}

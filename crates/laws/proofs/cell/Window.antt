@@ -25,7 +25,7 @@ use Rattle.definitions.specs.Value.{contains, timeOr, window, spans, inverse, o
 use Rattle.laws.specs.list.Every.{Every}
 use Rattle.laws.proofs.list.Tests.{both, both-l, both-r, or-not, nor-l}
 use Rattle.laws.proofs.list.Every.{every-map, every-zip, every-append, every-left, every-right, every-keep, every-kept, every-gather, every-to-map}
-use Rattle.laws.specs.cell.Places.{Fits}
+use Rattle.laws.specs.list.Places.{Fits}
 use Rattle.laws.proofs.cell.Places.{Clear, not-le-lt, any-le, keep-le-same, keep-lt-same}
 use Rattle.laws.specs.cell.Knots.{SoundKnot}
 use Rattle.laws.proofs.cell.Knots.{knots-fit}

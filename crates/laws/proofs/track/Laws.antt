@@ -20,7 +20,7 @@ use lib.ListN.{length, getD, take, drop, set, length-append, length-drop, take-a
 use lib.Seq.{drop-cons, set-at, append-snoc, length-take-le}
 use Rattle.laws.specs.track.Track.{Change, grown, changesTo}
 use Rattle.laws.proofs.track.Track.{pick, heldAt, Rising, Ascending, UpTo, HasKey, ChangesAt, Still, ChangeAt, TrackOf}
-use Rattle.laws.specs.track.Laws.{Agree}
+use Rattle.laws.specs.track.Steps.{Agree}
 
 -- two bounds that a number meets alike
 leb-same : (x j k : ℕ) → (x ≤ j → x ≤ k) → (x ≤ k → x ≤ j) → leb x j ≡ leb x k

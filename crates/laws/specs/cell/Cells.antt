@@ -1,5 +1,4 @@
--- A cell says the source on a whole stretch: it is constant, or a clip is read held at the clip time that one line gives, whose place rises or falls all along.
--- Assumes nothing.
+-- A cell: one source, or a clip that is read held at the clip time that one line gives. Assumes nothing.
 use mathlib.Core.Bool.{Bool, true, false, _&&_, cond}
 use mathlib.Core.List.{List, [], _∷_}
 use mathlib.Core.Option.{Option, none, some}

@@ -1,4 +1,4 @@
--- The value as a function of the key, and the cell of a key: up to the key before its end what is read is what the cell reads. Assumes nothing.
+-- The value as a function of the key. Assumes nothing.
 use Prim.Native.Nat.{ℕ, _-_, _≤_}
 use Rattle.gf.specs.Doubles.{key, ofKey, least, most}
 use Rattle.definitions.specs.ClipSet.{ClipSet, stage}

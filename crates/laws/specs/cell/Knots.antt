@@ -1,4 +1,4 @@
--- The clip time on a stretch of stage times that passes no knot: it rises or it falls, all along. Of two zeros it is one number. Assumes nothing.
+-- The line of the knots at a stage time, and the clip time along it. Assumes nothing.
 use mathlib.Core.Bool.{cond}
 use mathlib.Core.List.{List, [], _∷_}
 use Prim.Native.Nat.{suc}
@@ -9,7 +9,7 @@ use Rattle.gf.specs.Doubles.{within}
 use Rattle.definitions.specs.declared.Knot.{Knot}
 use Rattle.definitions.specs.ClipSet.{knotTimes}
 use Rattle.definitions.specs.Timing.{lastAtMost, lastKnot, onSegment}
-use Rattle.laws.specs.cell.Places.{Fits}
+use Rattle.laws.specs.list.Places.{Fits}
 
 -- a stored knot: two doubles of size 2 ^ 40 at most
 pub record SoundKnot (k : Knot) : Type 0 where

@@ -1,4 +1,4 @@
--- A set and samples as plain lists, as an operation lends them to the functions that search them; and that the laws' premises hold of them. Assumes nothing.
+-- A set and samples as the lists that are lent, and what an operation has shown of these. Assumes nothing.
 use mathlib.Core.Path.{_≡_}
 use mathlib.Core.List.{List}
 use Prim.Native.Nat.{ℕ}
@@ -12,7 +12,7 @@ use Rattle.definitions.specs.Explicit.{knot}
 use Rattle.definitions.specs.ClipSet.{ClipSet}
 use Rattle.definitions.specs.Samples.{Samples}
 use Rattle.laws.specs.list.Every.{Every}
-use Rattle.laws.specs.cell.Places.{Fits}
+use Rattle.laws.specs.list.Places.{Fits}
 use Rattle.laws.specs.set.Sound.{Sound}
 use Rattle.laws.specs.set.Accepted.{Accepted}
 

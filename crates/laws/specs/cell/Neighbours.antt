@@ -1,12 +1,11 @@
--- The neighbours as extremes, found in any order: a gathered time that no other one comes between is the neighbour, or one number with it, and the
--- value's rule is the same by it. Assumes nothing.
+-- The neighbours of a time as extremes: found in any order of the times. Assumes nothing.
 use mathlib.Core.List.{List}
 use mathlib.Core.Option.{none}
 use lib.Dec.{T}
 use lib.Ieee.{Float, lt, le, eq}
 use Rattle.definitions.specs.Lists.{any}
 use Rattle.laws.specs.list.Every.{Every}
-use Rattle.laws.specs.cell.Places.{Fits}
+use Rattle.laws.specs.list.Places.{Fits}
 
 -- l is one of the times, at most t, and none that is at most t is above it
 pub record IsLower (times : List Float) (t l : Float) : Type 0 where

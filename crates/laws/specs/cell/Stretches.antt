@@ -1,4 +1,4 @@
--- The value on a stretch that passes no boundary: held from the lower neighbour, or direct. Assumes nothing.
+-- The boundaries of the stretch of a stage time, and the time whose direct value is held on it. Assumes nothing.
 use mathlib.Core.Bool.{Bool, cond}
 use mathlib.Core.List.{List}
 use mathlib.Core.Option.{Option, none, some}

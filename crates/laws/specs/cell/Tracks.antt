@@ -1,4 +1,4 @@
--- The track of the value over keys, of the crate `track_laws`, written out is the track of document 01; so there is one, and it is the only one. Assumes nothing.
+-- Entries can be told apart; and a track over keys, written out as a track of document 01. Assumes nothing.
 use mathlib.Core.Path.{_≡_, refl, ap}
 use mathlib.Core.Bool.{Bool, Bool-discrete}
 use mathlib.Core.List.{List, map}

@@ -1,4 +1,4 @@
--- A property of every entry of a list, and a relation between neighbours: by entries, by places, and through `map`. Assumes nothing.
+-- A property of every entry of a list, and a relation between neighbours. Assumes nothing.
 use mathlib.Core.List.{List, [], _∷_}
 
 module _ {A : Type 0} where

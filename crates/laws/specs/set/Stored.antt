@@ -1,4 +1,4 @@
--- Doubles that a set may hold, the two orders on them, and what the tests of a refusal say of a list of them. Assumes nothing.
+-- Doubles that a set may hold. Assumes nothing.
 use Prim.Native.Nat.{_-_}
 use lib.Dec.{T}
 use lib.Ieee.{Float, binary64, fits, lt}

@@ -1,5 +1,4 @@
--- A function f on the keys that is left once: what it has at lo it has up to some key, and not again. A bisection finds the first key where it
--- is left. A function v that goes through f is level up to there, and from stop to stop of that kind its next change is found.
+-- A function on the keys that is left once, its first step, and functions that agree. Assumes nothing.
 use mathlib.Core.Path.{_≡_}
 use Prim.Native.Nat.{ℕ, _-_, _≤_, _<_}
 use Rattle.laws.specs.declared.Next.{Next}
@@ -19,6 +18,10 @@ module _ {A : Type 0} where
   -- v is the same from a to b
   abbrev pub Level : (ℕ → A) → ℕ → ℕ → Type 0
   Level v a b = (k : ℕ) → a ≤ k → k ≤ b → v k ≡ v a
+
+  -- the functions agree on the keys from low to top
+  abbrev pub Agree : ℕ → ℕ → (ℕ → A) → (ℕ → A) → Type 0
+  Agree low top v w = (k : ℕ) → low ≤ k → k ≤ top → v k ≡ w k
 
 -- m is the least key above lo and up to hi at which f is not as at lo
 pub record StepAt (f : ℕ → ℕ) (lo hi m : ℕ) : Type 0 where

@@ -16,8 +16,7 @@ use Rattle.definitions.specs.Value.{spans, inverse, onPair}
 use Rattle.laws.proofs.list.Tests.{is-true, holds}
 use Rattle.laws.specs.list.Every.{Every}
 use Rattle.laws.proofs.list.Every.{every-at}
-use Rattle.laws.specs.list.Places.{Fits}
-use Rattle.laws.specs.cell.Ends.{Number}
+use Rattle.laws.specs.list.Places.{Fits, Number}
 use Rattle.window.specs.declared.Bound.{Bound}
 use Rattle.window.specs.declared.Bound.the-variants.{At, Nothing}
 use Rattle.window.specs.Bounds.{In}

@@ -25,9 +25,8 @@ use Rattle.definitions.specs.Value.{jump, valueSource}
 use Rattle.laws.proofs.list.Tests.{holds, both}
 use Rattle.laws.specs.list.Every.{Every}
 use Rattle.laws.proofs.list.Every.{every-at, every-kept, every-left, every-zip}
-use Rattle.laws.specs.list.Places.{Ascending}
+use Rattle.laws.specs.list.Places.{Ascending, Fits}
 use Rattle.laws.proofs.list.Places.{fitting, last-inside}
-use Rattle.laws.specs.cell.Places.{Fits}
 use Rattle.laws.proofs.cell.Places.{Clear, not-le-lt, place-mono, place-same}
 use Rattle.laws.proofs.cell.Window.{inf-below}
 use Rattle.laws.specs.cell.Knots as Knots

@@ -26,9 +26,8 @@ use Rattle.definitions.specs.Track.{Entry, entryOf}
 use Rattle.laws.proofs.list.Tests.{is-true, is-false, holds}
 use Rattle.laws.specs.list.Every.{Every}
 use Rattle.laws.proofs.list.Every.{every-at, every-take, every-drop}
-use Rattle.laws.specs.list.Places.{Fits}
+use Rattle.laws.specs.list.Places.{Fits, Number}
 use Rattle.laws.proofs.list.Places.{atMost, at-most-length, beyond, up-to, last-is}
-use Rattle.laws.specs.cell.Ends.{Number}
 use Rattle.laws.specs.cell.Keys.{Keys, entryAtKey}
 use Rattle.laws.proofs.cell.Keys.{sourceAtKey}
 use Rattle.laws.specs.cell.Knots as Knots

@@ -20,7 +20,7 @@ use Rattle.definitions.specs.Value.{marked, says, valueInSet}
 use Rattle.definitions.specs.Track.{Entry, entryOf}
 use Rattle.laws.proofs.list.Every.{every-take, every-drop}
 use Rattle.laws.specs.list.Places.{Fits}
-use Rattle.laws.specs.track.Laws.{Agree}
+use Rattle.laws.specs.track.Steps.{Agree}
 use Rattle.laws.proofs.cell.Direct.{SoundSet, SoundSamples}
 use Rattle.laws.proofs.cell.Stretches.{Stretch}
 use Rattle.laws.specs.cell.Stretches.{boundaries}

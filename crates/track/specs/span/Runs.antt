@@ -11,7 +11,7 @@ use Rattle.definitions.specs.declared.Knot.{Knot}
 use Rattle.definitions.specs.ClipSet.{ClipSet}
 use Rattle.definitions.specs.Samples.{Samples, clipBegin, clipEnd}
 use Rattle.definitions.specs.Track.{Entry}
-use Rattle.laws.specs.track.Laws.{Agree}
+use Rattle.laws.specs.track.Steps.{Agree}
 use Rattle.laws.specs.cell.Keys.{Keys, entryAtKey}
 use Rattle.laws.specs.cell.Lent.{setOf, samplesOf}
 use Rattle.cell.specs.declared.step.line.Line.{Line}

@@ -18,10 +18,8 @@ use Rattle.definitions.specs.Timing.{lastAtMost}
 use Rattle.laws.proofs.list.Tests.{is-true, both, both-l, both-r}
 use Rattle.laws.specs.list.Every.{Every}
 use Rattle.laws.proofs.list.Every.{every-at, every-by, every-kept}
-use Rattle.laws.specs.list.Places.{Ascending}
+use Rattle.laws.specs.list.Places.{Ascending, Number, Fits}
 use Rattle.laws.proofs.list.Places.{atMost, at-most-length, beyond, last-is, key-at-most, key-above}
-use Rattle.laws.specs.cell.Ends.{Number}
-use Rattle.laws.specs.cell.Places.{Fits}
 use Rattle.window.specs.declared.Bound.{Bound}
 use Rattle.window.specs.declared.Bound.the-variants.{At, Nothing}
 use Rattle.window.specs.declared.Neighbours.{Neighbours}

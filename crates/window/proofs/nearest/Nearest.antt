@@ -14,7 +14,7 @@ use Rattle.gf.specs.declared.interval.Interval.{Interval}
 use Rattle.definitions.specs.Lists.{keep}
 use Rattle.laws.specs.list.Every.{Every}
 use Rattle.laws.proofs.list.Every.{every-map, every-zip, every-append, every-left, every-right}
-use Rattle.laws.specs.cell.Ends.{Number}
+use Rattle.laws.specs.list.Places.{Number}
 use Rattle.window.specs.declared.Bound.{Bound}
 use Rattle.window.specs.declared.Bound.the-variants.{At, Nothing}
 use Rattle.window.specs.declared.Neighbours.{Neighbours}

@@ -21,7 +21,7 @@ use Rattle.definitions.specs.Explicit.{knot}
 use Rattle.definitions.specs.Value.{spans, inverse}
 use Rattle.laws.proofs.list.Tests.{holds, both, both-l, or-l, or-r, or-split}
 use Rattle.laws.specs.list.Every.{Every}
-use Rattle.laws.specs.cell.Ends.{Number}
+use Rattle.laws.specs.list.Places.{Number}
 use Rattle.laws.specs.cell.Lent.{knotsOf}
 use Rattle.lists.specs.Segments.{knotAt}
 use Rattle.window.proofs.Inverses.{knots-long, knots-at}

@@ -21,9 +21,8 @@ use Rattle.definitions.specs.Timing.{lastAtMost}
 use Rattle.definitions.specs.Value.{spans, inverse, onPair}
 use Rattle.laws.specs.list.Every.{Every}
 use Rattle.laws.proofs.list.Every.{every-at, every-by, every-kept, every-map, every-append, every-left, every-right}
-use Rattle.laws.specs.list.Places.{Ascending}
+use Rattle.laws.specs.list.Places.{Ascending, Number}
 use Rattle.laws.proofs.set.Stored.{length-pairs, pairs-at}
-use Rattle.laws.specs.cell.Ends.{Number}
 use Rattle.laws.specs.cell.Lent.{knotsOf}
 use Rattle.window.specs.declared.Bound.{Bound}
 use Rattle.window.specs.declared.Bound.the-variants.{At, Nothing}

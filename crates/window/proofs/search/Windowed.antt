@@ -10,10 +10,8 @@ use Rattle.definitions.specs.Lists.{keep}
 use Rattle.definitions.specs.Doubles.{FiniteDouble}
 use Rattle.definitions.specs.Timing.{lastAtMost}
 use Rattle.laws.specs.list.Every.{Every}
-use Rattle.laws.specs.list.Places.{Ascending}
+use Rattle.laws.specs.list.Places.{Ascending, Number, Fits}
 use Rattle.laws.proofs.list.Every.{every-map, every-append, every-left, every-right, every-keep}
-use Rattle.laws.specs.cell.Ends.{Number}
-use Rattle.laws.specs.cell.Places.{Fits}
 use Rattle.laws.specs.cell.Lent.{knotsOf}
 use Rattle.window.specs.declared.Neighbours.{Neighbours}
 use Rattle.window.specs.Bounds.{inside, nothing, NeighboursAre}

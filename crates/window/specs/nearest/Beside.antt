@@ -7,7 +7,7 @@ use lib.ListN.{length, getD}
 use lib.Ieee.{Float, nan}
 use Rattle.gf.specs.Doubles.{key}
 use Rattle.gf.specs.declared.interval.Interval.{Interval}
-use Rattle.laws.specs.cell.Ends.{Number}
+use Rattle.laws.specs.list.Places.{Number}
 use Rattle.window.specs.declared.Neighbours.{Neighbours}
 use Rattle.window.specs.Bounds.{inside}
 use Rattle.window.specs.nearest.Nearest.{withInside}

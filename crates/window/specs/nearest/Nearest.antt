@@ -7,7 +7,7 @@ use lib.Ieee.{Float, le}
 use Rattle.gf.specs.Doubles.{key}
 use Rattle.gf.specs.declared.interval.Interval.{Interval}
 use Rattle.laws.specs.list.Every.{Every}
-use Rattle.laws.specs.cell.Ends.{Number}
+use Rattle.laws.specs.list.Places.{Number}
 use Rattle.window.specs.declared.Bound.{Bound}
 use Rattle.window.specs.declared.Bound.the-variants.{At, Nothing}
 use Rattle.window.specs.declared.Neighbours.{Neighbours}

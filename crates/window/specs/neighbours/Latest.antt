@@ -7,7 +7,7 @@ use lib.Ieee.{Float, nan, le}
 use Rattle.definitions.specs.declared.Knot.{Knot}
 use Rattle.definitions.specs.Explicit.{knot}
 use Rattle.definitions.specs.Value.{spans, inverse}
-use Rattle.laws.specs.cell.Ends.{Number}
+use Rattle.laws.specs.list.Places.{Number}
 use Rattle.lists.specs.Segments.{knotAt}
 
 -- the segment from the knot at j on, as a pair

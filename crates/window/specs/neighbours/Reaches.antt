@@ -11,8 +11,7 @@ use Rattle.definitions.specs.Lists.{keep, pairs}
 use Rattle.definitions.specs.Doubles.{FiniteDouble}
 use Rattle.definitions.specs.Value.{inverse}
 use Rattle.laws.specs.list.Every.{Every}
-use Rattle.laws.specs.list.Places.{Ascending}
-use Rattle.laws.specs.cell.Ends.{Number}
+use Rattle.laws.specs.list.Places.{Ascending, Number}
 use Rattle.laws.specs.cell.Lent.{knotsOf}
 use Rattle.window.specs.declared.Bound.{Bound}
 use Rattle.window.specs.declared.Bound.the-variants.{At, Nothing}

@@ -10,7 +10,7 @@ ghost use Rattle.definitions.specs.Lists.{pairs};
 ghost use Rattle.definitions.specs.ClipSet.{maxKnots};
 ghost use Rattle.definitions.specs.Moments.{was};
 ghost use Rattle.laws.specs.list.Every.{Every};
-ghost use Rattle.laws.specs.cell.Ends.{Number};
+ghost use Rattle.laws.specs.list.Places.{Number};
 ghost use Rattle.laws.specs.cell.Lent.{knotsOf};
 ghost use Rattle.window.specs.SoundSegments.{SoundSegment};
 ghost use Rattle.window.specs.neighbours.Latest.{NewTop, ReachOf, LatestOf};

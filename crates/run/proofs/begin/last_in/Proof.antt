@@ -7,7 +7,7 @@ use lib.ListN.{getD}
 use lib.Ieee.{Float, nan, isNan, binary64, fits, lt}
 use denote.Ref.{now}
 use Rattle.definitions.specs.declared.Segment.{Segment}
-use Rattle.laws.specs.cell.Ends.{Number}
+use Rattle.laws.specs.list.Places.{Number}
 use Rattle.window.proofs.nearest.Beside.{number-at}
 use Rattle.run.specs.begin.Begins.{BeforeIs}
 use Rattle.run.proofs.begin.LastInverse.{lesser-number, last-is-in}
