@@ -1,12 +1,12 @@
 -- What an explicit acceptance replies. Assumes nothing.
-use Prim.Native.Nat.{ℕ}
+use Prim.Native.Nat.{ℕ, _<_}
 use mathlib.Core.Path.{_≡_}
 use mathlib.Core.Bool.{Bool, not, _||_}
 use mathlib.Core.List.{List}
-use lib.Dec.{ltb, eqb}
+use lib.Dec.{T, ltb, eqb}
 use lib.ListN.{length}
-use lib.Ieee.{Float}
-use Rattle.gf.specs.Doubles.{isClipNumber}
+use lib.Ieee.{Float, le}
+use Rattle.gf.specs.Doubles.{0·0, isWhole, truncated, isClipNumber}
 use Rattle.definitions.specs.declared.Missing.{Missing}
 use Rattle.definitions.specs.Lists.{_if_else_, any}
 use Rattle.definitions.specs.ClipSet.{maxClips, maxActive, maxKnots, maxBlocks}
@@ -41,6 +41,10 @@ misshapen clips starts numbers xs ys blocks =
 
 abbrev pub anyNotClip : ℕ → List Float → Bool
 anyNotClip clips numbers = any (λ (c : Float). not (isClipNumber clips c)) numbers
+
+-- a number that is an index
+abbrev pub Indexed : Float → Type 0
+Indexed c = T (isWhole c) × T (le 0·0 c) × (truncated c < 0x1_0000_0000_0000_0000)
 
 -- the numbers that the fields alone give
 unfoldable pub fieldsNumber : ExplicitFields → ℕ

@@ -3,18 +3,18 @@ use clip::Prepared;
 use clip::storing;
 use definitions::Missing;
 ghost use mathlib.Core.Path.{_≡_};
-ghost use mathlib.Core.Bool.{false};
 ghost use mathlib.Core.List.{map};
 ghost use lib.ListN.{length};
 ghost use Rattle.gf.specs.Doubles.{truncated};
 ghost use Rattle.definitions.specs.Explicit.{explicitSet};
 ghost use Rattle.definitions.specs.Moments.{was, after};
+ghost use Rattle.laws.specs.list.Every.{Every};
 ghost use Rattle.clip.specs.Storing.{Stores};
-ghost use Rattle.explicit.specs.Parsing.{Lent, explicitFields, anyNotClip, fieldsNumber};
+ghost use Rattle.explicit.specs.Parsing.{Lent, Indexed, explicitFields, fieldsNumber};
 
 // The clip numbers as indices. -0.0 is 0.
-fn copy_clips(numbers: &[f64], clips: u64, to: &mut [u64])
-    requires { ⌜ anyNotClip clips (now numbers) ≡ false ⌝ ∗ ⌜ length (now to) ≡ length (now numbers) ⌝ }
+fn copy_clips(numbers: &[f64], to: &mut [u64])
+    requires { ⌜ Every Indexed (now numbers) ⌝ ∗ ⌜ length (now to) ≡ length (now numbers) ⌝ }
     ensures { λ _. ⌜ after to ≡ map truncated (was numbers) ⌝ }
 {
     let mut i: usize = 0;
@@ -42,7 +42,7 @@ pub fn parse_lists(
     ensures { λ r. ⌜ Stores (explicitSet (explicitFields clips (was starts) (was numbers) (was xs) (was ys) (was blocks) manifest)) r ⌝ }
 {
     lists::writing::copy(starts, times);
-    copy_clips(numbers, clips, indices);
+    copy_clips(numbers, indices);
     lists::writing::copy(xs, us);
     lists::writing::copy(ys, vs);
     storing::sort_check_and_store(clips, times, indices, us, vs, blocks, manifest)

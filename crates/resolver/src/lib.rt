@@ -18,7 +18,8 @@ ghost use Rattle.laws.specs.cell.Lent.{samplesOf};
 ghost use Rattle.clip.specs.Holding.{manifest};
 ghost use Rattle.explicit.specs.Parsing.{explicitFields};
 ghost use Rattle.template.specs.Expanding.{templateFields};
-ghost use Rattle.track.specs.Bakes.{outputs, bakedReply};
+ghost use Rattle.track.specs.Bakes.{bakedReply};
+ghost use Rattle.standing.specs.Moments.{outputsWere, outputsLeft};
 ghost use Rattle.resolver.specs.State.{Made};
 ghost use Rattle.resolver.specs.Promises.{Begins, Accepts, Expands, Retimes, BakesTrack, TellsTimes, TellsSamples, TellsClip, TellsTime, TellsValue, TellsUntimed, Installable, Installs};
 
@@ -285,12 +286,8 @@ impl Resolver {
             &self.set.numbers,
             &self.set.xs,
             &self.set.ys,
-            &self.set.blocks,
             self.set.counts,
-            self.set.manifest,
             times,
-            values,
-            marks,
             ends,
             out,
         )
@@ -321,7 +318,6 @@ impl Resolver {
             &self.set.numbers,
             &self.set.xs,
             &self.set.ys,
-            &self.set.blocks,
             self.set.counts,
             self.set.manifest,
             times,
@@ -345,7 +341,7 @@ impl Resolver {
         outmarks: &mut [u8],
     ) -> Baked
         requires { ⌜ Made self ⌝ }
-        ensures { λ r. ⌜ BakesTrack self (samplesOf (was times) (was values) (was marks) (was ends)) (outputs (was outtimes) (was outvalues) (was outmarks)) (bakedReply r) (outputs (after outtimes) (after outvalues) (after outmarks)) ⌝ }
+        ensures { λ r. ⌜ BakesTrack self (samplesOf (was times) (was values) (was marks) (was ends)) (outputsWere outtimes outvalues outmarks) (bakedReply r) (outputsLeft outtimes outvalues outmarks) ⌝ }
     {
         if !self.stands {
             return refused_bake(20);

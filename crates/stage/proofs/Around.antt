@@ -13,63 +13,46 @@ use lib.Ieee.{Float, nan, inf, lt, le}
 use borrow.Author.Tests.{ltb-true, lt-ltb, ne-eqb}
 use Rattle.gf.specs.Doubles.{key}
 use Rattle.gf.proofs.KeyLaws.{le→key, lt→key, lt→le, le-no-nan, le-or-lt, finite-no-nan}
-use Rattle.definitions.specs.declared.Missing.{Missing}
-use Rattle.definitions.specs.Lists.{gather, below}
+use Rattle.definitions.specs.Lists.{below}
 use Rattle.definitions.specs.Doubles.{FiniteDouble}
-use Rattle.definitions.specs.ClipSet.{ClipSet, maxKnots}
-use Rattle.definitions.specs.Explicit.{knot}
 use Rattle.definitions.specs.Timing.{lastAtMost}
-use Rattle.definitions.specs.Samples.{Samples}
 use Rattle.laws.proofs.list.Tests.{holds, is-true, both-l, both-r}
 use Rattle.laws.specs.list.Every.{Every}
 use Rattle.laws.proofs.list.Every.{every-at, every-map, every-zip, every-append, every-left, every-right, every-gather}
 use Rattle.laws.proofs.list.Places.{atMost, at-most-is, last-is, last-later}
 use Rattle.laws.specs.list.Places.{Fits}
-use Rattle.laws.specs.cell.Lent.{setOf, samplesOf, AcceptedLists}
-use Rattle.laws.proofs.cell.Lent.{zip-length}
 use Rattle.window.specs.declared.Bound.{Bound}
 use Rattle.window.specs.declared.Bound.the-variants.{At, Nothing}
-use Rattle.window.proofs.Parts.{ready-starts}
 use Rattle.window.specs.Bounds.{In, UpperIs}
 use Rattle.window.proofs.BoundsLaws.{every-in}
 use Rattle.window.specs.Windows.{minOf, maxOf}
 use Rattle.window.proofs.nearest.Beside.{climb}
 use Rattle.stage.specs.Whole.{wholeTimes, nextStart}
-use Rattle.stage.specs.Times.{NextTime}
-use Rattle.stage.proofs.Times.{every-below, part-each, part-first, part-finite, part-in, parts-finite, next-time}
+use Rattle.stage.specs.Times.{gatheredTimes, AcceptedTimes, NextTime}
+use Rattle.stage.proofs.Times.{every-below, part-each, part-first, part-finite, part-in, times-finite, next-time}
 use Rattle.stage.proofs.First.{FirstIs, Before, first-of-all, upper-first, first-next}
 use Rattle.stage.specs.First.{zeroOf, withZero}
 use Rattle.stage.specs.Zeros.{minusGathered}
 use Rattle.stage.proofs.Zeros.{minus-found, minus-listed}
 
-module _ {starts : List Float} {clips : List ℕ} {xs ys blocks : List Float} {m : Missing} {times values : List Float} {marks ends : List ℕ} (R : AcceptedLists starts clips xs ys blocks m times values marks ends) where
-  abbrev set : ClipSet
-  set = setOf (length ends) starts clips xs ys blocks m
-
-  abbrev s : Samples
-  s = samplesOf times values marks ends
-
+module _ {starts : List Float} {clips : List ℕ} {xs ys times : List Float} {ends : List ℕ} (R : AcceptedTimes starts clips xs ys times ends) where
   abbrev part : ℕ → List Float
   part p = wholeTimes starts clips xs ys times ends p
 
   abbrev all : List Float
-  all = gather part (below (length starts))
+  all = gatheredTimes starts clips xs ys times ends
 
   abbrev at : ℕ → Float
   at i = getD starts i nan
 
-  pub ready-few : length xs ≤ maxKnots
-  unfolding setOf
-  ready-few = subst (λ (n : ℕ). n ≤ maxKnots) (zip-length knot xs ys (R .knots-paired)) (R .sound .few-knots)
-
   finite-at : (i : ℕ) → i < length starts → FiniteDouble (at i)
-  finite-at i h = every-at FiniteDouble starts i nan (ready-starts R .numbers) h
+  finite-at i h = every-at FiniteDouble starts i nan (R .windows .rising .numbers) h
 
   -- ---- the times of a window lie between its start and the next
 
   upto-next : (q : ℕ) → q + 1 < length starts → Every (λ (x : Float). key x ≤ key (at (q + 1))) (part q)
   upto-next q h =
-      part-each R (λ (x : Float). key x ≤ key (at (q + 1))) q (omega arith) (climb starts (ready-starts R) q (q + 1) (omega arith) h)
+      part-each R (λ (x : Float). key x ≤ key (at (q + 1))) q (omega arith) (climb starts (R .windows .rising) q (q + 1) (omega arith) h)
       (λ x f i.
       let u = subst (λ (b : Bool). T (lt x (cond b (at (q + 1)) (inf false)))) (lt-ltb (q + 1) (length starts) h) (both-r (le (minOf starts q) x) (lt x (maxOf starts q)) i) in
       let g = finite-at (q + 1) h in
@@ -87,7 +70,7 @@ module _ {starts : List Float} {clips : List ℕ} {xs ys blocks : List Float} {m
 
   module _ (t : Float) (ft : Fits t) (p : ℕ) (here : p ≡ lastAtMost starts t) (h : p < length starts) where
     reached : 0 < p → T (le (at p) t)
-    reached l = holds (le (at p) t) (at-most-is t ft nan starts (ready-starts R) p h ∙ lt-ltb p (atMost starts t) (omega (arith, last-is t ft starts (ready-starts R), here)))
+    reached l = holds (le (at p) t) (at-most-is t ft nan starts (R .windows .rising) p h ∙ lt-ltb p (atMost starts t) (omega (arith, last-is t ft starts (R .windows .rising), here)))
 
     -- the windows before it have nothing above t
     earlier : (q : ℕ) → q < p → Every (λ (x : Float). T (lt t x) → ⊥) (part q)
@@ -98,7 +81,7 @@ module _ {starts : List Float} {clips : List ℕ} {xs ys blocks : List Float} {m
         let n = le-no-nan t x (lt→le t x u) in
         let a = lt→key t x ft (f .0 .fitting) (n .0) (n .1) u in
         let b = le→key (at p) t (g .fitting) ft (finite-no-nan (at p) (g .finitely)) (n .0) (reached (omega arith)) in
-        absurd (omega (arith, f .1, climb starts (ready-starts R) (q + 1) p (omega arith) h))) (part q)
+        absurd (omega (arith, f .1, climb starts (R .windows .rising) (q + 1) p (omega arith) h))) (part q)
         (every-zip FiniteDouble (λ (x : Float). key x ≤ key (at (q + 1))) (λ (x : Float). FiniteDouble x × (key x ≤ key (at (q + 1)))) (λ x f k. (f, k)) (part q) (part-finite R q (omega arith)) (upto-next q (omega arith)))
 
     -- the next start is above t
@@ -107,7 +90,7 @@ module _ {starts : List Float} {clips : List ℕ} {xs ys blocks : List Float} {m
         let g = finite-at (p + 1) l in
         let n = le-no-nan t x (lt→le t x u) in
         elim (le-or-lt (at (p + 1)) t (g .fitting) ft (finite-no-nan (at (p + 1)) (g .finitely)) (n .0)) [
-          | inl v ↦ absurd (differ (sym (is-true (le (at (p + 1)) t) v) ∙ last-later t ft starts nan (ready-starts R) (p + 1) (omega (arith, here)) l))
+          | inl v ↦ absurd (differ (sym (is-true (le (at (p + 1)) t) v) ∙ last-later t ft starts nan (R .windows .rising) (p + 1) (omega (arith, here)) l))
           | inr v ↦ v
         ]
       where
@@ -159,11 +142,11 @@ module _ {starts : List Float} {clips : List ℕ} {xs ys blocks : List Float} {m
         behind : (q : ℕ) → p < q → q < length starts → Every (λ (x : Float). T (lt t x) → Before searched t x) (part q)
         behind q l n =
             every-map (λ (x : Float). key (at q) ≤ key x) (λ (x : Float). T (lt t x) → Before searched t x)
-            (λ x k u. (at (p + 1), start-in (omega arith), next-above (omega arith) x u, omega (arith, climb starts (ready-starts R) (p + 1) q (omega arith) n))) (part q) (from-start q (omega arith) n)
+            (λ x k u. (at (p + 1), start-in (omega arith), next-above (omega arith) x u, omega (arith, climb starts (R .windows .rising) (p + 1) q (omega arith) n))) (part q) (from-start q (omega arith) n)
 
-    pub next-searched : (b : Bound) → UpperIs searched t b → NextTime set s t (withZero (zeroOf (minusGathered starts clips xs times ends)) b)
+    pub next-searched : (b : Bound) → UpperIs searched t b → NextTime starts clips xs ys times ends t (withZero (zeroOf (minusGathered starts clips xs times ends)) b)
     next-searched Nothing U = next-time R t ft Nothing (first-searched Nothing U)
     next-searched (At u) U =
         let w = upper-first t ft searched searched-finite u U in
         let z = minusGathered starts clips xs times ends in
-        next-time R t ft (withZero (zeroOf z) (At u)) (first-next t ft all (parts-finite R) z (minus-listed R (omega arith)) (minus-found R) (w .0) (first-searched (At (w .0)) (w .2)) u (U .fits) (w .1))
+        next-time R t ft (withZero (zeroOf z) (At u)) (first-next t ft all (times-finite R) z (minus-listed R (omega arith)) (minus-found R) (w .0) (first-searched (At (w .0)) (w .2)) u (U .fits) (w .1))

@@ -3,7 +3,7 @@
 pub mod Ordered
 -- The window of a start with all samples of its clip
 pub mod Whole
--- The stage sample times over the lent lists
+-- The stage sample times by the lists that decide them
 pub mod Times
 -- Where -0.0 comes from
 pub mod MinusZero
@@ -13,6 +13,8 @@ pub mod First
 pub mod Zeros
 -- The next stage sample time by the active window and what is behind it
 pub mod Around
+-- Accepted lists by the set and the samples that they are
+pub mod Accepted
 -- Entries written to the front of a lent list one after the other
 pub mod Writing
 -- The mark of a stage sample

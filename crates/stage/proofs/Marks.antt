@@ -4,7 +4,7 @@ use mathlib.Core.List.{List, [], _∷_, map}
 use mathlib.Core.Option.{Option, none, some}
 use Prim.Native.Nat.{ℕ, zero, suc, _+_, _≤_, _<_}
 use native.Mathlib.Omega.{arith}
-use lib.ListN.{length, getD, getElem?, drop}
+use lib.ListN.{length, getD, getElem?, drop, length-map}
 use lib.Ieee.{Float, nan}
 use Rattle.definitions.specs.declared.Missing.{Missing}
 use Rattle.definitions.specs.declared.Start.{Start}
@@ -25,24 +25,29 @@ use Rattle.window.specs.Parts.{partOf}
 use Rattle.window.proofs.Parts.{ready-active, ready-position}
 use Rattle.sdf.specs.look.Reads.{markedAt, told}
 use Rattle.value.specs.direct.Reads.{heldPart}
-use Rattle.stage.specs.Marks.{gapMarkOf, marksAt, sampleTimes, sampleMarks}
+use Rattle.stage.specs.Marks.{gapMarkOf, unblocked, marksAt}
+use Rattle.stage.specs.Promises.{timesIn, marksIn}
 
 module _ (set : ClipSet) (s : Samples) where
-  pub times-are : sampleTimes set s ≡ stageSampleTimes set s
+  pub times-are : timesIn (stageSamples set s) ≡ stageSampleTimes set s
   unfolding stageSamples
   times-are = go (stageSampleTimes set s)
     where
-      go : (l : List Float) → map (λ (x : StageSample). x .time) (map (λ (t : Float). record { time = t; mark = suppliedAt set s (stage t) }) l) ≡ l
+      go : (l : List Float) → timesIn (map (λ (t : Float). record { time = t; mark = suppliedAt set s (stage t) }) l) ≡ l
       go [] = refl
       go (t ∷ l) = ap (λ (k : List Float). t ∷ k) (go l)
 
-  pub marks-are : sampleMarks set s ≡ marksAt set s (stageSampleTimes set s)
+  pub marks-are : marksIn (stageSamples set s) ≡ marksAt set s (stageSampleTimes set s)
   unfolding stageSamples
   marks-are = go (stageSampleTimes set s)
     where
-      go : (l : List Float) → map (λ (x : StageSample). x .mark) (map (λ (t : Float). record { time = t; mark = suppliedAt set s (stage t) }) l) ≡ marksAt set s l
+      go : (l : List Float) → marksIn (map (λ (t : Float). record { time = t; mark = suppliedAt set s (stage t) }) l) ≡ marksAt set s l
       go [] = refl
       go (t ∷ l) = ap (λ (k : List ℕ). suppliedAt set s (stage t) ∷ k) (go l)
+
+  pub as-many : length (stageSamples set s) ≡ length (stageSampleTimes set s)
+  unfolding stageSamples
+  as-many = length-map (stageSampleTimes set s) (λ (t : Float). record { time = t; mark = suppliedAt set s (stage t) })
 
 -- the marks from a place on
 module _ (set : ClipSet) (s : Samples) (at : List Float) (i : ℕ) where
@@ -58,9 +63,9 @@ mark-back zero v h = refl
 mark-back (suc zero) v h = refl
 mark-back (suc (suc k)) v h = absurd (omega arith)
 
-module _ {starts : List Float} {clips : List ℕ} {xs ys blocks : List Float} {m : Missing} {times values : List Float} {marks ends : List ℕ} (R : AcceptedLists starts clips xs ys blocks m times values marks ends) (t : StageTime) where
+module _ {starts : List Float} {clips : List ℕ} {xs ys : List Float} {m : Missing} {times values : List Float} {marks ends : List ℕ} (R : AcceptedLists starts clips xs ys [] m times values marks ends) (t : StageTime) where
   abbrev set : ClipSet
-  set = setOf (length ends) starts clips xs ys blocks m
+  set = unblocked starts clips xs ys m ends
 
   abbrev s : Samples
   s = samplesOf times values marks ends

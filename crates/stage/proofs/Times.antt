@@ -1,28 +1,24 @@
--- The stage sample times over the lent lists: they are finite, and the next one is the next of the times of all windows. Assumes nothing.
-use mathlib.Core.Path.{_≡_, refl, sym, ap, ap₂, _∙_, subst}
+-- The stage sample times by the lists that decide them: they are finite, and the next one is the next of the times of all windows. Assumes nothing.
+use mathlib.Core.Path.{_≡_, refl, sym, ap, _∙_, subst}
 use mathlib.Core.Logic.{inl, inr}
 use mathlib.Core.Bool.{Bool, true, false, _&&_, cond}
 use mathlib.Core.List.{List, [], _∷_, _++_, append-assoc}
-use mathlib.Core.Option.{Option}
 use Prim.Native.Nat.{ℕ, zero, suc, _-_, _<_}
 use native.Mathlib.Omega.{arith}
 use native.Mathlib.Decide.{decLe}
 use lib.Dec.{T}
-use lib.ListN.{length, getD, getElem?, drop}
+use lib.ListN.{length, getD, drop}
 use lib.Ieee.{Float, nan, fits, lt, le}
 use lib.Ieee.Scale.{finite}
 use Rattle.gf.proofs.KeyLaws.{le-trans, lt-le-trans}
 use Rattle.gf.specs.Doubles.{power}
 use Rattle.gf.proofs.Exactly.{within-lo}
-use Rattle.definitions.specs.declared.Missing.{Missing}
 use Rattle.definitions.specs.declared.Knot.{Knot}
-use Rattle.definitions.specs.declared.Start.{Start}
 use Rattle.definitions.specs.Lists.{keep, pairs, gather, below}
 use Rattle.definitions.specs.Doubles.{FiniteDouble}
-use Rattle.definitions.specs.ClipSet.{ClipSet, clip}
-use Rattle.definitions.specs.Samples.{Samples, clipBegin, clipEnd, clipTimes}
-use Rattle.definitions.specs.Value.{spans, inverse, onPair, stageTimesForClipTime, windowSampleTimes}
-use Rattle.definitions.specs.StageSamples.{timesOfClip, stageSampleTimes}
+use Rattle.definitions.specs.ClipSet.{clip}
+use Rattle.definitions.specs.Samples.{clipBegin, clipEnd}
+use Rattle.definitions.specs.Value.{spans, inverse, onPair, stageTimesForClipTime}
 use Rattle.laws.specs.list.Every.{Every}
 use Rattle.laws.proofs.list.Every.{every-at, every-map, every-append, every-left, every-right, every-gather, every-take, every-drop}
 use Rattle.laws.specs.set.Stored.{Stored}
@@ -30,12 +26,10 @@ use Rattle.laws.proofs.set.Stored.{stored-finite}
 use Rattle.laws.proofs.list.Tests.{both-l, both-r, or-split}
 use Rattle.laws.specs.list.Places.{Fits}
 use Rattle.laws.proofs.cell.Inverse.{inverse-fin-up, inverse-fin-down}
-use Rattle.laws.specs.cell.Lent.{start, activeOf, knotsOf, setOf, samplesOf, AcceptedLists}
-use Rattle.laws.proofs.cell.Lent.{zip-here, zip-length, active-times, knot-times}
+use Rattle.laws.specs.cell.Lent.{knotsOf}
 use Rattle.window.specs.declared.Bound.{Bound}
 use Rattle.window.specs.declared.Bound.the-variants.{At, Nothing}
 use Rattle.window.specs.Parts.{partOf}
-use Rattle.window.proofs.Parts.{ready-readable}
 use Rattle.window.specs.SoundSegments.{SoundSegment}
 use Rattle.window.proofs.SoundSegments.{inverse-fits}
 use Rattle.window.specs.Bounds.{inside, In}
@@ -43,23 +37,15 @@ use Rattle.window.proofs.BoundsLaws.{every-in, in-every}
 use Rattle.window.specs.Inverses.{inversesOf}
 use Rattle.window.proofs.Inverses.{every-if}
 use Rattle.window.specs.Windows.{windowOf, windowPart}
-use Rattle.window.proofs.Windows.{window-times}
 use Rattle.stage.specs.Whole.{wholeTimes}
 use Rattle.stage.proofs.Ordered.{NextIs, after-all, after-none, after-next}
-use Rattle.stage.specs.Times.{allTimes, stageAfter, NextTime}
+use Rattle.stage.specs.Times.{gatheredTimes, timesOf, timesAfter, AcceptedTimes, NextTime}
 
 -- ---- lists by places
 
-gather-append : {A : Type 0} (f : A → List Float) (a b : List A) → gather f (a ++ b) ≡ gather f a ++ gather f b
+pub gather-append : {A : Type 0} (f : A → List Float) (a b : List A) → gather f (a ++ b) ≡ gather f a ++ gather f b
 gather-append f [] b = refl
 gather-append f (x ∷ a) b = ap (λ (l : List Float). f x ++ l) (gather-append f a b) ∙ sym (append-assoc (f x) (gather f a) (gather f b))
-
-gather-same : (f g : ℕ → List Float) (n : ℕ) → ((p : ℕ) → p < n → f p ≡ g p) → gather f (below n) ≡ gather g (below n)
-gather-same f g zero h = refl
-gather-same f g (suc n) h =
-    gather-append f (below n) (n ∷ [])
-    ∙ ap₂ (λ (u v : List Float). u ++ v) (gather-same f g n (λ p l. h p (omega arith))) (ap (λ (l : List Float). l ++ []) (h n (omega arith)))
-    ∙ sym (gather-append g (below n) (n ∷ []))
 
 pub every-below : (n : ℕ) → Every (λ (p : ℕ). p < n) (below n)
 every-below zero = tt
@@ -143,87 +129,62 @@ timely-behind : (x : Float) → Timely x → T (lt beforeAll x)
 unfolding lt
 timely-behind x f = lt-le-trans beforeAll (power true 40) x (before-finite .fitting) power-fits (f .0 .fitting) tt (f .1)
 
--- ---- of lists that are ready
+-- ---- of accepted lists
 
-module _ {starts : List Float} {clips : List ℕ} {xs ys blocks : List Float} {m : Missing} {times values : List Float} {marks ends : List ℕ} (R : AcceptedLists starts clips xs ys blocks m times values marks ends) where
-  abbrev set : ClipSet
-  set = setOf (length ends) starts clips xs ys blocks m
-
-  abbrev s : Samples
-  s = samplesOf times values marks ends
-
-  -- the times of one window
+module _ {starts : List Float} {clips : List ℕ} {xs ys times : List Float} {ends : List ℕ} (R : AcceptedTimes starts clips xs ys times ends) where
+  -- the times of one window, and of all
   abbrev part : ℕ → List Float
   part p = wholeTimes starts clips xs ys times ends p
 
-  part-is : (p : ℕ) → p < length starts → windowSampleTimes set p (timesOfClip s (getElem? (activeOf starts clips) p)) ≡ part p
-  unfolding clipTimes
-  part-is p h =
-      window-times R p h (timesOfClip s (getElem? (activeOf starts clips) p))
-      ∙ ap (λ (o : Option Start). windowPart starts xs ys p (timesOfClip s o)) (zip-here start starts clips p nan 0 (R .starts-paired) h)
-
-  parts-are : allTimes set s ≡ gather part (below (length starts))
-  unfolding setOf
-  parts-are =
-      ap (λ (n : ℕ). gather (λ (p : ℕ). windowSampleTimes set p (timesOfClip s (getElem? (activeOf starts clips) p))) (below n)) (zip-length start starts clips (R .starts-paired))
-      ∙ gather-same (λ (p : ℕ). windowSampleTimes set p (timesOfClip s (getElem? (activeOf starts clips) p))) part (length starts) part-is
+  abbrev all : List Float
+  all = gatheredTimes starts clips xs ys times ends
 
   -- what holds of the start and of times inside the window holds of its times
   pub part-each : (P : Float → Type 0) (p : ℕ) → p < length starts → P (getD starts p nan) → ((x : Float) → Timely x → T (inside (windowOf starts p) x) → P x) → Every P (part p)
-  unfolding windowPart setOf
+  unfolding windowPart
   part-each P p h first within =
       let w = inside (windowOf starts p) in
       let cs = partOf times ends (getD clips p 0) in
       let n = clipEnd ends (getD clips p 0) - clipBegin ends (getD clips p 0) in (
         first,
         every-append P (keep w xs) (keep w (inversesOf (knotsOf xs ys) cs))
-            (every-if P w xs (every-map Stored (λ (x : Float). T (w x) → P x) (λ x f. within x (stored-timely x f)) xs (subst (Every Stored) (knot-times xs ys (R .knots-paired)) (R .sound .xs))))
+            (every-if P w xs (every-map Stored (λ (x : Float). T (w x) → P x) (λ x f. within x (stored-timely x f)) xs (R .stored-xs)))
             (every-if P w (inversesOf (knotsOf xs ys) cs)
             (every-map Timely (λ (x : Float). T (w x) → P x) within (inversesOf (knotsOf xs ys) cs)
-            (every-gather Stored Timely (λ (c : Float). stageTimesForClipTime (knotsOf xs ys) (clip c)) (stage-timely (knotsOf xs ys) (ready-readable R .segments)) cs
-            (every-take Stored n (drop (clipBegin ends (getD clips p 0)) times) (every-drop Stored (clipBegin ends (getD clips p 0)) times (R .accepted .stored)))))),
+            (every-gather Stored Timely (λ (c : Float). stageTimesForClipTime (knotsOf xs ys) (clip c)) (stage-timely (knotsOf xs ys) (R .windows .readable .segments)) cs
+            (every-take Stored n (drop (clipBegin ends (getD clips p 0)) times) (every-drop Stored (clipBegin ends (getD clips p 0)) times (R .stored-times)))))),
       )
 
   pub part-first : (P : Float → Type 0) (p : ℕ) → Every P (part p) → P (getD starts p nan)
   unfolding windowPart
   part-first P p h = h .0
 
-  start-stored : (p : ℕ) → p < length starts → Stored (getD starts p nan)
-  unfolding setOf
-  start-stored p h = every-at Stored starts p nan (subst (Every Stored) (active-times starts clips (R .starts-paired)) (R .sound .times)) h
-
   part-timely : (p : ℕ) → p < length starts → Every Timely (part p)
-  part-timely p h = part-each Timely p h (stored-timely (getD starts p nan) (start-stored p h)) (λ x f i. f)
+  part-timely p h = part-each Timely p h (stored-timely (getD starts p nan) (every-at Stored starts p nan (R .stored-starts) h)) (λ x f i. f)
 
-  parts-timely : Every Timely (gather part (below (length starts)))
-  parts-timely = every-gather (λ (p : ℕ). p < length starts) Timely part part-timely (below (length starts)) (every-below (length starts))
+  times-timely : Every Timely all
+  times-timely = every-gather (λ (p : ℕ). p < length starts) Timely part part-timely (below (length starts)) (every-below (length starts))
 
   pub part-finite : (p : ℕ) → p < length starts → Every FiniteDouble (part p)
   part-finite p h = every-map Timely FiniteDouble (λ x f. f .0) (part p) (part-timely p h)
 
-  pub parts-finite : Every FiniteDouble (gather part (below (length starts)))
-  parts-finite = every-map Timely FiniteDouble (λ x f. f .0) (gather part (below (length starts))) parts-timely
-
-  times-finite : Every FiniteDouble (allTimes set s)
-  times-finite = rw parts-are parts-finite
+  pub times-finite : Every FiniteDouble all
+  times-finite = every-map Timely FiniteDouble (λ x f. f .0) all times-timely
 
   -- they are among all
-  pub part-in : (q : ℕ) → q < length starts → Every (λ (x : Float). In x (gather part (below (length starts)))) (part q)
-  part-in q l = every-part (λ (x : Float). In x (gather part (below (length starts)))) part (length starts) q l (every-in (gather part (below (length starts))))
+  pub part-in : (q : ℕ) → q < length starts → Every (λ (x : Float). In x all) (part q)
+  part-in q l = every-part (λ (x : Float). In x all) part (length starts) q l (every-in all)
 
   -- from before all of them on
-  pub times-all : stageAfter set s beforeAll ≡ stageSampleTimes set s
-  unfolding stageSampleTimes
-  times-all = after-all (allTimes set s) times-finite beforeAll (rw parts-are (every-map Timely (λ (x : Float). T (lt beforeAll x)) timely-behind (gather part (below (length starts))) parts-timely))
+  pub times-all : timesAfter starts clips xs ys times ends beforeAll ≡ timesOf starts clips xs ys times ends
+  unfolding timesOf
+  times-all = after-all all times-finite beforeAll (every-map Timely (λ (x : Float). T (lt beforeAll x)) timely-behind all times-timely)
 
   -- by the next of the times of all windows
-  pub next-time : (t : Float) → Fits t → (b : Bound) → NextIs (gather part (below (length starts))) t b → NextTime set s t b
-  next-time t ft b n = go b (subst (λ (l : List Float). NextIs l t b) (sym parts-are) n)
-    where
-      go : (b : Bound) → NextIs (allTimes set s) t b → NextTime set s t b
-      go Nothing n = after-none (allTimes set s) times-finite t ft n
-      go (At h) n = (in-every FiniteDouble h (allTimes set s) times-finite (n .0), after-next (allTimes set s) times-finite t ft h n)
+  pub next-time : (t : Float) → Fits t → (b : Bound) → NextIs all t b → NextTime starts clips xs ys times ends t b
+  next-time t ft Nothing n = after-none all times-finite t ft n
+  next-time t ft (At h) n = (in-every FiniteDouble h all times-finite (n .0), after-next all times-finite t ft h n)
 
   -- without starts there is none
-  pub next-none : (t : Float) → Fits t → length starts ≡ 0 → NextTime set s t Nothing
+  pub next-none : (t : Float) → Fits t → length starts ≡ 0 → NextTime starts clips xs ys times ends t Nothing
   next-none t ft e = next-time t ft Nothing (subst (λ (n : ℕ). NextIs (gather part (below n)) t Nothing) (sym e) tt)

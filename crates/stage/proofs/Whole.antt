@@ -10,7 +10,6 @@ use lib.Ieee.{Float, nan, inf, lt, le}
 use borrow.Author.Tests.{ltb-true, eqb-false}
 use Rattle.gf.proofs.KeyLaws.{key→le, key→lt, finite-no-nan}
 use Rattle.gf.specs.declared.interval.Interval.{Interval}
-use Rattle.definitions.specs.declared.Missing.{Missing}
 use Rattle.definitions.specs.Lists.{keep}
 use Rattle.definitions.specs.Doubles.{FiniteDouble}
 use Rattle.definitions.specs.Timing.{lastAtMost}
@@ -18,10 +17,9 @@ use Rattle.laws.proofs.list.Tests.{is-true}
 use Rattle.laws.proofs.list.Every.{every-at}
 use Rattle.laws.specs.list.Places.{Ascending}
 use Rattle.laws.proofs.cell.Window.{inf-below, inf-above}
-use Rattle.laws.specs.cell.Lent.{knotsOf, AcceptedLists}
+use Rattle.laws.specs.cell.Lent.{knotsOf}
 use Rattle.window.specs.declared.Neighbours.{Neighbours}
 use Rattle.window.specs.Parts.{partOf}
-use Rattle.window.proofs.Parts.{ready-starts, ready-clip, ready-readable}
 use Rattle.window.specs.Bounds.{inside, UpperIs, NeighboursAre}
 use Rattle.window.specs.Inverses.{inversesOf}
 use Rattle.window.specs.Windows.{minOf, maxOf, windowPart}
@@ -30,9 +28,6 @@ use Rattle.window.specs.declared.search.Window.{Window}
 use Rattle.window.specs.neighbours.Latest.{LatestOf}
 use Rattle.window.specs.neighbours.Windowed.{samplesIn, nextOf, windowTimes, Nearing}
 use Rattle.stage.specs.Whole.{wholeTimes, nextStart, Windows, WholeWindow}
-
-pub ready-windows : {starts : List Float} {clips : List ℕ} {xs ys blocks : List Float} {m : Missing} {times values : List Float} {marks ends : List ℕ} → AcceptedLists starts clips xs ys blocks m times values marks ends → Windows starts clips xs ys times ends
-ready-windows R = record { rising = ready-starts R; paired = R .starts-paired; named = ready-clip R; readable = ready-readable R }
 
 no-more : lt (inf false) (inf false) ≡ false
 unfolding lt

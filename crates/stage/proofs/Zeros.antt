@@ -14,9 +14,8 @@ use lib.Ieee.Fits.{eq→eqb, mul-fits}
 use borrow.Author.Tests.{ltb-true, ltb-false, eq-eqb, ne-eqb}
 use Rattle.gf.proofs.KeyLaws.{lt-not-le}
 use Rattle.gf.specs.Doubles.{_⊖_, _⊗_, _⊘_, totalKey}
-use Rattle.definitions.specs.declared.Missing.{Missing}
 use Rattle.definitions.specs.declared.Knot.{Knot}
-use Rattle.definitions.specs.Lists.{keep, pairs, pairsFrom, gather, below}
+use Rattle.definitions.specs.Lists.{keep, pairs, pairsFrom, below}
 use Rattle.definitions.specs.Doubles.{FiniteDouble}
 use Rattle.definitions.specs.ClipSet.{knotTimes, clip}
 use Rattle.definitions.specs.Timing.{lastAtMost}
@@ -26,10 +25,9 @@ use Rattle.laws.specs.list.Every.{Every}
 use Rattle.laws.proofs.list.Every.{every-at, any-with, every-map, every-zip, every-append, every-left, every-right, every-keep, every-kept, every-by, every-gather}
 use Rattle.laws.proofs.list.Places.{atMost, at-most-length, beyond, up-to, last-is, last-inside}
 use Rattle.laws.specs.list.Places.{Fits}
-use Rattle.laws.specs.cell.Lent.{knotsOf, AcceptedLists}
+use Rattle.laws.specs.cell.Lent.{knotsOf}
 use Rattle.laws.proofs.cell.Lent.{knot-times}
 use Rattle.window.specs.Parts.{partOf}
-use Rattle.window.proofs.Parts.{ready-starts, ready-clip, ready-readable}
 use Rattle.window.specs.SoundSegments.{SoundSegment}
 use Rattle.window.specs.Bounds.{inside, In}
 use Rattle.window.proofs.BoundsLaws.{every-in}
@@ -40,7 +38,8 @@ use Rattle.stage.specs.MinusZero.{minusZero}
 use Rattle.stage.proofs.MinusZero.{minus-finite, minus-total, add-minus}
 use Rattle.stage.proofs.Ordered.{total-same}
 use Rattle.stage.specs.Whole.{wholeTimes, Windows}
-use Rattle.stage.proofs.Whole.{ready-windows, own-from, own-below}
+use Rattle.stage.proofs.Whole.{own-from, own-below}
+use Rattle.stage.specs.Times.{gatheredTimes, AcceptedTimes}
 use Rattle.stage.proofs.Times.{every-below, part-first, part-in}
 use Rattle.stage.specs.Zeros.{isMinusZero, anyMinusZero, samplesAtZero, minusGathered, Sampled}
 
@@ -78,12 +77,12 @@ plain (x ∷ xs) ys cs e = absurd (omega arith)
 
 -- ---- over the lists
 
-module _ {starts : List Float} {clips : List ℕ} {xs ys blocks : List Float} {m : Missing} {times values : List Float} {marks ends : List ℕ} (R : AcceptedLists starts clips xs ys blocks m times values marks ends) where
+module _ {starts : List Float} {clips : List ℕ} {xs ys times : List Float} {ends : List ℕ} (R : AcceptedTimes starts clips xs ys times ends) where
   abbrev part : ℕ → List Float
   part p = wholeTimes starts clips xs ys times ends p
 
   abbrev all : List Float
-  all = gather part (below (length starts))
+  all = gatheredTimes starts clips xs ys times ends
 
   -- by a start, by a knot, by a sample
   abbrev minus : Bool
@@ -111,17 +110,17 @@ module _ {starts : List Float} {clips : List ℕ} {xs ys blocks : List Float} {m
       let f = minus-finite .fitting in
       let a = from (eqb q 0) refl (both-l (le (minOf starts q) minusZero) (lt minusZero (maxOf starts q)) i) in
       let b = upto (ltb (q + 1) (length starts)) refl (both-r (le (minOf starts q) minusZero) (lt minusZero (maxOf starts q)) i) in
-      place q (atMost starts minusZero) at-zero (last-is minusZero f starts (ready-starts R)) a b
+      place q (atMost starts minusZero) at-zero (last-is minusZero f starts (R .windows .rising)) a b
     where
       from : (b : Bool) → eqb q 0 ≡ b → T (le (cond b (inf true) (getD starts q nan)) minusZero) → (q ≡ 0) ⊎ (q < atMost starts minusZero)
       from true e h = inl (eqb→eq q 0 (subst T (sym e) tt))
-      from false e h = inr (beyond minusZero (minus-finite .fitting) nan starts (ready-starts R) q l (is-true (le (getD starts q nan) minusZero) h))
+      from false e h = inr (beyond minusZero (minus-finite .fitting) nan starts (R .windows .rising) q l (is-true (le (getD starts q nan) minusZero) h))
 
       upto : (b : Bool) → ltb (q + 1) (length starts) ≡ b → T (lt minusZero (cond b (getD starts (q + 1) nan) (inf false))) → atMost starts minusZero ≤ q + 1
       upto true e h =
           let n = ltb-true (q + 1) (length starts) e in
-          let g = every-at FiniteDouble starts (q + 1) nan (ready-starts R .numbers) n in
-          up-to minusZero (minus-finite .fitting) nan starts (ready-starts R) (q + 1) n (is-false (le (getD starts (q + 1) nan) minusZero) (lt-not-le minusZero (getD starts (q + 1) nan) (minus-finite .fitting) (g .fitting) h))
+          let g = every-at FiniteDouble starts (q + 1) nan (R .windows .rising .numbers) n in
+          up-to minusZero (minus-finite .fitting) nan starts (R .windows .rising) (q + 1) n (is-false (le (getD starts (q + 1) nan) minusZero) (lt-not-le minusZero (getD starts (q + 1) nan) (minus-finite .fitting) (g .fitting) h))
       upto false e h = let n = ltb-false (q + 1) (length starts) e in omega (arith, at-most-length starts minusZero)
 
       place : (q n z : ℕ) → z ≡ n - 1 → (q ≡ 0) ⊎ (q < n) → n ≤ q + 1 → q ≡ z
@@ -173,7 +172,7 @@ module _ {starts : List Float} {clips : List ℕ} {xs ys blocks : List Float} {m
       | no n ↦
           every-keep Found within (inversesOf (knotsOf xs ys) cs)
           (every-gather (λ (c : Float). In c cs) Found (λ (c : Float). stageTimesForClipTime (knotsOf xs ys) (clip c))
-          (λ c i. inverse-found (knotsOf xs ys) (omega (arith, knots-long xs ys (R .knots-paired))) (ready-readable R .segments) (subst (Every (λ (x : Float). In x xs)) (sym (knot-times xs ys (R .knots-paired))) (every-in xs)) c) cs (every-in cs))
+          (λ c i. inverse-found (knotsOf xs ys) (omega (arith, knots-long xs ys (R .windows .readable .paired))) (R .windows .readable .segments) (subst (Every (λ (x : Float). In x xs)) (sym (knot-times xs ys (R .windows .readable .paired))) (every-in xs)) c) cs (every-in cs))
     ]
 
     part-found : Every Found (part q)
@@ -190,10 +189,10 @@ module _ {starts : List Float} {clips : List ℕ} {xs ys blocks : List Float} {m
 
   module _ (some : 0 < length starts) where
     here : at-zero < length starts
-    here = last-inside minusZero (minus-finite .fitting) starts (ready-starts R) some
+    here = last-inside minusZero (minus-finite .fitting) starts (R .windows .rising) some
 
     home : T (window minusZero)
-    home = both (le (minOf starts at-zero) minusZero) (lt minusZero (maxOf starts at-zero)) (own-from (ready-windows R) at-zero here minusZero refl minus-finite) (own-below (ready-windows R) at-zero here minusZero refl minus-finite)
+    home = both (le (minOf starts at-zero) minusZero) (lt minusZero (maxOf starts at-zero)) (own-from (R .windows) at-zero here minusZero refl minus-finite) (own-below (R .windows) at-zero here minusZero refl minus-finite)
 
     listed : (l : List Float) → Every FiniteDouble l → Every (λ (x : Float). T (window x) → In x all) l → T (anyMinusZero l) → In minusZero all
     listed l f i h =
@@ -211,12 +210,12 @@ module _ {starts : List Float} {clips : List ℕ} {xs ys blocks : List Float} {m
     minus-listed h =
         let cs = samplesAtZero starts clips times ends in
         elim (or-split by-start (by-knot || by-sample) h) [
-          | inl a ↦ listed starts (ready-starts R .numbers) (every-by (λ (x : Float). T (window x) → In x all) starts nan (λ i l u. part-first R (λ (x : Float). In x all) i (part-in R i l))) a
+          | inl a ↦ listed starts (R .windows .rising .numbers) (every-by (λ (x : Float). T (window x) → In x all) starts nan (λ i l u. part-first R (λ (x : Float). In x all) i (part-in R i l))) a
           | inr b ↦ elim (or-split by-knot by-sample b) [
-            | inl a ↦ listed xs (ready-readable R .knots .numbers) (every-kept (λ (x : Float). In x all) window xs (every-left (λ (x : Float). In x all) (keep window xs) (keep window (inversesOf (knotsOf xs ys) cs)) inner)) a
+            | inl a ↦ listed xs (R .windows .readable .knots .numbers) (every-kept (λ (x : Float). In x all) window xs (every-left (λ (x : Float). In x all) (keep window xs) (keep window (inversesOf (knotsOf xs ys) cs)) inner)) a
             | inr a ↦
                 let z = eqb→eq (length xs) 0 (both-l (eqb (length xs) 0) (anyMinusZero cs) a) in
-                listed cs (ready-readable R .rising (getD clips at-zero 0) (ready-clip R at-zero here) .numbers)
+                listed cs (R .windows .readable .rising (getD clips at-zero 0) (R .windows .named at-zero here) .numbers)
                 (every-kept (λ (x : Float). In x all) window cs
                 (subst (λ (k : List Float). Every (λ (x : Float). In x all) (keep window k)) (plain xs ys cs z) (every-right (λ (x : Float). In x all) (keep window xs) (keep window (inversesOf (knotsOf xs ys) cs)) inner)))
                 (both-r (eqb (length xs) 0) (anyMinusZero cs) a)

@@ -3,7 +3,7 @@
 pub mod Ordered
 -- The window of a start with all samples of its clip
 pub mod Whole
--- The stage sample times over the lent lists
+-- The stage sample times by the lists that decide them
 pub mod Times
 -- Where -0.0 comes from
 pub mod MinusZero
@@ -11,6 +11,8 @@ pub mod MinusZero
 pub mod First
 -- Whether -0.0 is among the gathered times
 pub mod Zeros
+-- What a call is lent
+pub mod Moments
 -- What is promised of lent output lists
 pub mod Promises
 -- The mark of a stage sample

@@ -11,13 +11,15 @@ use walk::fits;
 use walk::write_times;
 use window::search::latest::latest_inverses;
 ghost use mathlib.Core.Path.{_≡_};
+ghost use mathlib.Core.List.{[]};
 ghost use Prim.Native.Nat.{min};
-ghost use lib.ListN.{length};
-ghost use Rattle.definitions.specs.StageSamples.{stageSampleTimes};
+ghost use Rattle.definitions.specs.StageSamples.{stageSamples};
 ghost use Rattle.definitions.specs.Moments.{was, after};
-ghost use Rattle.laws.specs.cell.Lent.{setOf, samplesOf, AcceptedLists};
-ghost use Rattle.stage.specs.Promises.{TimesWritten, SamplesWritten};
-ghost use Rattle.stage.specs.Marks.{sampleTimes, sampleMarks};
+ghost use Rattle.laws.specs.cell.Lent.{AcceptedLists};
+ghost use Rattle.stage.specs.Promises.{TimesWritten, WritesSamples};
+ghost use Rattle.stage.specs.Times.{timesOf, AcceptedTimes};
+ghost use Rattle.stage.specs.Moments.{samplesWere};
+ghost use Rattle.stage.specs.Marks.{unblocked};
 
 // How many entries were written, or that the lent lists are too short for them and nothing was.
 pub enum Written {
@@ -31,46 +33,16 @@ pub fn stage_sample_times(
     clips: &[u64],
     xs: &[f64],
     ys: &[f64],
-    blocks: &[f64],
-    m: Missing,
     times: &[f64],
-    values: &[f64],
-    marks: &[u8],
     ends: &[u64],
     out: &mut [f64],
 ) -> Written
-    requires { ⌜ AcceptedLists (now starts) (now clips) (now xs) (now ys) (now blocks) m (now times) (now values) (now marks) (now ends) ⌝ }
-    ensures { λ r. ⌜ TimesWritten (stageSampleTimes (setOf (length (was ends)) (was starts) (was clips) (was xs) (was ys) (was blocks) m) (samplesOf (was times) (was values) (was marks) (was ends))) (was out) (after out) r ⌝ }
+    requires { ⌜ AcceptedTimes (now starts) (now clips) (now xs) (now ys) (now times) (now ends) ⌝ }
+    ensures { λ r. ⌜ TimesWritten (timesOf (was starts) (was clips) (was xs) (was ys) (was times) (was ends)) (was out) (after out) r ⌝ }
 {
     let reach = latest_inverses(xs, ys);
-    if fits(
-        starts,
-        clips,
-        xs,
-        ys,
-        blocks,
-        m,
-        times,
-        values,
-        marks,
-        ends,
-        &reach.items,
-        out.len(),
-    ) {
-        let count = write_times(
-            starts,
-            clips,
-            xs,
-            ys,
-            blocks,
-            m,
-            times,
-            values,
-            marks,
-            ends,
-            &reach.items,
-            out,
-        );
+    if fits(starts, clips, xs, ys, times, ends, &reach.items, out.len()) {
+        let count = write_times(starts, clips, xs, ys, times, ends, &reach.items, out);
         return Written::Count(count);
     }
     Written::NoRoom
@@ -91,7 +63,6 @@ pub fn stage_samples(
     clips: &[u64],
     xs: &[f64],
     ys: &[f64],
-    blocks: &[f64],
     m: Missing,
     times: &[f64],
     values: &[f64],
@@ -100,45 +71,18 @@ pub fn stage_samples(
     outtimes: &mut [f64],
     outmarks: &mut [u8],
 ) -> Written
-    requires { ⌜ AcceptedLists (now starts) (now clips) (now xs) (now ys) (now blocks) m (now times) (now values) (now marks) (now ends) ⌝ }
-    ensures { λ r. ⌜ SamplesWritten (sampleTimes (setOf (length (was ends)) (was starts) (was clips) (was xs) (was ys) (was blocks) m) (samplesOf (was times) (was values) (was marks) (was ends))) (sampleMarks (setOf (length (was ends)) (was starts) (was clips) (was xs) (was ys) (was blocks) m) (samplesOf (was times) (was values) (was marks) (was ends))) (was outtimes) (after outtimes) (was outmarks) (after outmarks) r ⌝ }
+    requires { ⌜ AcceptedLists (now starts) (now clips) (now xs) (now ys) [] m (now times) (now values) (now marks) (now ends) ⌝ }
+    ensures { λ r. ⌜ WritesSamples (stageSamples (unblocked (was starts) (was clips) (was xs) (was ys) m (was ends)) (samplesWere times values marks ends)) outtimes outmarks r ⌝ }
 {
     let reach = latest_inverses(xs, ys);
     let room = shorter(outtimes.len(), outmarks.len());
-    if fits(
-        starts,
-        clips,
-        xs,
-        ys,
-        blocks,
-        m,
-        times,
-        values,
-        marks,
-        ends,
-        &reach.items,
-        room,
-    ) {
-        let count = write_times(
-            starts,
-            clips,
-            xs,
-            ys,
-            blocks,
-            m,
-            times,
-            values,
-            marks,
-            ends,
-            &reach.items,
-            outtimes,
-        );
+    if fits(starts, clips, xs, ys, times, ends, &reach.items, room) {
+        let count = write_times(starts, clips, xs, ys, times, ends, &reach.items, outtimes);
         write_marks(
             starts,
             clips,
             xs,
             ys,
-            blocks,
             m,
             times,
             values,

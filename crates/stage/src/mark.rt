@@ -6,14 +6,16 @@ use definitions::StageTime;
 use sdf::look::HeldPlace;
 use value::direct::read_clip;
 ghost use mathlib.Core.Path.{_≡_};
+ghost use mathlib.Core.List.{[]};
 ghost use Prim.Native.Nat.{_≤_};
 ghost use lib.ListN.{length};
 ghost use Rattle.definitions.specs.Lists.{writtenOver};
 ghost use Rattle.definitions.specs.StageSamples.{suppliedAt};
 ghost use Rattle.definitions.specs.Track.{markOf};
 ghost use Rattle.definitions.specs.Moments.{was, after};
-ghost use Rattle.laws.specs.cell.Lent.{setOf, samplesOf, AcceptedLists};
-ghost use Rattle.stage.specs.Marks.{gapMarkOf, marksAt};
+ghost use Rattle.laws.specs.cell.Lent.{AcceptedLists};
+ghost use Rattle.stage.specs.Moments.{samplesWere};
+ghost use Rattle.stage.specs.Marks.{gapMarkOf, unblocked, marksAt};
 
 // The mark that stands where the active clip has no samples: that of the manifest default if it is a value, else a block.
 fn gap_mark(m: Missing) -> u8
@@ -43,7 +45,6 @@ fn supplied_at(
     clips: &[u64],
     xs: &[f64],
     ys: &[f64],
-    blocks: &[f64],
     m: Missing,
     times: &[f64],
     values: &[f64],
@@ -51,8 +52,8 @@ fn supplied_at(
     ends: &[u64],
     t: StageTime,
 ) -> u8
-    requires { ⌜ AcceptedLists (now starts) (now clips) (now xs) (now ys) (now blocks) m (now times) (now values) (now marks) (now ends) ⌝ }
-    ensures { λ r. ⌜ r ≡ suppliedAt (setOf (length (was ends)) (was starts) (was clips) (was xs) (was ys) (was blocks) m) (samplesOf (was times) (was values) (was marks) (was ends)) t ⌝ }
+    requires { ⌜ AcceptedLists (now starts) (now clips) (now xs) (now ys) [] m (now times) (now values) (now marks) (now ends) ⌝ }
+    ensures { λ r. ⌜ r ≡ suppliedAt (unblocked (was starts) (was clips) (was xs) (was ys) m (was ends)) (samplesWere times values marks ends) t ⌝ }
 {
     if starts.len() == 0 {
         return gap_mark(m);
@@ -71,7 +72,6 @@ pub fn write_marks(
     clips: &[u64],
     xs: &[f64],
     ys: &[f64],
-    blocks: &[f64],
     m: Missing,
     times: &[f64],
     values: &[f64],
@@ -80,8 +80,8 @@ pub fn write_marks(
     at: &[f64],
     out: &mut [u8],
 )
-    requires { ⌜ AcceptedLists (now starts) (now clips) (now xs) (now ys) (now blocks) m (now times) (now values) (now marks) (now ends) ⌝ ∗ ⌜ length (now at) ≤ length (now out) ⌝ }
-    ensures { λ _. ⌜ after out ≡ writtenOver (marksAt (setOf (length (was ends)) (was starts) (was clips) (was xs) (was ys) (was blocks) m) (samplesOf (was times) (was values) (was marks) (was ends)) (was at)) (was out) ⌝ }
+    requires { ⌜ AcceptedLists (now starts) (now clips) (now xs) (now ys) [] m (now times) (now values) (now marks) (now ends) ⌝ ∗ ⌜ length (now at) ≤ length (now out) ⌝ }
+    ensures { λ _. ⌜ after out ≡ writtenOver (marksAt (unblocked (was starts) (was clips) (was xs) (was ys) m (was ends)) (samplesWere times values marks ends) (was at)) (was out) ⌝ }
 {
     let mut i: usize = 0;
     while i < at.len() {
@@ -91,7 +91,6 @@ pub fn write_marks(
             clips,
             xs,
             ys,
-            blocks,
             m,
             times,
             values,

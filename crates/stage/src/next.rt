@@ -1,7 +1,6 @@
 // The next stage sample time: a search in the active window, begun where the last one ended. Later windows begin at the next start, which the search has.
 
 use super::zero::with_zero;
-use definitions::Missing;
 use definitions::Source;
 use sdf::part::clip_begin;
 use sdf::part::clip_end;
@@ -19,11 +18,10 @@ ghost use lib.ListN.{length, getD};
 ghost use lib.Ieee.Scale.{finite};
 ghost use Rattle.definitions.specs.Timing.{lastAtMost};
 ghost use Rattle.definitions.specs.Moments.{was};
-ghost use Rattle.laws.specs.cell.Lent.{setOf, samplesOf, AcceptedLists};
 ghost use Rattle.window.specs.Bounds.{UpperIs};
 ghost use Rattle.window.specs.neighbours.Latest.{LatestOf};
 ghost use Rattle.stage.specs.Whole.{Windows, WholeWindow, wholeTimes, nextStart};
-ghost use Rattle.stage.specs.Times.{NextTime};
+ghost use Rattle.stage.specs.Times.{AcceptedTimes, NextTime};
 
 // The next time, and where the search for the one behind it may begin: the place of the active start, a knot and a sample.
 pub struct Next {
@@ -69,7 +67,8 @@ fn search_window(
     knot: usize,
     sample: usize,
 ) -> NeighboursAndHints
-    requires { ⌜ Windows (now starts) (now clips) (now xs) (now ys) (now times) (now ends) ⌝ ∗ ⌜ LatestOf (now xs) (now ys) (now latest) ⌝ ∗ ⌜ p ≡ lastAtMost (now starts) t ⌝ ∗ ⌜ p < length (now starts) ⌝ ∗ ⌜ T (finite t) ⌝ }
+    requires { ⌜ Windows (now starts) (now clips) (now xs) (now ys) (now times) (now ends) ⌝ ∗ ⌜ LatestOf (now xs) (now ys) (now latest) ⌝ }
+    requires { ⌜ p ≡ lastAtMost (now starts) t ⌝ ∗ ⌜ p < length (now starts) ⌝ ∗ ⌜ T (finite t) ⌝ }
     ensures { λ r. ⌜ UpperIs (wholeTimes (was starts) (was clips) (was xs) (was ys) (was times) (was ends) p ++ nextStart (was starts) p) t (r .upper) ⌝ }
 {
     let w = whole_window(starts, clips, ends, p);
@@ -84,11 +83,7 @@ pub fn next_time(
     clips: &[u64],
     xs: &[f64],
     ys: &[f64],
-    blocks: &[f64],
-    m: Missing,
     times: &[f64],
-    values: &[f64],
-    marks: &[u8],
     ends: &[u64],
     latest: &[f64],
     t: f64,
@@ -96,8 +91,8 @@ pub fn next_time(
     knot: usize,
     sample: usize,
 ) -> Next
-    requires { ⌜ AcceptedLists (now starts) (now clips) (now xs) (now ys) (now blocks) m (now times) (now values) (now marks) (now ends) ⌝ ∗ ⌜ LatestOf (now xs) (now ys) (now latest) ⌝ ∗ ⌜ T (finite t) ⌝ }
-    ensures { λ r. ⌜ NextTime (setOf (length (was ends)) (was starts) (was clips) (was xs) (was ys) (was blocks) m) (samplesOf (was times) (was values) (was marks) (was ends)) t (r .time) ⌝ }
+    requires { ⌜ AcceptedTimes (now starts) (now clips) (now xs) (now ys) (now times) (now ends) ⌝ ∗ ⌜ LatestOf (now xs) (now ys) (now latest) ⌝ ∗ ⌜ T (finite t) ⌝ }
+    ensures { λ r. ⌜ NextTime (was starts) (was clips) (was xs) (was ys) (was times) (was ends) t (r .time) ⌝ }
 {
     if starts.len() == 0 {
         return Next {

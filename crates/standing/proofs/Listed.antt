@@ -1,5 +1,5 @@
 -- Replies that are lists, by whether there is room. Assumes nothing.
-use Prim.Native.Nat.{ℕ, suc, min, _≤_, _<_}
+use Prim.Native.Nat.{ℕ, min, _≤_, _<_}
 use mathlib.Core.Path.{_≡_, refl, sym, ap, _∙_, subst}
 use mathlib.Core.Bool.{Bool}
 use mathlib.Core.List.{List, [], _∷_, map}
@@ -21,10 +21,6 @@ mapped-itself : (l : List Float) → map itself l ≡ l
 mapped-itself [] = refl
 mapped-itself (x ∷ l) = ap (λ (m : List Float). x ∷ m) (mapped-itself l)
 
-mapped-length : {A B : Type 0} (f : A → B) (l : List A) → length (map f l) ≡ length l
-mapped-length f [] = refl
-mapped-length f (x ∷ l) = ap suc (mapped-length f l)
-
 room-enough : (room count : ℕ) → count ≤ room → 0 ≡ roomNumber room count
 room-enough room count h = sym (ap (λ (b : Bool). 22 if b else 0) (le-ltb room count h))
 
@@ -45,16 +41,16 @@ times-listed l before after NoRoom (h, q) =
       times = q ∙ ap (λ (k : ℕ). listed itself (reply k l) before) z;
     }
 
-samples-listed : (l : List StageSample) (ts ts′ : List Float) (ms ms′ : List ℕ) (w : Written) → SamplesWritten (map timeOf l) (map markIn l) ts ts′ ms ms′ w → ListsSamples l ts ts′ ms ms′ (countOf w)
+samples-listed : (l : List StageSample) (ts ts′ : List Float) (ms ms′ : List ℕ) (w : Written) → SamplesWritten l ts ts′ ms ms′ w → ListsSamples l ts ts′ ms ms′ (countOf w)
 samples-listed l ts ts′ ms ms′ (Count n) (e, h, p, q) =
-    let z = room-enough (min (length ts) (length ms)) (length l) (subst (λ (k : ℕ). k ≤ min (length ts) (length ms)) (mapped-length timeOf l) h) in
+    let z = room-enough (min (length ts) (length ms)) (length l) h in
     record {
-      count = ap (λ (k : ℕ). record { number = 0; count = k }) (e ∙ mapped-length timeOf l) ∙ ap (λ (k : ℕ). counted (reply k l)) z;
+      count = ap (λ (k : ℕ). record { number = 0; count = k }) e ∙ ap (λ (k : ℕ). counted (reply k l)) z;
       written-times = p ∙ ap (λ (k : ℕ). listed timeOf (reply k l) ts) z;
       written-marks = q ∙ ap (λ (k : ℕ). listed markIn (reply k l) ms) z;
     }
 samples-listed l ts ts′ ms ms′ NoRoom (h, p, q) =
-    let z = room-short (min (length ts) (length ms)) (length l) (subst (λ (k : ℕ). min (length ts) (length ms) < k) (mapped-length timeOf l) h) in
+    let z = room-short (min (length ts) (length ms)) (length l) h in
     record {
       count = ap (λ (k : ℕ). counted (reply k l)) z;
       written-times = p ∙ ap (λ (k : ℕ). listed timeOf (reply k l) ts) z;
@@ -64,5 +60,5 @@ samples-listed l ts ts′ ms ms′ NoRoom (h, p, q) =
 pub times-told : {l : List Float} (before after : List Float) (w : Written) (r : Counted) → r ≡ countOf w → TimesWritten l before after w → ListsTimes l before after r
 times-told {l = l} before after w r q p = subst (λ (x : Counted). ListsTimes l before after x) (sym q) (times-listed l before after w p)
 
-pub samples-told : (l : List StageSample) (ts ts′ : List Float) (ms ms′ : List ℕ) (w : Written) (r : Counted) → r ≡ countOf w → SamplesWritten (map timeOf l) (map markIn l) ts ts′ ms ms′ w → ListsSamples l ts ts′ ms ms′ r
+pub samples-told : (l : List StageSample) (ts ts′ : List Float) (ms ms′ : List ℕ) (w : Written) (r : Counted) → r ≡ countOf w → SamplesWritten l ts ts′ ms ms′ w → ListsSamples l ts ts′ ms ms′ r
 samples-told l ts ts′ ms ms′ w r q p = subst (λ (x : Counted). ListsSamples l ts ts′ ms ms′ x) (sym q) (samples-listed l ts ts′ ms ms′ w p)

@@ -1,7 +1,7 @@
 -- The standing set in plain arrays, as the set of the definitions; what a question is lent of it. Assumes nothing.
 use Prim.Native.Nat.{ℕ}
 use mathlib.Core.Path.{_≡_}
-use mathlib.Core.List.{List}
+use mathlib.Core.List.{List, []}
 use mathlib.Core.Option.{Option, none, some}
 use lib.ListN.{take}
 use lib.Ieee.{Float}
@@ -9,6 +9,8 @@ use Rattle.definitions.specs.declared.Missing.{Missing}
 use Rattle.definitions.specs.ClipSet as Definitions
 use Rattle.definitions.specs.ClipSet.{maxActive, maxKnots, maxBlocks}
 use Rattle.laws.specs.cell.Lent.{setOf, AcceptedLists}
+use Rattle.stage.specs.Times.{timesOf, AcceptedTimes}
+use Rattle.stage.specs.Marks.{unblocked}
 use Rattle.clip.specs.declared.ClipSet.{ClipSet}
 use Rattle.clip.specs.Holding.{Room, ArraysWhole, clipSetOf}
 use Rattle.standing.specs.declared.Counts.{Counts}
@@ -51,6 +53,33 @@ pub record Packed (set : Definitions.ClipSet) (r : ClipSet) : Type 0 where
 pub record Asked (c : Counts) (starts : List Float) (numbers : List ℕ) (xs ys blocks : List Float) (m : Missing) (times values : List Float) (marks ends : List ℕ) : Type 0 where
   pub arrays : Arrays c starts numbers xs ys blocks
   pub ready : AcceptedLists (take (c .starts) starts) (take (c .starts) numbers) (take (c .knots) xs) (take (c .knots) ys) (take (c .blocks) blocks) m times values marks ends
+
+-- ---- questions for stage samples, which are lent the lists that decide them
+
+-- arrays of starts and knots, and counts within them
+pub record StartsAndKnots (c : Counts) (starts : List Float) (numbers : List ℕ) (xs ys : List Float) : Type 0 where
+  pub in-starts : Room maxActive starts (c .starts)
+  pub in-numbers : Room maxActive numbers (c .starts)
+  pub in-xs : Room maxKnots xs (c .knots)
+  pub in-ys : Room maxKnots ys (c .knots)
+
+-- the stage sample times of the entries that count
+abbrev pub lentTimes : Counts → List Float → List ℕ → List Float → List Float → List Float → List ℕ → List Float
+lentTimes c starts numbers xs ys times ends = timesOf (take (c .starts) starts) (take (c .starts) numbers) (take (c .knots) xs) (take (c .knots) ys) times ends
+
+pub record TimesAsked (c : Counts) (starts : List Float) (numbers : List ℕ) (xs ys times : List Float) (ends : List ℕ) : Type 0 where
+  pub arrays : StartsAndKnots c starts numbers xs ys
+  pub ready : AcceptedTimes (take (c .starts) starts) (take (c .starts) numbers) (take (c .knots) xs) (take (c .knots) ys) times ends
+
+-- the set of the entries that count, without manifest blocks, which stage samples do not heed
+abbrev pub lentUnblocked : Counts → List Float → List ℕ → List Float → List Float → Missing → List ℕ → Definitions.ClipSet
+lentUnblocked c starts numbers xs ys m ends = unblocked (take (c .starts) starts) (take (c .starts) numbers) (take (c .knots) xs) (take (c .knots) ys) m ends
+
+pub record SamplesAsked (c : Counts) (starts : List Float) (numbers : List ℕ) (xs ys : List Float) (m : Missing) (times values : List Float) (marks ends : List ℕ) : Type 0 where
+  pub arrays : StartsAndKnots c starts numbers xs ys
+  pub ready : AcceptedLists (take (c .starts) starts) (take (c .starts) numbers) (take (c .knots) xs) (take (c .knots) ys) [] m times values marks ends
+
+-- ---- the active clip
 
 -- the active clip as the code answers it: "none" in a set without starts
 abbrev pub answered : Option ℕ → ActiveClip

@@ -10,20 +10,22 @@ use track::bake::Baked;
 use value::untimed::ValueState;
 ghost use mathlib.Core.Path.{_≡_};
 ghost use lib.Dec.{T};
-ghost use lib.ListN.{length, take};
+ghost use lib.ListN.{take};
 ghost use lib.Ieee.Scale.{finite};
 ghost use Rattle.definitions.specs.ClipSet.{maxActive, maxKnots};
-ghost use Rattle.definitions.specs.StageSamples.{stageSampleTimes, stageSamples, untimedAnswer};
+ghost use Rattle.definitions.specs.StageSamples.{stageSamples, untimedAnswer};
 ghost use Rattle.definitions.specs.Timing.{activeEntry, clipOf, mapStageToClip};
 ghost use Rattle.definitions.specs.Value.{valueInSet};
 ghost use Rattle.definitions.specs.Moments.{was, after};
 ghost use Rattle.laws.specs.list.Places.{Ascending};
-ghost use Rattle.laws.specs.cell.Lent.{activeOf, knotsOf, samplesOf};
+ghost use Rattle.laws.specs.cell.Lent.{activeOf, knotsOf};
 ghost use Rattle.clip.specs.Holding.{Room};
 ghost use Rattle.value.specs.Untimed.{stateIs};
-ghost use Rattle.track.specs.Bakes.{outputs, BakeIs};
+ghost use Rattle.track.specs.Bakes.{BakeIs};
 ghost use Rattle.standing.specs.Lists.{countOf, ListsTimes, ListsSamples};
-ghost use Rattle.standing.specs.Standing.{lentSet, Asked, answered};
+ghost use Rattle.stage.specs.Moments.{samplesWere};
+ghost use Rattle.standing.specs.Standing.{Asked, TimesAsked, lentTimes, SamplesAsked, answered};
+ghost use Rattle.standing.specs.Moments.{setWas, unblockedWas, outputsWere, outputsLeft};
 
 pub enum ActiveClip {
     Clip(u64),
@@ -66,7 +68,7 @@ pub fn value<'a>(
     t: StageTime,
 ) -> Answer
     requires { ⌜ Asked counts (now starts) (now numbers) (now xs) (now ys) (now blocks) m (now times) (now values) (now marks) (now ends) ⌝ ∗ ⌜ T (finite (t .0)) ⌝ }
-    ensures { λ r. ⌜ r ≡ valueInSet (lentSet (length (was ends)) counts (was starts) (was numbers) (was xs) (was ys) (was blocks) m) (samplesOf (was times) (was values) (was marks) (was ends)) t ⌝ }
+    ensures { λ r. ⌜ r ≡ valueInSet (setWas counts starts numbers xs ys blocks m ends) (samplesWere times values marks ends) t ⌝ }
 {
     let n = counts.starts;
     let k = counts.knots;
@@ -101,7 +103,7 @@ pub fn untimed<'a>(
     ends: &[u64],
 ) -> ValueState
     requires { ⌜ Asked counts (now starts) (now numbers) (now xs) (now ys) (now blocks) m (now times) (now values) (now marks) (now ends) ⌝ }
-    ensures { λ r. ⌜ stateIs r ≡ untimedAnswer (lentSet (length (was ends)) counts (was starts) (was numbers) (was xs) (was ys) (was blocks) m) (samplesOf (was times) (was values) (was marks) (was ends)) ⌝ }
+    ensures { λ r. ⌜ stateIs r ≡ untimedAnswer (setWas counts starts numbers xs ys blocks m ends) (samplesWere times values marks ends) ⌝ }
 {
     let n = counts.starts;
     let k = counts.knots;
@@ -138,7 +140,7 @@ pub fn bake<'a>(
     outmarks: &mut [u8],
 ) -> Baked
     requires { ⌜ Asked counts (now starts) (now numbers) (now xs) (now ys) (now blocks) m (now times) (now values) (now marks) (now ends) ⌝ }
-    ensures { λ r. ⌜ BakeIs (lentSet (length (was ends)) counts (was starts) (was numbers) (was xs) (was ys) (was blocks) m) (samplesOf (was times) (was values) (was marks) (was ends)) (outputs (was outtimes) (was outvalues) (was outmarks)) (outputs (after outtimes) (after outvalues) (after outmarks)) r ⌝ }
+    ensures { λ r. ⌜ BakeIs (setWas counts starts numbers xs ys blocks m ends) (samplesWere times values marks ends) (outputsWere outtimes outvalues outmarks) (outputsLeft outtimes outvalues outmarks) r ⌝ }
 {
     let n = counts.starts;
     let k = counts.knots;
@@ -166,31 +168,22 @@ pub fn stage_sample_times<'a>(
     numbers: &'a [u64],
     xs: &'a [f64],
     ys: &'a [f64],
-    blocks: &'a [f64],
     counts: Counts,
-    m: Missing,
     times: &[f64],
-    values: &[f64],
-    marks: &[u8],
     ends: &[u64],
     out: &mut [f64],
 ) -> Counted
-    requires { ⌜ Asked counts (now starts) (now numbers) (now xs) (now ys) (now blocks) m (now times) (now values) (now marks) (now ends) ⌝ }
-    ensures { λ r. ⌜ ListsTimes (stageSampleTimes (lentSet (length (was ends)) counts (was starts) (was numbers) (was xs) (was ys) (was blocks) m) (samplesOf (was times) (was values) (was marks) (was ends))) (was out) (after out) r ⌝ }
+    requires { ⌜ TimesAsked counts (now starts) (now numbers) (now xs) (now ys) (now times) (now ends) ⌝ }
+    ensures { λ r. ⌜ ListsTimes (lentTimes counts (was starts) (was numbers) (was xs) (was ys) (was times) (was ends)) (was out) (after out) r ⌝ }
 {
     let n = counts.starts;
     let k = counts.knots;
-    let b = counts.blocks;
     let written = stage::stage_sample_times(
         &starts[..n],
         &numbers[..n],
         &xs[..k],
         &ys[..k],
-        &blocks[..b],
-        m,
         times,
-        values,
-        marks,
         ends,
         out,
     );
@@ -203,7 +196,6 @@ pub fn stage_samples<'a>(
     numbers: &'a [u64],
     xs: &'a [f64],
     ys: &'a [f64],
-    blocks: &'a [f64],
     counts: Counts,
     m: Missing,
     times: &[f64],
@@ -213,18 +205,16 @@ pub fn stage_samples<'a>(
     outtimes: &mut [f64],
     outmarks: &mut [u8],
 ) -> Counted
-    requires { ⌜ Asked counts (now starts) (now numbers) (now xs) (now ys) (now blocks) m (now times) (now values) (now marks) (now ends) ⌝ }
-    ensures { λ r. ⌜ ListsSamples (stageSamples (lentSet (length (was ends)) counts (was starts) (was numbers) (was xs) (was ys) (was blocks) m) (samplesOf (was times) (was values) (was marks) (was ends))) (was outtimes) (after outtimes) (was outmarks) (after outmarks) r ⌝ }
+    requires { ⌜ SamplesAsked counts (now starts) (now numbers) (now xs) (now ys) m (now times) (now values) (now marks) (now ends) ⌝ }
+    ensures { λ r. ⌜ ListsSamples (stageSamples (unblockedWas counts starts numbers xs ys m ends) (samplesWere times values marks ends)) (was outtimes) (after outtimes) (was outmarks) (after outmarks) r ⌝ }
 {
     let n = counts.starts;
     let k = counts.knots;
-    let b = counts.blocks;
     let written = stage::stage_samples(
         &starts[..n],
         &numbers[..n],
         &xs[..k],
         &ys[..k],
-        &blocks[..b],
         m,
         times,
         values,

@@ -26,8 +26,9 @@ ghost use Rattle.explicit.specs.Parsing.{explicitFields};
 ghost use Rattle.template.specs.Expanding.{templateFields};
 ghost use Rattle.normal_form.specs.Normalizes.{Normalizes};
 ghost use Rattle.cell.specs.step.Entries.{entryIs};
-ghost use Rattle.track.specs.Bakes.{outputs, bakedReply};
+ghost use Rattle.track.specs.Bakes.{bakedReply};
 ghost use Rattle.track.specs.Held.{trackOfLists};
+ghost use Rattle.standing.specs.Moments.{outputsWere, outputsLeft};
 ghost use Rattle.resolver.specs.State.{Made};
 ghost use Rattle.resolver.specs.Promises.{Begins, Accepts, Expands, Retimes, BakesTrack, TellsTimes, TellsSamples};
 ghost use Rattle.tavitrozy.specs.Codes.{clipCode, timeCode, valueCode, untimedCode, TellsClip, TellsTime, TellsValue, TellsUntimed, nameCode, SaysName};
@@ -295,7 +296,7 @@ pub extern "C" fn tavitrozy_bake(
     outmarks: &mut [u8],
 ) -> Baked
     requires { ⌜ Made resolver ⌝ }
-    ensures { λ r. ⌜ BakesTrack resolver (samplesOf (was times) (was values) (was marks) (was ends)) (outputs (was outtimes) (was outvalues) (was outmarks)) (bakedReply r) (outputs (after outtimes) (after outvalues) (after outmarks)) ⌝ }
+    ensures { λ r. ⌜ BakesTrack resolver (samplesOf (was times) (was values) (was marks) (was ends)) (outputsWere outtimes outvalues outmarks) (bakedReply r) (outputsLeft outtimes outvalues outmarks) ⌝ }
 {
     resolver.bake(times, values, marks, ends, outtimes, outvalues, outmarks)
 }
@@ -345,7 +346,7 @@ pub extern "C" fn tavitrozy_normalize(
     outvalues: &mut [f64],
     outmarks: &mut [u8],
 ) -> Counted
-    ensures { λ r. ⌜ Normalizes (was times) (was values) (was marks) (outputs (was outtimes) (was outvalues) (was outmarks)) (outputs (after outtimes) (after outvalues) (after outmarks)) r ⌝ }
+    ensures { λ r. ⌜ Normalizes (was times) (was values) (was marks) (outputsWere outtimes outvalues outmarks) (outputsLeft outtimes outvalues outmarks) r ⌝ }
 {
     normal_form::normalize_time_samples(times, values, marks, outtimes, outvalues, outmarks)
 }

@@ -7,27 +7,24 @@ use denote.Ref.{now}
 use Prim.Native.Nat.{_≤_}
 use borrow.Author.Tests.{leb-true, leb-false}
 use borrow.Author.Needs.{needs}
-use Rattle.definitions.specs.StageSamples.{stageSampleTimes}
-use Rattle.laws.specs.cell.Lent.{setOf, samplesOf}
-use Rattle.window.proofs.Parts.{ready-readable}
-use Rattle.stage.proofs.Around.{ready-few}
+use Rattle.stage.specs.Times.{timesOf}
 use Rattle.stage.proofs.stage_sample_times.Statement.{statement}
 use Rattle.stage.proofs.stage_sample_times.Tie as tie
 
 abbrev entry : tie.After-latest-inverses → tie.Start
-entry k = k .before .before .before .before .before .before .before .before .before .before .before
+entry k = k .before .before .before .before .before .before .before .before
 
 latest-inverses-requires : tie.Need-latest-inverses-requires
 latest-inverses-requires c κs =
-    let R = c .before .before .before .before .before .before .before .before .before .before .pre in
-    (R .knots-paired, (ready-few R, ready-readable R .segments))
+    let R = c .before .before .before .before .before .before .before .pre in
+    (R .windows .readable .paired, (R .few, R .windows .readable .segments))
 
 fits-requires : tie.Need-fits-requires
 fits-requires c κs = search needs
 
 -- all stage sample times
 abbrev all : tie.Start → List Float
-all s = stageSampleTimes (setOf (length (now (s .args .ends))) (now (s .args .starts)) (now (s .args .clips)) (now (s .args .xs)) (now (s .args .ys)) (now (s .args .blocks)) (s .args .m)) (samplesOf (now (s .args .times)) (now (s .args .values)) (now (s .args .marks)) (now (s .args .ends)))
+all s = timesOf (now (s .args .starts)) (now (s .args .clips)) (now (s .args .xs)) (now (s .args .ys)) (now (s .args .times)) (now (s .args .ends))
 
 abbrev reach : tie.Then1 → tie.After-latest-inverses
 reach c = c .before .before .before .before .before

@@ -12,10 +12,10 @@ use denote.Ref.{now}
 use borrow.Author.Tests.{leb-true, leb-false}
 use Rattle.definitions.specs.ClipSet.{ClipSet}
 use Rattle.definitions.specs.Samples.{Samples}
-use Rattle.definitions.specs.StageSamples.{stageSampleTimes}
-use Rattle.laws.specs.cell.Lent.{setOf, samplesOf}
-use Rattle.window.proofs.Parts.{ready-readable}
-use Rattle.stage.proofs.Around.{ready-few}
+use Rattle.laws.specs.cell.Lent.{samplesOf}
+use Rattle.stage.specs.Times.{timesOf}
+use Rattle.stage.specs.Marks.{unblocked}
+use Rattle.stage.proofs.Accepted.{accepted-times, stage-times}
 use Rattle.stage.proofs.Writing.{length-written}
 use Rattle.stage.proofs.Samples.{samples-written, samples-none}
 use borrow.Author.Needs.{needs}
@@ -23,16 +23,16 @@ use Rattle.stage.proofs.stage_samples.Statement.{statement}
 use Rattle.stage.proofs.stage_samples.Tie as tie
 
 abbrev entry : tie.After-shorter → tie.Start
-entry k = k .before .before .before .before .before .before .before .before .before .before .before .before .before
+entry k = k .before .before .before .before .before .before .before .before .before .before .before .before
 
 abbrev set : tie.Start → ClipSet
-set s = setOf (length (now (s .args .ends))) (now (s .args .starts)) (now (s .args .clips)) (now (s .args .xs)) (now (s .args .ys)) (now (s .args .blocks)) (s .args .m)
+set s = unblocked (now (s .args .starts)) (now (s .args .clips)) (now (s .args .xs)) (now (s .args .ys)) (s .args .m) (now (s .args .ends))
 
 abbrev lent : tie.Start → Samples
 lent s = samplesOf (now (s .args .times)) (now (s .args .values)) (now (s .args .marks)) (now (s .args .ends))
 
 abbrev all : tie.Start → List Float
-all s = stageSampleTimes (set s) (lent s)
+all s = timesOf (now (s .args .starts)) (now (s .args .clips)) (now (s .args .xs)) (now (s .args .ys)) (now (s .args .times)) (now (s .args .ends))
 
 -- before the times were counted
 abbrev asked : tie.Then1 → tie.After-shorter
@@ -53,41 +53,41 @@ marks-room c = let s = entry (asked c) in le-trans (room c) (min-le-right (lengt
 
 latest-inverses-requires : tie.Need-latest-inverses-requires
 latest-inverses-requires c κs =
-    let R = c .before .before .before .before .before .before .before .before .before .before .before .pre in
-    (R .knots-paired, (ready-few R, ready-readable R .segments))
+    let A = accepted-times (c .before .before .before .before .before .before .before .before .before .before .pre) in
+    (A .windows .readable .paired, (A .few, A .windows .readable .segments))
 
 shorter-requires : tie.Need-shorter-requires
 shorter-requires c κs = search needs
 
 fits-requires : tie.Need-fits-requires
-fits-requires c κs = search needs
+fits-requires c κs = search (needs, accepted-times)
 
 write-times-requires : tie.Need-write-times-requires
 write-times-requires c κs =
     let k = c .before .before .before .before in
-    (entry (asked k) .pre, (asked k .before .latest-inverses .ensures, times-room k))
+    (accepted-times (entry (asked k) .pre), (asked k .before .latest-inverses .ensures, times-room k))
 
 -- the times as they were written
 abbrev then : tie.After-write-times → tie.Then1
 then w = w .before .before .before .before .before
 
-times-long : (w : tie.After-write-times) → length (w .write-times .last .1 .1 .1 .1 .1 .1 .1 .1 .1 .1 .1 .0) ≡ length (now (entry (asked (then w)) .args .outtimes))
+times-long : (w : tie.After-write-times) → length (w .write-times .last .1 .1 .1 .1 .1 .1 .1 .0) ≡ length (now (entry (asked (then w)) .args .outtimes))
 times-long w = let s = entry (asked (then w)) in ap length (w .write-times .ensures .1) ∙ length-written (all s) (now (s .args .outtimes)) (times-room (then w))
 
-count-room : (w : tie.After-write-times) → w .write-times .result ≤ length (w .write-times .last .1 .1 .1 .1 .1 .1 .1 .1 .1 .1 .1 .0)
+count-room : (w : tie.After-write-times) → w .write-times .result ≤ length (w .write-times .last .1 .1 .1 .1 .1 .1 .1 .0)
 count-room w = omega (arith, times-long w, times-room (then w), w .write-times .ensures .0)
 
 slice-reshare-prefix-write-marks : tie.Need-slice-reshare-prefix-write-marks
 slice-reshare-prefix-write-marks c = count-room (c .before .before)
 
 slice-aggregate-write-marks : tie.Need-slice-aggregate-write-marks
-slice-aggregate-write-marks c = let w = c .before .before .before in sym (length-take-le (w .write-times .result) (w .write-times .last .1 .1 .1 .1 .1 .1 .1 .1 .1 .1 .1 .0) (count-room w))
+slice-aggregate-write-marks c = let w = c .before .before .before in sym (length-take-le (w .write-times .result) (w .write-times .last .1 .1 .1 .1 .1 .1 .1 .0) (count-room w))
 
 write-marks-requires : tie.Need-write-marks-requires
 write-marks-requires c κs =
     let w = c .before .before .before .before in (
       entry (asked (then w)) .pre,
-      omega (arith, length-take-le (w .write-times .result) (w .write-times .last .1 .1 .1 .1 .1 .1 .1 .1 .1 .1 .1 .0) (count-room w), marks-room (then w), w .write-times .ensures .0),
+      omega (arith, length-take-le (w .write-times .result) (w .write-times .last .1 .1 .1 .1 .1 .1 .1 .0) (count-room w), marks-room (then w), w .write-times .ensures .0),
     )
 
 same-length : tie.Need-same-length
@@ -101,13 +101,13 @@ returns c =
     let b = c .before .before in
     let w = b .before .before .before .before .before in
     let s = entry (asked (then w)) in
-    samples-written (set s) (lent s) (now (s .args .outtimes)) (w .write-times .last .1 .1 .1 .1 .1 .1 .1 .1 .1 .1 .1 .0) (now (s .args .outmarks)) _ (w .write-times .result) (w .write-times .ensures .0) (room (then w)) (w .write-times .ensures .1) (b .write-marks .ensures)
+    samples-written (set s) (lent s) (all s) (stage-times (s .pre)) (now (s .args .outtimes)) (w .write-times .last .1 .1 .1 .1 .1 .1 .1 .0) (now (s .args .outmarks)) _ (w .write-times .result) (w .write-times .ensures .0) (room (then w)) (w .write-times .ensures .1) (b .write-marks .ensures)
 
 returns-2 : tie.Need-returns-2
 returns-2 c =
     let k = c .before .before .before .before .before in
     let s = entry k in
-    samples-none (set s) (lent s) (now (s .args .outtimes)) (now (s .args .outtimes)) (now (s .args .outmarks)) (now (s .args .outmarks))
+    samples-none (set s) (lent s) (all s) (stage-times (s .pre)) (now (s .args .outtimes)) (now (s .args .outtimes)) (now (s .args .outmarks)) (now (s .args .outmarks))
     (leb-false (length (all s)) (min (length (now (s .args .outtimes))) (length (now (s .args .outmarks)))) (ap (leb (length (all s))) (sym (k .shorter .ensures)) ∙ sym (c .before .fits2 .ensures) ∙ c .if1 .left)) refl refl
 
 pub stage-samples-spec : {M : Type 1} → statement M

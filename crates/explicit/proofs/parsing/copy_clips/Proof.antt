@@ -5,22 +5,21 @@ use mathlib.Core.List.{map}
 use native.Mathlib.Omega.{arith}
 use borrow.Author.Needs.{needs}
 use lib.ListN.{length, length-set, length-map}
-use lib.Ieee.{Float, nan}
+use lib.Ieee.{nan}
 use denote.Ref.{now}
-use lib.Dec.{T}
-use Rattle.gf.specs.Doubles.{truncated, isClipNumber}
-use Rattle.laws.proofs.list.Every.{every-at, any-not-every}
+use Rattle.gf.specs.Doubles.{truncated}
+use Rattle.laws.proofs.list.Every.{every-at}
 use Rattle.lists.proofs.Filled.{Filled, fill-start, fill-next, fill-whole}
-use Rattle.explicit.proofs.Indices.{index-ready}
+use Rattle.explicit.specs.Parsing.{Indexed}
 use Rattle.clip.proofs.Laws.{mapped-at}
 use Rattle.explicit.proofs.parsing.copy_clips.Statement.{statement}
 use Rattle.explicit.proofs.parsing.copy_clips.Tie as tie
 
 abbrev Inv-loop : tie.InvT-loop
-Inv-loop numbers clips to₀ i₀ to i = Filled (map truncated numbers) to i × (length to ≡ length numbers)
+Inv-loop numbers to₀ i₀ to i = Filled (map truncated numbers) to i × (length to ≡ length numbers)
 
 abbrev μ-loop : tie.MeasureT-loop
-μ-loop numbers clips to₀ i₀ to i = length numbers - i
+μ-loop numbers to₀ i₀ to i = length numbers - i
 
 loop-holds : tie.Need-loop-holds Inv-loop μ-loop
 loop-holds c =
@@ -37,7 +36,7 @@ to-index-requires : tie.Need-to-index-requires Inv-loop μ-loop
 to-index-requires c κs =
     let k = c .before .before .loop in
     let s = c .before .before .before .before .before in
-    index-ready (s .args .clips) _ (omega arith) (every-at (λ (x : Float). T (isClipNumber (s .args .clips) x)) (now (s .args .numbers)) (k .i) nan (any-not-every (isClipNumber (s .args .clips)) (now (s .args .numbers)) (s .pre .0)) (omega arith))
+    every-at Indexed (now (s .args .numbers)) (k .i) nan (s .pre .0) (omega arith)
 
 mul-to : tie.Need-mul-to Inv-loop μ-loop
 mul-to c = search needs

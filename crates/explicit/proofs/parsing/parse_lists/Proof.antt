@@ -8,6 +8,7 @@ use Rattle.definitions.specs.Explicit.{ExplicitFields}
 use Rattle.laws.proofs.set.SoundExplicit.{ExplicitLimits}
 use Rattle.clip.specs.Storing.{Stores}
 use Rattle.explicit.specs.Parsing.{explicitFields}
+use Rattle.explicit.proofs.Indices.{clips-indexed}
 use Rattle.explicit.proofs.Acceptance.{fields-fit, fields-clips, explicit-is}
 use Rattle.explicit.proofs.parsing.parse_lists.Statement.{statement}
 use Rattle.explicit.proofs.parsing.parse_lists.Tie as tie
@@ -18,33 +19,62 @@ fields c = explicitFields (c .args .clips) (now (c .args .starts)) (now (c .args
 limits : (c : tie.Start) → ExplicitLimits (fields c)
 limits c = fields-fit (fields c) (c .pre .0)
 
+-- the copies one after the other, and what comes after them
+abbrev entry : tie.After-copy → tie.Start
+entry t = t .before .before .before .before .before .before .before .before .before .before .before
+
+abbrev starts-copied : tie.After-copy-clips → tie.After-copy
+starts-copied i = i .before .before .before .before
+
+abbrev clips-copied : tie.After-copy2 → tie.After-copy-clips
+clips-copied x = x .before .before .before .before
+
+abbrev xs-copied : tie.After-copy3 → tie.After-copy2
+xs-copied y = y .before .before .before .before
+
+abbrev ys-copied : tie.After-sort-check-and-store-arg4 → tie.After-copy3
+ys-copied c = c .before .before .before .before .before .before
+
+abbrev stored : tie.After-slice-known12 → tie.After-sort-check-and-store
+stored c = c .before .before .before .before .before .before .before .before
+
 copy-requires : tie.Need-copy-requires
 copy-requires c κs = search needs
 
 copy-clips-requires : tie.Need-copy-clips-requires
-copy-clips-requires c κs = let s = c .before .before .before .before .before .before .before .before .before .before .before .before .before .before in (fields-clips (fields s) (s .pre .0), s .pre .1 .for-indices ∙ limits s .starts-paired)
+copy-clips-requires c κs =
+    let s = entry (c .before .before .before) in
+    (clips-indexed (s .args .clips) (now (s .args .numbers)) (s .fits .clips .fits) (fields-clips (fields s) (s .pre .0)), s .pre .1 .for-indices ∙ limits s .starts-paired)
 
 copy-requires-2 : tie.Need-copy-requires-2
 copy-requires-2 c κs = search needs
 
 copy-requires-3 : tie.Need-copy-requires-3
-copy-requires-3 c κs = let s = c .before .before .before .before .before .before .before .before .before .before .before .before .before .before .before .before .before .before .before .before .before .before in s .pre .1 .for-ys ∙ limits s .knots-paired
+copy-requires-3 c κs = let s = entry (starts-copied (clips-copied (c .before .before .before))) in s .pre .1 .for-ys ∙ limits s .knots-paired
 
 sort-check-and-store-requires : tie.Need-sort-check-and-store-requires
 sort-check-and-store-requires c κs =
-    let s = c .before .before .before .before .before .before .before .before .before .before .before .before .before .before .before .before .before .before .before .before .before .before .before .before .before .before .before .before .before in
-    let t = c .before .before .before .before .before .before .before .before .before .before .before .before .before .before .before .before .before .before .copy .kept .1 .0 ∙ s .pre .1 .for-times in
-    let i = c .before .before .before .before .before .before .before .before .before .before .before .before .before .before .copy-clips .kept .1 .1 .0 ∙ s .pre .1 .for-indices in
-    let x = c .before .before .before .before .before .before .before .before .before .before .copy2 .kept .1 .0 ∙ s .pre .1 .for-xs in
-    let y = c .before .before .before .before .before .before .copy3 .kept .1 .0 ∙ s .pre .1 .for-ys in
+    let w = ys-copied c in
+    let v = xs-copied w in
+    let k = clips-copied v in
+    let h = starts-copied k in
+    let s = entry h in
+    let t = h .copy .kept .1 .0 ∙ s .pre .1 .for-times in
+    let i = k .copy-clips .kept .1 .0 ∙ s .pre .1 .for-indices in
+    let x = v .copy2 .kept .1 .0 ∙ s .pre .1 .for-xs in
+    let y = w .copy3 .kept .1 .0 ∙ s .pre .1 .for-ys in
     let l = limits s in
     record { starts = t ∙ sym i; knots = x ∙ sym y; few-starts = omega arith; few-knots = omega arith; few-blocks = l .blocks }
 
+-- the copy of the clip numbers, from the end
+abbrev numbers-copied : tie.After-slice-known12 → tie.After-copy-clips
+numbers-copied c = clips-copied (xs-copied (ys-copied (stored c .before)))
+
 same-length : tie.Need-same-length
-same-length c = c .before .before .before .before .before .before .before .before .sort-check-and-store .kept .1 .0 ∙ c .before .before .before .before .before .before .before .before .before .before .before .before .before .before .before .before .before .before .before .before .before .before .before .before .before .before .before .copy .kept .1 .0
+same-length c = stored c .sort-check-and-store .kept .1 .0 ∙ starts-copied (numbers-copied c) .copy .kept .1 .0
 
 same-length-2 : tie.Need-same-length-2
-same-length-2 c = c .before .before .before .before .before .before .before .before .sort-check-and-store .kept .1 .1 .0 ∙ c .before .before .before .before .before .before .before .before .before .before .before .before .before .before .before .before .before .before .before .before .before .before .before .copy-clips .kept .1 .1 .0
+same-length-2 c = stored c .sort-check-and-store .kept .1 .1 .0 ∙ numbers-copied c .copy-clips .kept .1 .0
 
 same-length-3 : tie.Need-same-length-3
 same-length-3 c = search needs
@@ -54,15 +84,14 @@ same-length-4 c = search needs
 
 returns : tie.Need-returns
 returns c =
-    let s = c .before .before .before .before .before .before .before .before .before .before .before .before .before .before .before .before .before .before .before .before .before .before .before .before .before .before .before .before .before .before .before .before .before .before .before .before .before .before in
-    let a = s .args in
-    let t = c .before .before .before .before .before .before .before .before .before .before .before .before .before .before .before .before .before .before .before .before .before .before .before .before .before .before .before .copy in
-    let i = c .before .before .before .before .before .before .before .before .before .before .before .before .before .before .before .before .before .before .before .before .before .before .before .copy-clips in
-    let x = c .before .before .before .before .before .before .before .before .before .before .before .before .before .before .before .before .before .before .before .copy2 in
-    let y = c .before .before .before .before .before .before .before .before .before .before .before .before .before .before .before .copy3 in
-    let r = c .before .before .before .before .before .before .before .before .sort-check-and-store in
+    let y = ys-copied (stored c .before) .copy3 in
+    let x = xs-copied (ys-copied (stored c .before)) .copy2 in
+    let i = numbers-copied c .copy-clips in
+    let t = starts-copied (numbers-copied c) .copy in
+    let r = stored c .sort-check-and-store in
+    let a = entry (starts-copied (numbers-copied c)) .args in
     subst (λ (set : Definitions.ClipSet). Stores set (r .result))
-    (explicit-is (a .clips) (now (a .starts)) (t .last .1 .0) (now (a .numbers)) (i .last .1 .1 .0) (now (a .xs)) (x .last .1 .0) (now (a .ys)) (y .last .1 .0) (now (a .blocks)) (a .manifest) (t .ensures) (i .ensures) (x .ensures) (y .ensures))
+    (explicit-is (a .clips) (now (a .starts)) (t .last .1 .0) (now (a .numbers)) (i .last .1 .0) (now (a .xs)) (x .last .1 .0) (now (a .ys)) (y .last .1 .0) (now (a .blocks)) (a .manifest) (t .ensures) (i .ensures) (x .ensures) (y .ensures))
     (r .ensures)
 
 pub parse-lists-spec : {M : Type 1} → statement M

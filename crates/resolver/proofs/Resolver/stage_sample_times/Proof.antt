@@ -9,12 +9,20 @@ use Rattle.definitions.specs.Samples.{Samples}
 use Rattle.definitions.specs.StageSamples.{stageSampleTimes}
 use Rattle.definitions.specs.Questions.{askStageSampleTimes, roomNumber}
 use Rattle.laws.specs.cell.Lent.{samplesOf}
+use Rattle.standing.proofs.Asked.{times-asked, times-are}
 use Rattle.resolver.proofs.Laws.{asked-20, judged-number, samples-refused, samples-passed, times-refused, times-replied, lent-is, is-asked}
 use Rattle.resolver.proofs.Resolver.stage_sample_times.Statement.{statement}
 use Rattle.resolver.proofs.Resolver.stage_sample_times.Tie as tie
 
 abbrev lent : tie.Start → Samples
 lent s = samplesOf (now (s .args .times)) (now (s .args .values)) (now (s .args .marks)) (now (s .args .ends))
+
+abbrev entry : tie.Else2 → tie.Start
+entry p = p .before .before .before .before .before .before .before .before
+
+-- where the samples are accepted, from where they are lent on
+abbrev passed : tie.After-stage-sample-times-arg10 → tie.Else2
+passed c = c .before .before .before .before .before .before .before .before .before .before .before
 
 refused-list-requires : tie.Need-refused-list-requires
 refused-list-requires c κs = search needs
@@ -41,9 +49,9 @@ returns-2 c =
 
 stage-sample-times-requires : tie.Need-stage-sample-times-requires
 stage-sample-times-requires c κs =
-    let p = c .before .before .before .before .before .before .before .before .before .before .before .before .before .before in
-    let s = p .before .before .before .before .before .before .before .before in
-    is-asked (s .args .t1) (s .pre) (not-false _ (p .before .before .if1 .left)) (p .before .samples-number .ensures) (p .if2 .left)
+    let p = passed c in
+    let s = entry p in
+    times-asked (is-asked (s .args .t1) (s .pre) (not-false _ (p .before .before .if1 .left)) (p .before .samples-number .ensures) (p .if2 .left))
 
 same-length : tie.Need-same-length
 same-length c = search needs
@@ -52,11 +60,12 @@ returns-3 : tie.Need-returns-3
 unfolding askStageSampleTimes
 returns-3 c =
     let w = c .before .before in
-    let p = w .before .before .before .before .before .before .before .before .before .before .before .before .before .before .before in
-    let s = p .before .before .before .before .before .before .before .before in
+    let p = passed (w .before) in
+    let s = entry p in
     let stands = not-false _ (p .before .before .if1 .left) in
     times-replied (s .args .t1) (lent s) _ _ _ _ _
-    (ap (λ (x : ClipSet). stageSampleTimes x (lent s)) (lent-is (s .args .t1) (s .pre) stands (p .before .samples-number .ensures) (p .if2 .left)))
+    (times-are (is-asked (s .args .t1) (s .pre) stands (p .before .samples-number .ensures) (p .if2 .left))
+    ∙ ap (λ (x : ClipSet). stageSampleTimes x (lent s)) (lent-is (s .args .t1) (s .pre) stands (p .before .samples-number .ensures) (p .if2 .left)))
     (w .stage-sample-times .ensures)
     (samples-passed (lent s) (λ (x : ClipSet). roomNumber (length (now (s .args .out))) (length (stageSampleTimes x (lent s)))) (λ (x : ClipSet). stageSampleTimes x (lent s)) (s .args .t1) stands (sym (judged-number (s .args .t1) (p .before .samples-number .ensures)) ∙ p .if2 .left))
 

@@ -10,12 +10,20 @@ use Rattle.definitions.specs.Samples.{Samples}
 use Rattle.definitions.specs.StageSamples.{stageSamples}
 use Rattle.definitions.specs.Questions.{askStageSamples, roomNumber}
 use Rattle.laws.specs.cell.Lent.{samplesOf}
+use Rattle.standing.proofs.Asked.{samples-asked, samples-are}
 use Rattle.resolver.proofs.Laws.{asked-20, judged-number, samples-refused, samples-passed, list-refused, list-replied, lent-is, is-asked}
 use Rattle.resolver.proofs.Resolver.stage_samples.Statement.{statement}
 use Rattle.resolver.proofs.Resolver.stage_samples.Tie as tie
 
 abbrev lent : tie.Start → Samples
 lent s = samplesOf (now (s .args .times)) (now (s .args .values)) (now (s .args .marks)) (now (s .args .ends))
+
+abbrev entry : tie.Else2 → tie.Start
+entry p = p .before .before .before .before .before .before .before .before .before
+
+-- where the samples are accepted, from where they are lent on
+abbrev passed : tie.After-stage-samples-arg12 → tie.Else2
+passed c = c .before .before .before .before .before .before .before .before .before .before .before .before .before
 
 refused-list-requires : tie.Need-refused-list-requires
 refused-list-requires c κs = search needs
@@ -42,9 +50,9 @@ returns-2 c =
 
 stage-samples-requires : tie.Need-stage-samples-requires
 stage-samples-requires c κs =
-    let p = c .before .before .before .before .before .before .before .before .before .before .before .before .before .before .before in
-    let s = p .before .before .before .before .before .before .before .before .before in
-    is-asked (s .args .t1) (s .pre) (not-false _ (p .before .before .if1 .left)) (p .before .samples-number .ensures) (p .if2 .left)
+    let p = passed c in
+    let s = entry p in
+    samples-asked (is-asked (s .args .t1) (s .pre) (not-false _ (p .before .before .if1 .left)) (p .before .samples-number .ensures) (p .if2 .left))
 
 same-length : tie.Need-same-length
 same-length c = search needs
@@ -56,11 +64,13 @@ returns-3 : tie.Need-returns-3
 unfolding askStageSamples
 returns-3 c =
     let w = c .before .before .before .before in
-    let p = w .before .before .before .before .before .before .before .before .before .before .before .before .before .before .before .before in
-    let s = p .before .before .before .before .before .before .before .before .before in
+    let p = passed (w .before) in
+    let s = entry p in
+    let set = s .args .t1 .set in
     let stands = not-false _ (p .before .before .if1 .left) in
     list-replied (s .args .t1) (lent s) _ _ _ _ _ _ _
-    (ap (λ (x : ClipSet). stageSamples x (lent s)) (lent-is (s .args .t1) (s .pre) stands (p .before .samples-number .ensures) (p .if2 .left)))
+    (samples-are (set .counts) (set .starts) (set .numbers) (set .xs) (set .ys) (set .blocks) (set .manifest) (now (s .args .ends)) (lent s)
+    ∙ ap (λ (x : ClipSet). stageSamples x (lent s)) (lent-is (s .args .t1) (s .pre) stands (p .before .samples-number .ensures) (p .if2 .left)))
     (w .stage-samples .ensures)
     (samples-passed (lent s) (λ (x : ClipSet). roomNumber (min (length (now (s .args .outtimes))) (length (now (s .args .outmarks)))) (length (stageSamples x (lent s)))) (λ (x : ClipSet). stageSamples x (lent s)) (s .args .t1) stands (sym (judged-number (s .args .t1) (p .before .samples-number .ensures)) ∙ p .if2 .left))
 

@@ -11,8 +11,8 @@ use borrow.Author.Needs.{needs}
 use Rattle.stage.proofs.mark.supplied_at.Statement.{statement}
 use Rattle.stage.proofs.mark.supplied_at.Tie as tie
 
-abbrev entry : tie.After-shared-slice-known9 → tie.Start
-entry k = k .before .before .before .before .before .before .before .before .before
+abbrev entry : tie.After-shared-slice-known8 → tie.Start
+entry k = k .before .before .before .before .before .before .before .before
 
 gap-mark-requires : tie.Need-gap-mark-requires
 gap-mark-requires c κs = search needs

@@ -8,29 +8,29 @@ use lib.Ieee.{nan}
 use denote.Ref.{now}
 use Rattle.definitions.specs.ClipSet.{ClipSet}
 use Rattle.definitions.specs.Samples.{Samples}
-use Rattle.laws.specs.cell.Lent.{setOf, samplesOf}
-use Rattle.stage.specs.Marks.{marksAt}
+use Rattle.laws.specs.cell.Lent.{samplesOf}
+use Rattle.stage.specs.Marks.{unblocked, marksAt}
 use Rattle.stage.proofs.Marks.{marks-front, marks-end}
 use Rattle.stage.proofs.Writing.{Wrote, wrote-start, wrote-on, wrote-end, wrote-rest}
 use Rattle.stage.proofs.mark.write_marks.Statement.{statement}
 use Rattle.stage.proofs.mark.write_marks.Tie as tie
 
 abbrev Inv-loop : tie.InvT-loop
-Inv-loop starts clips xs ys blocks m times values marks ends at out₀ i₀ out i =
+Inv-loop starts clips xs ys m times values marks ends at out₀ i₀ out i =
     (i ≤ length at)
-    × Wrote (marksAt (setOf (length ends) starts clips xs ys blocks m) (samplesOf times values marks ends) at) (marksAt (setOf (length ends) starts clips xs ys blocks m) (samplesOf times values marks ends) (drop i at)) out₀ out i
+    × Wrote (marksAt (unblocked starts clips xs ys m ends) (samplesOf times values marks ends) at) (marksAt (unblocked starts clips xs ys m ends) (samplesOf times values marks ends) (drop i at)) out₀ out i
 
 abbrev μ-loop : tie.MeasureT-loop
-μ-loop starts clips xs ys blocks m times values marks ends at out₀ i₀ out i = length at - i
+μ-loop starts clips xs ys m times values marks ends at out₀ i₀ out i = length at - i
 
 loop-holds : tie.Need-loop-holds Inv-loop μ-loop
 loop-holds c = (omega arith, wrote-start _ _)
 
 abbrev entry : tie.At-loop Inv-loop μ-loop → tie.Start Inv-loop μ-loop
-entry k = k .before .before .before .before .before .before .before .before .before .before .before .before
+entry k = k .before .before .before .before .before .before .before .before .before .before .before
 
 abbrev set : tie.Start Inv-loop μ-loop → ClipSet
-set s = setOf (length (now (s .args .ends))) (now (s .args .starts)) (now (s .args .clips)) (now (s .args .xs)) (now (s .args .ys)) (now (s .args .blocks)) (s .args .m)
+set s = unblocked (now (s .args .starts)) (now (s .args .clips)) (now (s .args .xs)) (now (s .args .ys)) (s .args .m) (now (s .args .ends))
 
 abbrev lent : tie.Start Inv-loop μ-loop → Samples
 lent s = samplesOf (now (s .args .times)) (now (s .args .values)) (now (s .args .marks)) (now (s .args .ends))
@@ -40,7 +40,7 @@ room : (c : tie.In-loop Inv-loop μ-loop) → c .before .loop .i < length (c .be
 room c = omega (arith, c .before .loop .inv .1 .long, entry (c .before) .pre .1, c .loop-test .taken)
 
 mul-t : tie.Need-mul-t Inv-loop μ-loop
-mul-t c = omega (arith, c .loop-test .taken, entry (c .before) .good .1 .1 .1 .1 .1 .1 .1 .1 .1 .1 .0)
+mul-t c = omega (arith, c .loop-test .taken, entry (c .before) .good .1 .1 .1 .1 .1 .1 .1 .1 .1 .0)
 
 shared-slice-read-t : tie.Need-shared-slice-read-t Inv-loop μ-loop
 shared-slice-read-t c = c .before .loop-test .taken
@@ -52,7 +52,7 @@ slice-write-out : tie.Need-slice-write-out Inv-loop μ-loop
 slice-write-out c = room (c .before .before)
 
 add-i : tie.Need-add-i Inv-loop μ-loop
-add-i c = omega (arith, c .before .before .loop-test .taken, entry (c .before .before .before) .good .1 .1 .1 .1 .1 .1 .1 .1 .1 .1 .0)
+add-i c = omega (arith, c .before .before .loop-test .taken, entry (c .before .before .before) .good .1 .1 .1 .1 .1 .1 .1 .1 .1 .0)
 
 loop-less : tie.Need-loop-less Inv-loop μ-loop
 loop-less c = omega (arith, c .before .before .loop-test .taken)

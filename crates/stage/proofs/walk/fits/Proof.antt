@@ -7,10 +7,8 @@ use lib.ListN.{length}
 use lib.Ieee.{Float, ofBits, neg}
 use denote.Ref.{now}
 use Rattle.definitions.specs.Doubles.{FiniteDouble}
-use Rattle.definitions.specs.StageSamples.{stageSampleTimes}
-use Rattle.laws.specs.cell.Lent.{setOf, samplesOf}
 use Rattle.window.specs.declared.Bound.{Bound}
-use Rattle.stage.specs.Times.{stageAfter, NextTime}
+use Rattle.stage.specs.Times.{timesOf, timesAfter, NextTime}
 use Rattle.stage.proofs.Times.{before-finite, times-all}
 use Rattle.stage.proofs.Writing.{count-done, count-over, count-on}
 use borrow.Author.Needs.{needs}
@@ -18,30 +16,30 @@ use Rattle.stage.proofs.walk.fits.Statement.{statement}
 use Rattle.stage.proofs.walk.fits.Tie as tie
 
 abbrev Inv-loop : tie.InvT-loop
-Inv-loop starts clips xs ys blocks m times values marks ends latest room t₀ count₀ place₀ knot₀ sample₀ t count place knot sample =
+Inv-loop starts clips xs ys times ends latest room t₀ count₀ place₀ knot₀ sample₀ t count place knot sample =
     FiniteDouble t × (count ≤ room)
-    × (length (stageSampleTimes (setOf (length ends) starts clips xs ys blocks m) (samplesOf times values marks ends)) ≡ count + length (stageAfter (setOf (length ends) starts clips xs ys blocks m) (samplesOf times values marks ends) t))
+    × (length (timesOf starts clips xs ys times ends) ≡ count + length (timesAfter starts clips xs ys times ends t))
 
 abbrev μ-loop : tie.MeasureT-loop
-μ-loop starts clips xs ys blocks m times values marks ends latest room t₀ count₀ place₀ knot₀ sample₀ t count place knot sample = room - count
+μ-loop starts clips xs ys times ends latest room t₀ count₀ place₀ knot₀ sample₀ t count place knot sample = room - count
 
 abbrev entry : tie.At-loop Inv-loop μ-loop → tie.Start Inv-loop μ-loop
-entry k = k .before .before .before .before .before .before .before .before .before .before .before
+entry k = k .before .before .before .before .before .before .before .before
 
 -- all stage sample times, and those above t
 abbrev all : tie.Start Inv-loop μ-loop → List Float
-all s = stageSampleTimes (setOf (length (now (s .args .ends))) (now (s .args .starts)) (now (s .args .clips)) (now (s .args .xs)) (now (s .args .ys)) (now (s .args .blocks)) (s .args .m)) (samplesOf (now (s .args .times)) (now (s .args .values)) (now (s .args .marks)) (now (s .args .ends)))
+all s = timesOf (now (s .args .starts)) (now (s .args .clips)) (now (s .args .xs)) (now (s .args .ys)) (now (s .args .times)) (now (s .args .ends))
 
 abbrev above : tie.Start Inv-loop μ-loop → Float → List Float
-above s t = stageAfter (setOf (length (now (s .args .ends))) (now (s .args .starts)) (now (s .args .clips)) (now (s .args .xs)) (now (s .args .ys)) (now (s .args .blocks)) (s .args .m)) (samplesOf (now (s .args .times)) (now (s .args .values)) (now (s .args .marks)) (now (s .args .ends))) t
+above s t = timesAfter (now (s .args .starts)) (now (s .args .clips)) (now (s .args .xs)) (now (s .args .ys)) (now (s .args .times)) (now (s .args .ends)) t
 
 loop-holds : tie.Need-loop-holds Inv-loop μ-loop
 unfolding ofBits neg
-loop-holds c = let R = c .before .before .before .before .before .before .before .before .before .before .pre .0 in (before-finite, omega arith, omega (arith, ap length (times-all R)))
+loop-holds c = let R = c .before .before .before .before .before .before .before .pre .0 in (before-finite, omega arith, omega (arith, ap length (times-all R)))
 
 -- what the next time is
-next-is : (k : tie.After-next-time Inv-loop μ-loop) (b : Bound) → k .next-time .result .time ≡ b
-    → NextTime (setOf (length (now (entry (k .before) .args .ends))) (now (entry (k .before) .args .starts)) (now (entry (k .before) .args .clips)) (now (entry (k .before) .args .xs)) (now (entry (k .before) .args .ys)) (now (entry (k .before) .args .blocks)) (entry (k .before) .args .m)) (samplesOf (now (entry (k .before) .args .times)) (now (entry (k .before) .args .values)) (now (entry (k .before) .args .marks)) (now (entry (k .before) .args .ends))) (k .before .loop .t) b
+next-is : (k : tie.After-next-time Inv-loop μ-loop) (b : Bound) → k .next-time .result .time ≡ b → let s = entry (k .before) in
+    NextTime (now (s .args .starts)) (now (s .args .clips)) (now (s .args .xs)) (now (s .args .ys)) (now (s .args .times)) (now (s .args .ends)) (k .before .loop .t) b
 next-is k b e = rw e at (k .next-time .ensures)
 
 next-time-requires : tie.Need-next-time-requires Inv-loop μ-loop

@@ -7,10 +7,8 @@ use lib.ListN.{length}
 use lib.Ieee.{ofBits, neg}
 use denote.Ref.{now}
 use Rattle.definitions.specs.Doubles.{FiniteDouble}
-use Rattle.definitions.specs.StageSamples.{stageSampleTimes}
-use Rattle.laws.specs.cell.Lent.{setOf, samplesOf}
 use Rattle.window.specs.declared.Bound.{Bound}
-use Rattle.stage.specs.Times.{stageAfter, NextTime}
+use Rattle.stage.specs.Times.{timesOf, timesAfter, NextTime}
 use Rattle.stage.proofs.Times.{before-finite, times-all}
 use Rattle.stage.proofs.Writing.{Wrote, wrote-start, wrote-room, wrote-on, wrote-end, wrote-rest}
 use borrow.Author.Needs.{needs}
@@ -18,25 +16,25 @@ use Rattle.stage.proofs.walk.write_times.Statement.{statement}
 use Rattle.stage.proofs.walk.write_times.Tie as tie
 
 abbrev Inv-loop : tie.InvT-loop
-Inv-loop starts clips xs ys blocks m times values marks ends latest out₀ t₀ count₀ place₀ knot₀ sample₀ out t count place knot sample =
+Inv-loop starts clips xs ys times ends latest out₀ t₀ count₀ place₀ knot₀ sample₀ out t count place knot sample =
     FiniteDouble t
-    × Wrote (stageSampleTimes (setOf (length ends) starts clips xs ys blocks m) (samplesOf times values marks ends)) (stageAfter (setOf (length ends) starts clips xs ys blocks m) (samplesOf times values marks ends) t) out₀ out count
+    × Wrote (timesOf starts clips xs ys times ends) (timesAfter starts clips xs ys times ends t) out₀ out count
 
 abbrev μ-loop : tie.MeasureT-loop
-μ-loop starts clips xs ys blocks m times values marks ends latest out₀ t₀ count₀ place₀ knot₀ sample₀ out t count place knot sample = length out₀ - count
+μ-loop starts clips xs ys times ends latest out₀ t₀ count₀ place₀ knot₀ sample₀ out t count place knot sample = length out₀ - count
 
 abbrev entry : tie.At-loop Inv-loop μ-loop → tie.Start Inv-loop μ-loop
-entry k = k .before .before .before .before .before .before .before .before .before .before .before .before
+entry k = k .before .before .before .before .before .before .before .before .before
 
 loop-holds : tie.Need-loop-holds Inv-loop μ-loop
 unfolding ofBits neg
 loop-holds c =
-    let s = c .before .before .before .before .before .before .before .before .before .before .before in
+    let s = c .before .before .before .before .before .before .before .before in
     (before-finite, wrote-rest _ _ _ 0 _ _ (sym (times-all (s .pre .0))) (wrote-start _ _))
 
 -- what the next time is
-next-is : (k : tie.After-next-time Inv-loop μ-loop) (b : Bound) → k .next-time .result .time ≡ b
-    → NextTime (setOf (length (now (entry (k .before) .args .ends))) (now (entry (k .before) .args .starts)) (now (entry (k .before) .args .clips)) (now (entry (k .before) .args .xs)) (now (entry (k .before) .args .ys)) (now (entry (k .before) .args .blocks)) (entry (k .before) .args .m)) (samplesOf (now (entry (k .before) .args .times)) (now (entry (k .before) .args .values)) (now (entry (k .before) .args .marks)) (now (entry (k .before) .args .ends))) (k .before .loop .t) b
+next-is : (k : tie.After-next-time Inv-loop μ-loop) (b : Bound) → k .next-time .result .time ≡ b → let s = entry (k .before) in
+    NextTime (now (s .args .starts)) (now (s .args .clips)) (now (s .args .xs)) (now (s .args .ys)) (now (s .args .times)) (now (s .args .ends)) (k .before .loop .t) b
 next-is k b e = rw e at (k .next-time .ensures)
 
 next-time-requires : tie.Need-next-time-requires Inv-loop μ-loop
@@ -58,9 +56,8 @@ returns c =
     wrote-end _ _ (k .loop .out) (k .loop .count) (wrote-rest _ _ _ _ _ _ (next-is n _ (c .enum-told .given .1)) (k .loop .inv .1))
 
 -- with the next time in front of what is left
-left : (c : tie.After-known-told Inv-loop μ-loop) → let k = c .before .before .before .before in let s = entry k in
-    Wrote (stageSampleTimes (setOf (length (now (s .args .ends))) (now (s .args .starts)) (now (s .args .clips)) (now (s .args .xs)) (now (s .args .ys)) (now (s .args .blocks)) (s .args .m)) (samplesOf (now (s .args .times)) (now (s .args .values)) (now (s .args .marks)) (now (s .args .ends))))
-    (c .before .time .given .0 .0 ∷ stageAfter (setOf (length (now (s .args .ends))) (now (s .args .starts)) (now (s .args .clips)) (now (s .args .xs)) (now (s .args .ys)) (now (s .args .blocks)) (s .args .m)) (samplesOf (now (s .args .times)) (now (s .args .values)) (now (s .args .marks)) (now (s .args .ends))) (c .before .time .given .0 .0))
+left : (c : tie.After-known-told Inv-loop μ-loop) → let k = c .before .before .before .before in let s = entry k in let h = c .before .time .given .0 .0 in
+    Wrote (timesOf (now (s .args .starts)) (now (s .args .clips)) (now (s .args .xs)) (now (s .args .ys)) (now (s .args .times)) (now (s .args .ends))) (h ∷ timesAfter (now (s .args .starts)) (now (s .args .clips)) (now (s .args .xs)) (now (s .args .ys)) (now (s .args .times)) (now (s .args .ends)) h)
     (now (s .args .out)) (k .loop .out) (k .loop .count)
 left c =
     let n = c .before .before .before in
@@ -72,7 +69,7 @@ room c = let k = c .before .before .before .before in wrote-room _ _ (k .loop .o
 mul-out : tie.Need-mul-out Inv-loop μ-loop
 mul-out c =
     let k = c .before .before .before .before in
-    omega (arith, room c, k .loop .inv .1 .long, entry k .good .1 .1 .1 .1 .1 .1 .1 .1 .1 .1 .1 .0)
+    omega (arith, room c, k .loop .inv .1 .long, entry k .good .1 .1 .1 .1 .1 .1 .1 .0)
 
 slice-write-out : tie.Need-slice-write-out Inv-loop μ-loop
 slice-write-out c = room c
@@ -80,7 +77,7 @@ slice-write-out c = room c
 add-count : tie.Need-add-count Inv-loop μ-loop
 add-count c =
     let k = c .before .before .before .before in
-    omega (arith, room c, k .loop .inv .1 .long, entry k .good .1 .1 .1 .1 .1 .1 .1 .1 .1 .1 .1 .0)
+    omega (arith, room c, k .loop .inv .1 .long, entry k .good .1 .1 .1 .1 .1 .1 .1 .0)
 
 loop-less : tie.Need-loop-less Inv-loop μ-loop
 loop-less c = let h = room c in let e = c .before .before .before .before .loop .inv .1 .long in omega arith

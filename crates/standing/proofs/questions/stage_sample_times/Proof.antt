@@ -17,9 +17,6 @@ slice-aggregate-stage-sample-times-3 c = search (needs, front)
 slice-aggregate-stage-sample-times-4 : tie.Need-slice-aggregate-stage-sample-times-4
 slice-aggregate-stage-sample-times-4 c = search (needs, front)
 
-slice-aggregate-stage-sample-times-5 : tie.Need-slice-aggregate-stage-sample-times-5
-slice-aggregate-stage-sample-times-5 c = search (needs, front)
-
 stage-sample-times-requires : tie.Need-stage-sample-times-requires
 stage-sample-times-requires c κs = search needs
 
@@ -40,7 +37,6 @@ stage-sample-times-spec =
     slice-aggregate-stage-sample-times-2
     slice-aggregate-stage-sample-times-3
     slice-aggregate-stage-sample-times-4
-    slice-aggregate-stage-sample-times-5
     stage-sample-times-requires
     counted-requires
     same-length

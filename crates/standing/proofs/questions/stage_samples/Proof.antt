@@ -17,9 +17,6 @@ slice-aggregate-stage-samples-3 c = search (needs, front)
 slice-aggregate-stage-samples-4 : tie.Need-slice-aggregate-stage-samples-4
 slice-aggregate-stage-samples-4 c = search (needs, front)
 
-slice-aggregate-stage-samples-5 : tie.Need-slice-aggregate-stage-samples-5
-slice-aggregate-stage-samples-5 c = search (needs, front)
-
 stage-samples-requires : tie.Need-stage-samples-requires
 stage-samples-requires c κs = search needs
 
@@ -43,7 +40,6 @@ stage-samples-spec =
     slice-aggregate-stage-samples-2
     slice-aggregate-stage-samples-3
     slice-aggregate-stage-samples-4
-    slice-aggregate-stage-samples-5
     stage-samples-requires
     counted-requires
     same-length
