@@ -39,6 +39,8 @@ use Rattle.cell.specs.step.Lines.{lineIs}
 use Rattle.window.specs.declared.search.Window.{Window}
 use Rattle.window.specs.declared.search.NeighboursAndHints.{NeighboursAndHints}
 use Rattle.window.specs.neighbours.Windowed.{samplesIn, windowTimes, windowSource, boundsOf}
+use Rattle.value.specs.Jumps.{jumpIn}
+use Rattle.value.proofs.Jumps.{jump-by-x}
 use Rattle.value.specs.WindowOf.{WindowIs}
 use Rattle.value.proofs.WindowOf.{window-gathered, window-held}
 use Rattle.cell.specs.declared.Cell.{Cell}
@@ -214,12 +216,12 @@ module _ {starts : List Float} {clips : List ℕ} {xs ys blocks : List Float} {m
         U : IsUpper (gathered ready lent (activePosition (ready .active) (stage t))) t h
         U = subst (λ (k : List Float). IsUpper k t h) window u
 
-        jumping : (b : Bool) → jump (knotsOf xs ys) l h ≡ b → jump (ready .knots) l h ≡ b
+        jumping : (b : Bool) → jumpIn xs l h ≡ b → jump (ready .knots) l h ≡ b
         unfolding setOf
-        jumping b e = e
+        jumping b e = jump-by-x l h xs ys (R .knots-paired) ∙ e
 
         piece-jump : (c : Cell) → DirectIs (setOf (length ends) starts clips xs ys blocks m) (samplesOf times values marks ends) t c
-            → jump (knotsOf xs ys) l h ≡ true
+            → jumpIn xs l h ≡ true
             → CellAndEndIs (setOf (length ends) starts clips xs ys blocks m) (samplesOf times values marks ends) t c (At h)
         piece-jump c d j = record {
           is = d .is ∙ sym (cell-jump ready lent (sound R) (samples R) two t (ft .fitting) l h L U (jumping true j));
@@ -228,7 +230,7 @@ module _ {starts : List Float} {clips : List ℕ} {xs ys blocks : List Float} {m
         }
 
         piece-held : (r : Source) → r ≡ directSource (setOf (length ends) starts clips xs ys blocks m) (samplesOf times values marks ends) (stage l)
-            → jump (knotsOf xs ys) l h ≡ false
+            → jumpIn xs l h ≡ false
             → CellAndEndIs (setOf (length ends) starts clips xs ys blocks m) (samplesOf times values marks ends) t (Constant r) (At h)
         piece-held r e j = record {
           is = ap Cells.constant e ∙ sym (cell-held ready lent (sound R) (samples R) two t (ft .fitting) l h L U (jumping false j));
@@ -239,31 +241,31 @@ module _ {starts : List Float} {clips : List ℕ} {xs ys blocks : List Float} {m
     -- by the neighbours
 
     module _ (n : Neighbours) (N : NeighboursAre (gathered (setOf (length ends) starts clips xs ys blocks m) (samplesOf times values marks ends) p) t n) where
-      pub piece-direct : (c : Cell) → heldOf (knotsOf xs ys) (n .lower) (n .upper) ≡ Nothing → DirectIs (setOf (length ends) starts clips xs ys blocks m) (samplesOf times values marks ends) t c
+      pub piece-direct : (c : Cell) → heldOf xs (n .lower) (n .upper) ≡ Nothing → DirectIs (setOf (length ends) starts clips xs ys blocks m) (samplesOf times values marks ends) t c
           → CellAndEndIs (setOf (length ends) starts clips xs ys blocks m) (samplesOf times values marks ends) t c (n .upper)
       piece-direct c e d = go (n .lower) (n .upper) (N .lower) (N .upper) e
         where
-          go : (l h : Bound) → LowerIs (gathered ready lent p) t l → UpperIs (gathered ready lent p) t h → heldOf (knotsOf xs ys) l h ≡ Nothing → CellAndEndIs ready lent t c h
+          go : (l h : Bound) → LowerIs (gathered ready lent p) t l → UpperIs (gathered ready lent p) t h → heldOf xs l h ≡ Nothing → CellAndEndIs ready lent t c h
           go Nothing Nothing w u q = piece-last c d u
           go Nothing (At h) w u q = piece-below h u c d w
           go (At l) Nothing w u q = piece-last c d u
-          go (At l) (At h) w u q = piece-jump h u l w c d (jumped (jump (knotsOf xs ys) l h) q)
+          go (At l) (At h) w u q = piece-jump h u l w c d (jumped (jumpIn xs l h) q)
             where
               jumped : (b : Bool) → cond b Nothing (At l) ≡ Nothing → b ≡ true
               jumped true q = refl
               jumped false q = let z : _≡_ {A = ℕ} 0 1 = cc in absurd (omega arith)
 
-      pub piece-constant : (f : Float) (r : Source) → heldOf (knotsOf xs ys) (n .lower) (n .upper) ≡ At f → r ≡ directSource (setOf (length ends) starts clips xs ys blocks m) (samplesOf times values marks ends) (stage f)
+      pub piece-constant : (f : Float) (r : Source) → heldOf xs (n .lower) (n .upper) ≡ At f → r ≡ directSource (setOf (length ends) starts clips xs ys blocks m) (samplesOf times values marks ends) (stage f)
           → CellAndEndIs (setOf (length ends) starts clips xs ys blocks m) (samplesOf times values marks ends) t (Constant r) (n .upper)
       piece-constant f r e d = go (n .lower) (n .upper) (N .lower) (N .upper) e
         where
           none-held : Nothing ≡ At f → ⊥
           none-held q = let z : _≡_ {A = ℕ} 0 1 = cc in absurd (omega arith)
 
-          go : (l h : Bound) → LowerIs (gathered ready lent p) t l → UpperIs (gathered ready lent p) t h → heldOf (knotsOf xs ys) l h ≡ At f → CellAndEndIs ready lent t (Constant r) h
+          go : (l h : Bound) → LowerIs (gathered ready lent p) t l → UpperIs (gathered ready lent p) t h → heldOf xs l h ≡ At f → CellAndEndIs ready lent t (Constant r) h
           go Nothing h w u q = absurd (none-held q)
           go (At l) Nothing w u q = absurd (none-held q)
-          go (At l) (At h) w u q = let k = held (jump (knotsOf xs ys) l h) q in piece-held h u l w r (d ∙ ap (λ (x : Float). directSource ready lent (stage x)) (sym (k .1))) (k .0)
+          go (At l) (At h) w u q = let k = held (jumpIn xs l h) q in piece-held h u l w r (d ∙ ap (λ (x : Float). directSource ready lent (stage x)) (sym (k .1))) (k .0)
             where
               held : (b : Bool) → cond b Nothing (At l) ≡ At f → (b ≡ false) × (l ≡ f)
               held true q = absurd (none-held q)
@@ -275,11 +277,11 @@ module _ {starts : List Float} {clips : List ℕ} {xs ys blocks : List Float} {m
       among : NeighboursAre (gathered ready lent p) t (boundsOf n)
       among = subst (λ (l : List Float). NeighboursAre l t (boundsOf n)) (sym (window-gathered R p w W)) N
 
-      pub near-direct : (c : Cell) → heldOf (knotsOf xs ys) (n .lower) (n .upper) ≡ Nothing → DirectIs (setOf (length ends) starts clips xs ys blocks m) (samplesOf times values marks ends) t c
+      pub near-direct : (c : Cell) → heldOf xs (n .lower) (n .upper) ≡ Nothing → DirectIs (setOf (length ends) starts clips xs ys blocks m) (samplesOf times values marks ends) t c
           → CellAndEndIs (setOf (length ends) starts clips xs ys blocks m) (samplesOf times values marks ends) t c (n .upper)
       near-direct c e d = piece-direct (boundsOf n) among c e d
 
-      pub near-held : (f : Float) (r : Source) → heldOf (knotsOf xs ys) (n .lower) (n .upper) ≡ At f → r ≡ windowSource xs ys times w f
+      pub near-held : (f : Float) (r : Source) → heldOf xs (n .lower) (n .upper) ≡ At f → r ≡ windowSource xs ys times w f
           → CellAndEndIs (setOf (length ends) starts clips xs ys blocks m) (samplesOf times values marks ends) t (Constant r) (n .upper)
       near-held f r e q = piece-constant (boundsOf n) among f r e (q ∙ sym (window-held R p w W t at (ft .fitting) f (lower (n .lower) (n .upper) e (among .lower))))
         where
@@ -290,7 +292,7 @@ module _ {starts : List Float} {clips : List ℕ} {xs ys blocks : List Float} {m
           picked true l z = differ z
           picked false l z = cc
 
-          lower : (l h : Bound) → heldOf (knotsOf xs ys) l h ≡ At f → LowerIs (gathered ready lent p) t l → IsLower (gathered ready lent p) t f
+          lower : (l h : Bound) → heldOf xs l h ≡ At f → LowerIs (gathered ready lent p) t l → IsLower (gathered ready lent p) t f
           lower Nothing h z L = differ z
           lower (At l) Nothing z L = differ z
-          lower (At l) (At h) z L = subst (IsLower (gathered ready lent p) t) (picked (jump (knotsOf xs ys) l h) l z) L
+          lower (At l) (At h) z L = subst (IsLower (gathered ready lent p) t) (picked (jumpIn xs l h) l z) L

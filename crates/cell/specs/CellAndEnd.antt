@@ -5,15 +5,14 @@ use mathlib.Core.List.{List}
 use Prim.Native.Nat.{_<_}
 use lib.ListN.{length}
 use lib.Ieee.{Float}
-use Rattle.definitions.specs.declared.Knot.{Knot}
 use Rattle.definitions.specs.ClipSet.{ClipSet, stage}
 use Rattle.definitions.specs.Samples.{Samples, clipTimes}
-use Rattle.definitions.specs.Value.{jump}
 use Rattle.laws.specs.cell.Stretches.{boundaries}
 use Rattle.laws.specs.cell.Cells as Cells
 use Rattle.window.specs.declared.Bound.{Bound}
 use Rattle.window.specs.declared.Bound.the-variants.{At, Nothing}
 use Rattle.window.specs.Bounds.{UpperIs}
+use Rattle.value.specs.Jumps.{jumpIn}
 use Rattle.cell.specs.step.Lines.{lineIs}
 use Rattle.cell.specs.declared.Cell.{Cell}
 use Rattle.cell.specs.declared.Cell.the-variants.{Constant, Reading}
@@ -28,10 +27,10 @@ Sampled set s (Constant r) = Unit {0}
 Sampled set s (Reading c line) = (c < set .clips) × (0 < length (clipTimes s c))
 
 -- the time whose direct value is held between two neighbours, or none: the value is direct
-abbrev pub heldOf : List Knot → Bound → Bound → Bound
-heldOf knots Nothing upper = Nothing
-heldOf knots (At lower) Nothing = Nothing
-heldOf knots (At lower) (At upper) = cond (jump knots lower upper) Nothing (At lower)
+abbrev pub heldOf : List Float → Bound → Bound → Bound
+heldOf xs Nothing upper = Nothing
+heldOf xs (At lower) Nothing = Nothing
+heldOf xs (At lower) (At upper) = cond (jumpIn xs lower upper) Nothing (At lower)
 
 -- the cell of the direct reading at t
 pub record DirectIs (set : ClipSet) (s : Samples) (t : Float) (c : Cell) : Type 0 where

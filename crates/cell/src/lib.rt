@@ -96,10 +96,9 @@ fn direct_cell(
 
 // The time whose direct value is held between two neighbours: the lower one, unless one of them is
 // missing or two knots share an x between them.
-fn held_from(xs: &[f64], ys: &[f64], near: NeighboursAndHints) -> Bound
+fn held_from(xs: &[f64], near: NeighboursAndHints) -> Bound
     requires { ⌜ Ascending (now xs) ⌝ }
-    requires { ⌜ length (now xs) ≡ length (now ys) ⌝ }
-    ensures { λ r. ⌜ r ≡ heldOf (knotsOf (was xs) (was ys)) (near .lower) (near .upper) ⌝ }
+    ensures { λ r. ⌜ r ≡ heldOf (was xs) (near .lower) (near .upper) ⌝ }
 {
     let lower = near.lower;
     let upper = near.upper;
@@ -109,7 +108,7 @@ fn held_from(xs: &[f64], ys: &[f64], near: NeighboursAndHints) -> Bound
     let Bound::At(h) = upper else {
         return Bound::Nothing;
     };
-    if is_jump(xs, ys, l, h, near.knot) {
+    if is_jump(xs, l, h, near.knot) {
         return Bound::Nothing;
     }
     Bound::At(l)
@@ -184,7 +183,7 @@ pub fn cell_at(
         place.sample,
     );
     let upper = found.upper;
-    let Bound::At(l) = held_from(xs, ys, found) else {
+    let Bound::At(l) = held_from(xs, found) else {
         let cell = direct_cell(
             starts,
             clips,

@@ -54,7 +54,7 @@ neighbours-in-requires c κs =
     window-nears (a .pre .0) (a .args .place .start) (a .args .place .window) (window e) (a .args .t) (a .pre .1 .1 .0 .place (omega arith)) (a .pre .1 .1 .1) (a .args .latest .now) (a .pre .1 .0)
 
 held-from-requires : tie.Need-held-from-requires
-held-from-requires c κs = let a = entry (c .before .before .before) in (ready-readable (a .pre .0) .knots, a .pre .0 .knots-paired)
+held-from-requires c κs = let a = entry (c .before .before .before) in ready-readable (a .pre .0) .knots
 
 enum-known-l : tie.Need-enum-known-l
 enum-known-l c = search needs
