@@ -60,7 +60,7 @@ use Rattle.value.specs.Jumps.{jumpIn}
 use Rattle.value.specs.Values.{heldAt}
 use Rattle.value.proofs.Values.{value-in}
 use Rattle.cell.specs.declared.Cell.the-variants.{Constant, Reading}
-use Rattle.cell.specs.CellAndEnd.{Sampled}
+use Rattle.cell.proofs.CellsRead.{Sampled}
 use Rattle.track.specs.span.Runs.{part, readOn}
 use Rattle.track.specs.span.Knotless.{plainCell}
 use Rattle.track.proofs.span.Spans.{TurnsOn, Told}

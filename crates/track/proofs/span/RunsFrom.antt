@@ -59,9 +59,9 @@ use Rattle.value.proofs.WindowOf.{window-gathered}
 use Rattle.value.specs.RunsFrom.{RunFrom}
 use Rattle.value.proofs.RunsFrom.{HeldAt, nh, knot-low, run-held, run-first}
 use Rattle.cell.specs.declared.Cell.the-variants.{Constant}
-use Rattle.cell.specs.CellAndEnd.{heldOf, CellAndEndIs}
+use Rattle.cell.specs.CellAndEnd.{heldOf}
 use Rattle.cell.proofs.Lent.{sound, samples}
-use Rattle.cell.proofs.CellsRead.{piece-constant}
+use Rattle.cell.proofs.CellsRead.{CellAndEndIs, piece-constant}
 use Rattle.track.specs.span.Runs.{part}
 use Rattle.track.proofs.span.Spans.{part-length, part-at, source-on}
 
