@@ -25,8 +25,8 @@ untimed-answer-in-set-requires c κs = search needs
 returns : tie.Need-returns
 returns c = search needs
 
-pub untimed-answer-in-set-spec : {M : Type 1} → statement M
-untimed-answer-in-set-spec =
+pub untimed-spec : {M : Type 1} → statement M
+untimed-spec =
     tie.close
     (tie.spec
     slice-aggregate-untimed-answer-in-set
