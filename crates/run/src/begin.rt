@@ -63,7 +63,7 @@ fn last_before(cs: &[f64], s: Segment, ceil: f64) -> Bound
     if MOST < k {
         return Bound::Nothing;
     }
-    let n = crossing(cs, s, gf::of_key(k - 1), 0);
+    let n = crossing(cs, s.a.x, s.a.y, s.b.x, s.b.y, gf::of_key(k - 1), 0);
     let i = place_passed(s, n);
     if i < cs.len() {
         let c = cs[i];

@@ -101,7 +101,7 @@ pub fn fill_run(
 {
     let line = Line::Segment(s);
     let mut at = k;
-    let mut place = crossing(cs, s, gf::of_key(k), n);
+    let mut place = crossing(cs, s.a.x, s.a.y, s.b.x, s.b.y, gf::of_key(k), n);
     let mut held = last;
     let mut count = slot;
     loop {

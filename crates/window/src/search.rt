@@ -15,7 +15,7 @@ use latest::latest_before;
 use lists::segment::segment_at;
 ghost use mathlib.Core.Path.{_≡_};
 ghost use mathlib.Core.Bool.{true};
-ghost use Prim.Native.Nat.{_+_, _<_};
+ghost use Prim.Native.Nat.{_+_, _≤_, _<_};
 ghost use lib.ListN.{length};
 ghost use Rattle.definitions.specs.Timing.{lastAtMost};
 ghost use Rattle.definitions.specs.Moments.{was};
@@ -44,29 +44,34 @@ pub struct NeighboursAndHints {
     pub sample: usize,
 }
 
-// The neighbours of `t` with the inverse times of all samples in the segment from the knot at `j` on.
+// The neighbours of `t` with the inverse times of all samples in the segment from the knot at `j` on. The sample's hint moves.
 fn near_segment(
-    known: Neighbours,
+    known: NeighboursAndHints,
     xs: &[f64],
     ys: &[f64],
     cs: &[f64],
     j: usize,
     w: Interval,
     t: f64,
-    sample: usize,
 ) -> NeighboursAndHints
     requires { ⌜ Searchable (now xs) (now ys) (now cs) w t ⌝ ∗ ⌜ j + 1 < length (now xs) ⌝ }
-    ensures { λ r. ⌜ Searched t (timesOf w (was xs) (was ys) (was cs) j) known (boundsOf r) ⌝ }
+    ensures { λ r. ⌜ Searched t (timesOf w (was xs) (was ys) (was cs) j) (boundsOf known) (boundsOf r) ⌝ }
 {
     let s = segment_at(xs, ys, j);
-    let n = crossing(cs, s, t, sample);
-    let found = near_crossing(known, s, cs, n, w, t);
+    let n = crossing(cs, s.a.x, s.a.y, s.b.x, s.b.y, t, known.sample);
+    let low = known.lower;
+    let high = known.upper;
+    let both = Neighbours {
+        lower: low,
+        upper: high,
+    };
+    let found = near_crossing(both, s, cs, n, w, t);
     let lower = found.lower;
     let upper = found.upper;
     NeighboursAndHints {
         lower: lower,
         upper: upper,
-        knot: j,
+        knot: known.knot,
         sample: n,
     }
 }
@@ -81,40 +86,48 @@ fn is_past(lower: Bound, top: f64) -> bool
     false
 }
 
-// With those of the segments before the knot at `i`, until none can reach past the lower neighbour. That neighbour is not below the knot, so only by
-// rounding does one reach past it.
+// With those of the segments before the knot at `to`, from the last one down, until none can reach past the lower neighbour. That neighbour is not below the
+// knot at `i`, so only by rounding does one before it reach past it. `near_segment` is called at one place, and so compiled into the loop.
 fn near_before(
-    known: Neighbours,
+    known: NeighboursAndHints,
     xs: &[f64],
     ys: &[f64],
     latest: &[f64],
     cs: &[f64],
     i: usize,
+    to: usize,
     w: Interval,
     t: f64,
-    sample: usize,
-) -> Neighbours
+) -> NeighboursAndHints
     requires { ⌜ Searchable (now xs) (now ys) (now cs) w t ⌝ ∗ ⌜ LatestOf (now xs) (now ys) (now latest) ⌝ ∗ ⌜ i < length (now xs) ⌝ ∗ ⌜ i ≡ lastAtMost (now xs) t ⌝ }
-    ensures { λ r. ⌜ Reached t w (was xs) (was ys) (was cs) 0 i known r ⌝ }
+    requires { ⌜ to < length (now xs) ⌝ }
+    ensures { λ r. ⌜ Reached t w (was xs) (was ys) (was cs) 0 to (boundsOf known) (boundsOf r) ⌝ }
 {
     let mut r = known;
-    let mut j = i;
+    let mut j = to;
     while j > 0 {
-        let low = r.lower;
-        if is_past(low, latest_before(xs, ys, latest, j)) {
-            return r;
+        if j <= i {
+            let low = r.lower;
+            if is_past(low, latest_before(xs, ys, latest, j)) {
+                return r;
+            }
         }
-        let before = j - 1;
-        let found = near_segment(r, xs, ys, cs, before, w, t, sample);
-        let lower = found.lower;
-        let upper = found.upper;
-        r = Neighbours {
-            lower: lower,
-            upper: upper,
-        };
-        j = before;
+        j -= 1;
+        r = near_segment(r, xs, ys, cs, j, w, t);
     }
     r
+}
+
+// The place behind `i`, or `i` if it is the last.
+fn next_place(xs: &[f64], i: usize) -> usize
+    requires { ⌜ i < length (now xs) ⌝ }
+    ensures { λ r. ⌜ (i ≤ r) × (r < length (was xs)) × (i + 1 < length (was xs) → i < r) ⌝ }
+{
+    let next = i + 1;
+    if next < xs.len() {
+        return next;
+    }
+    i
 }
 
 // With those of all segments: from the next knot on they lie above it.
@@ -132,35 +145,16 @@ fn near_around(
     requires { ⌜ Searchable (now xs) (now ys) (now cs) w t ⌝ ∗ ⌜ LatestOf (now xs) (now ys) (now latest) ⌝ ∗ ⌜ i < length (now xs) ⌝ ∗ ⌜ i ≡ lastAtMost (now xs) t ⌝ }
     ensures { λ r. ⌜ Around t w (was xs) (was ys) (was cs) known (boundsOf r) ⌝ }
 {
-    let next = i + 1;
-    if next < xs.len() {
-        let own = near_segment(known, xs, ys, cs, i, w, t, sample);
-        let low = own.lower;
-        let high = own.upper;
-        let place = own.sample;
-        let both = Neighbours {
-            lower: low,
-            upper: high,
-        };
-        let all = near_before(both, xs, ys, latest, cs, i, w, t, place);
-        let lower = all.lower;
-        let upper = all.upper;
-        return NeighboursAndHints {
-            lower: lower,
-            upper: upper,
-            knot: i,
-            sample: place,
-        };
-    }
-    let all = near_before(known, xs, ys, latest, cs, i, w, t, sample);
-    let lower = all.lower;
-    let upper = all.upper;
-    NeighboursAndHints {
+    let lower = known.lower;
+    let upper = known.upper;
+    let hinted = NeighboursAndHints {
         lower: lower,
         upper: upper,
         knot: i,
         sample: sample,
-    }
+    };
+    let to = next_place(xs, i);
+    near_before(hinted, xs, ys, latest, cs, i, to, w, t)
 }
 
 // The neighbours of `t` among the window's start and the next start.

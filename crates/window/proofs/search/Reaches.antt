@@ -102,8 +102,8 @@ module _ (t : Float) (w : Interval) (xs ys cs : List Float) where
 
     -- ---- the segments before those that were searched reach no further than the lower neighbour
 
-    pub reached-past : (j : ℕ) → j ≤ i → (top : Float) → ReachOf xs ys j top → {h r : Neighbours} → PastAll (r .lower) top → Reached t w xs ys cs j i h r → Reached t w xs ys cs 0 i h r
-    reached-past j q top O {h} {r} d A = record {
+    pub reached-past : (to j : ℕ) → j ≤ to → to < length xs → (top : Float) → ReachOf xs ys j top → {h r : Neighbours} → PastAll (r .lower) top → Reached t w xs ys cs j to h r → Reached t w xs ys cs 0 to h r
+    reached-past to j q b′ top O {h} {r} d A = record {
       run = λ nt g N x s.
           let u = A .run nt g N (λ n y b. x n zero-le b) s in
           record {
@@ -174,33 +174,20 @@ module _ (t : Float) (w : Interval) (xs ys cs : List Float) where
     knot-known : (h : Neighbours) → Every (Met t h) (keep (inside w) xs) → (j : ℕ) → j < length xs → T (inside w (getD xs j nan)) → Met t h (getD xs j nan)
     knot-known h k j b = every-at (λ (x : Float). T (inside w x) → Met t h x) xs j nan (every-kept (Met t h) (inside w) xs k) b
 
-    -- t lies in a segment
-    pub around-own : {h m r : Neighbours} → i + 1 < length xs → Searched t (timesOf w xs ys cs i) h m → Reached t w xs ys cs 0 i m r → Around t w xs ys cs h r
-    around-own {h} {m} {r} b A B = record {
+    -- those before a knot, if that of t is among them, where there is one
+    pub around-all : (to : ℕ) → i ≤ to → to < length xs → (i + 1 < length xs → i < to) → {h r : Neighbours} → Reached t w xs ys cs 0 to h r → Around t w xs ys cs h r
+    around-all to p q b {h} {r} B = record {
       run = λ nt g N x s k.
-          let y = to-places (λ (z : Float). In z g) x in
-          let u = A .run nt g N (y i b) s in
-          let v = B .run nt g N (λ j z d. y j (omega arith)) (u .among) in
+          let v = B .run nt g N (λ j z d. to-places (λ (o : Float). In o g) x j (omega arith)) s in
           record {
             among = v .among;
             known = from-places (Met t r)
-                (λ j d. elim (decLe i j) [
+                (λ j d. elim (decLe to j) [
                   | no o ↦ v .known j zero-le (omega arith)
-                  | yes o ↦ elim (decLe j i) [
-                    | yes o′ ↦ let z : i ≡ j = omega arith in subst (λ (n : ℕ). Every (Met t r) (timesOf w xs ys cs n)) z (every-map (Met t m) (Met t r) (v .kept) (timesOf w xs ys cs i) (u .known))
-                    | no o′ ↦ behind r (λ _ d. v .kept (getD xs (i + 1) nan) (u .kept (getD xs (i + 1) nan) (knot-known h k (i + 1) b d))) j (omega arith) d
-                  ]
+                  | yes o ↦ behind r (λ y d. v .kept (getD xs (i + 1) nan) (knot-known h k (i + 1) y d)) j (omega (arith, b (omega arith))) d
                 ]);
-            kept = λ z d. v .kept z (u .kept z d);
+            kept = v .kept;
           };
-    }
-
-    -- or from the last knot on
-    pub around-last : {h r : Neighbours} → length xs ≤ i + 1 → Reached t w xs ys cs 0 i h r → Around t w xs ys cs h r
-    around-last {h} {r} b B = record {
-      run = λ nt g N x s k.
-          let v = B .run nt g N (λ j z d. to-places (λ (o : Float). In o g) x j (omega arith)) s in
-          record { among = v .among; known = from-places (Met t r) (λ j d. v .known j zero-le (omega arith)); kept = v .kept };
     }
 
   -- ---- after the knots

@@ -2,6 +2,7 @@
 use native.Mathlib.Omega.{arith}
 use denote.Ref.{now}
 use borrow.Author.Tests.{not-true, not-false}
+use Rattle.definitions.specs.Explicit.{knot}
 use Rattle.window.specs.nearest.Crossings.{isBeyond}
 use Rattle.window.proofs.nearest.CrossingLaws.{turn-next}
 use borrow.Author.Needs.{needs}
@@ -22,7 +23,7 @@ returns c =
     let b = c .before .before .before in
     let a = b .before .before .args in
     let h = b .begins-at .ensures .1 (not-true (b .begins-at .result) (c .before .before .if1 .taken)) in
-    turn-next (isBeyond (a .t) (a .s .a, a .s .b)) (now (a .cs)) (a .hint) (h .0) (h .1) (c .before .begins-at2 .ensures .0 (c .if2 .taken))
+    turn-next (isBeyond (a .t) (knot (a .sa) (a .ca), knot (a .sb) (a .cb))) (now (a .cs)) (a .hint) (h .0) (h .1) (c .before .begins-at2 .ensures .0 (c .if2 .taken))
 
 search-crossing-requires : tie.Need-search-crossing-requires
 search-crossing-requires c κs = search needs

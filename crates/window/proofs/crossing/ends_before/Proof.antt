@@ -7,6 +7,7 @@ use lib.ListN.{getD}
 use lib.Ieee.{nan}
 use denote.Ref.{now}
 use borrow.Author.Tests.{not-true}
+use Rattle.definitions.specs.Explicit.{knot}
 use Rattle.window.specs.nearest.Crossings.{isBeyond}
 use borrow.Author.Needs.{needs}
 use Rattle.window.proofs.crossing.ends_before.Statement.{statement}
@@ -37,7 +38,7 @@ returns-3 c =
       λ i k.
           let a = c .before .before .before .before .before .args in
           let z : a .n - 1 ≡ i = omega arith in
-          subst (λ (j : ℕ). isBeyond (a .t) (a .s .a, a .s .b) (getD (now (a .cs)) j nan) ≡ false) z (sym (c .is-beyond .ensures) ∙ not-true (c .is-beyond .result) e),
+          subst (λ (j : ℕ). isBeyond (a .t) (knot (a .sa) (a .ca), knot (a .sb) (a .cb)) (getD (now (a .cs)) j nan) ≡ false) z (sym (c .is-beyond .ensures) ∙ not-true (c .is-beyond .result) e),
     )
 
 pub ends-before-spec : {M : Type 1} → statement M

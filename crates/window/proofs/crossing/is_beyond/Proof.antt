@@ -14,12 +14,12 @@ returns-2 : tie.Need-returns-2
 unfolding isBeyond
 returns-2 c = rw (c .before .before .if1 .taken, c .before .if2 .left, c .if3 .taken)
 
-stage-time-requires : tie.Need-stage-time-requires
-stage-time-requires c κs = search needs
+inverse-requires : tie.Need-inverse-requires
+inverse-requires c κs = search needs
 
 returns-3 : tie.Need-returns-3
 unfolding isBeyond
-returns-3 c = rw (c .before .before .before .if1 .taken, c .before .before .if2 .left, c .before .if3 .left) (ap (lt (c .before .before .before .before .args .t)) (c .stage-time .ensures))
+returns-3 c = rw (c .before .before .before .if1 .taken, c .before .before .if2 .left, c .before .if3 .left) (ap (lt (c .before .before .before .before .args .t)) (c .inverse .ensures))
 
 returns-4 : tie.Need-returns-4
 unfolding isBeyond
@@ -29,12 +29,12 @@ returns-5 : tie.Need-returns-5
 unfolding isBeyond
 returns-5 c = rw (c .before .before .if1 .left, c .before .if4 .left, c .if5 .taken)
 
-stage-time-requires-2 : tie.Need-stage-time-requires-2
-stage-time-requires-2 c κs = search needs
+inverse-requires-2 : tie.Need-inverse-requires-2
+inverse-requires-2 c κs = search needs
 
 returns-6 : tie.Need-returns-6
 unfolding isBeyond
-returns-6 c = rw (c .before .before .before .if1 .left, c .before .before .if4 .left, c .before .if5 .left) (ap (λ (x : Float). le x (c .before .before .before .before .args .t)) (c .stage-time2 .ensures))
+returns-6 c = rw (c .before .before .before .if1 .left, c .before .before .if4 .left, c .before .if5 .left) (ap (λ (x : Float). le x (c .before .before .before .before .args .t)) (c .inverse2 .ensures))
 
 pub is-beyond-spec : {M : Type 1} → statement M
 is-beyond-spec =
@@ -42,9 +42,9 @@ is-beyond-spec =
     (tie.spec
     returns
     returns-2
-    stage-time-requires
+    inverse-requires
     returns-3
     returns-4
     returns-5
-    stage-time-requires-2
+    inverse-requires-2
     returns-6)

@@ -6,16 +6,17 @@ use native.Mathlib.Omega.{arith}
 use lib.ListN.{length, getD}
 use lib.Ieee.{nan}
 use denote.Ref.{now}
+use Rattle.definitions.specs.Explicit.{knot}
 use Rattle.window.specs.nearest.Crossings.{isBeyond}
 use borrow.Author.Needs.{needs}
 use Rattle.window.proofs.crossing.search_crossing.Statement.{statement}
 use Rattle.window.proofs.crossing.search_crossing.Tie as tie
 
 abbrev Inv-loop : tie.InvT-loop
-Inv-loop cs s t lo₀ hi₀ lo hi = (hi ≤ length cs) × (lo ≤ hi) × ((i : ℕ) → suc i ≡ lo → isBeyond t (s .a, s .b) (getD cs i nan) ≡ false) × (hi < length cs → isBeyond t (s .a, s .b) (getD cs hi nan) ≡ true)
+Inv-loop cs sa ca sb cb t lo₀ hi₀ lo hi = (hi ≤ length cs) × (lo ≤ hi) × ((i : ℕ) → suc i ≡ lo → isBeyond t (knot sa ca, knot sb cb) (getD cs i nan) ≡ false) × (hi < length cs → isBeyond t (knot sa ca, knot sb cb) (getD cs hi nan) ≡ true)
 
 abbrev μ-loop : tie.MeasureT-loop
-μ-loop cs s t lo₀ hi₀ lo hi = hi - lo
+μ-loop cs sa ca sb cb t lo₀ hi₀ lo hi = hi - lo
 
 loop-holds : tie.Need-loop-holds Inv-loop μ-loop
 loop-holds c = (omega arith, omega arith, λ i e. absurd (omega arith), λ h. absurd (omega arith))
@@ -54,7 +55,7 @@ loop-again-2 c =
     let l = c .before .before .before .before in
     let a = l .before .before .args in
     let mid = l .loop .lo + (l .loop .hi - l .loop .lo) / 2 in
-    (omega arith, omega arith, λ i e. let z : mid ≡ i = omega arith in subst (λ (j : ℕ). isBeyond (a .t) (a .s .a, a .s .b) (getD (now (a .cs)) j nan) ≡ false) z (sym (c .before .is-beyond .ensures) ∙ c .if1 .left), l .loop .inv .3)
+    (omega arith, omega arith, λ i e. let z : mid ≡ i = omega arith in subst (λ (j : ℕ). isBeyond (a .t) (knot (a .sa) (a .ca), knot (a .sb) (a .cb)) (getD (now (a .cs)) j nan) ≡ false) z (sym (c .before .is-beyond .ensures) ∙ c .if1 .left), l .loop .inv .3)
 
 returns : tie.Need-returns Inv-loop μ-loop
 returns c =

@@ -7,6 +7,7 @@ use Rattle.window.specs.Bounds.{inside}
 use Rattle.window.specs.Inverses.{onSegment}
 use Rattle.window.specs.SoundSegments.{SoundSegment}
 use Rattle.window.specs.nearest.Nearest.{Searched}
+use Rattle.window.specs.neighbours.Windowed.{boundsOf}
 use Rattle.window.proofs.search.LatestLaws.{segment-here}
 use borrow.Author.Needs.{needs}
 use Rattle.window.proofs.search.near_segment.Statement.{statement}
@@ -32,7 +33,7 @@ returns : tie.Need-returns
 returns c =
     let m = c .before .before in
     let a = entry m .args in
-    subst (λ (q : Segment). Searched (a .t) (keep (inside (a .w)) (onSegment (now (a .cs)) (q .a, q .b))) (a .known) (c .near-crossing .result)) (m .segment-at .ensures) (c .near-crossing .ensures)
+    subst (λ (q : Segment). Searched (a .t) (keep (inside (a .w)) (onSegment (now (a .cs)) (q .a, q .b))) (boundsOf (a .known)) (c .near-crossing .result)) (m .segment-at .ensures) (c .near-crossing .ensures)
 
 pub near-segment-spec : {M : Type 1} → statement M
 near-segment-spec = tie.close (tie.spec segment-at-requires crossing-requires near-crossing-requires returns)
