@@ -18,7 +18,7 @@ use Rattle.definitions.specs.declared.Knot.{Knot}
 use Rattle.definitions.specs.Lists.{any, keep}
 use Rattle.definitions.specs.Timing.{lastAtMost}
 use Rattle.definitions.specs.Value.{spans, inverse, onPair}
-use Rattle.laws.proofs.list.Tests.{is-true, is-false, holds}
+use Rattle.laws.proofs.list.Tests.{is-true, is-false, holds, both, or-l, or-r}
 use Rattle.laws.specs.list.Every.{Every}
 use Rattle.laws.proofs.list.Every.{every-at, any-with, every-by, every-zip, every-keep, every-kept, every-append, every-left, every-right}
 use Rattle.laws.specs.list.Places.{Number, Fits}

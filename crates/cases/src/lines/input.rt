@@ -1,5 +1,6 @@
 // Standard input as lines, in one buffer: its bytes from `from` to `end` are still to be answered.
 use crate::text::Stop;
+use crate::text::first_bytes;
 use crate::text::scan;
 
 pub struct Buffer {
@@ -21,11 +22,7 @@ pub fn empty() -> Buffer {
 
 // The place of the next line end, `end` or beyond if there is none.
 pub fn line_end(input: &[u8], buffer: Buffer) -> usize {
-    let end = buffer.end;
-    if end <= input.len() {
-        return scan(&input[..end], buffer.from, Stop::LineEnd);
-    }
-    end
+    scan(first_bytes(input, buffer.end), buffer.from, Stop::LineEnd)
 }
 
 // The line up to `to`, without its comment; empty where the end of a skipped line stands there.

@@ -22,7 +22,7 @@ use Rattle.definitions.specs.ClipSet.{ClipSet, stage}
 use Rattle.definitions.specs.Timing.{lastAtMost, mapTime}
 use Rattle.definitions.specs.Samples.{Samples, clipTimes}
 use Rattle.definitions.specs.Value.{valueSource}
-use Rattle.laws.proofs.list.Tests.{holds}
+use Rattle.laws.proofs.list.Tests.{holds, both}
 use Rattle.laws.specs.list.Every.{Every}
 use Rattle.laws.proofs.list.Every.{every-at, every-kept, every-left, every-zip}
 use Rattle.laws.specs.list.Places.{Ascending, Fits}
