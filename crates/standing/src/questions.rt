@@ -104,20 +104,7 @@ pub fn untimed<'a>(
     ensures { λ r. ⌜ stateIs r ≡ untimedAnswer (lentSet (length (was ends)) counts (was starts) (was numbers) (was xs) (was ys) (was blocks) m) (samplesOf (was times) (was values) (was marks) (was ends)) ⌝ }
 {
     let n = counts.starts;
-    let k = counts.knots;
-    let b = counts.blocks;
-    value::untimed::untimed_answer_in_set(
-        &starts[..n],
-        &numbers[..n],
-        &xs[..k],
-        &ys[..k],
-        &blocks[..b],
-        m,
-        times,
-        values,
-        marks,
-        ends,
-    )
+    value::untimed::untimed_answer_in_set(&numbers[..n], m, ends)
 }
 
 // The track, written to the lent lists.
