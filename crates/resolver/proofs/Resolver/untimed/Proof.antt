@@ -28,8 +28,8 @@ returns-2 c =
     let s = c .before .before .before .before .before .before .before in
     plainly-refused (lent s) (λ (x : ClipSet). untimedAnswer x (lent s)) (s .args .t1) (not-false _ (c .before .before .if1 .left)) _ (judged-number (s .args .t1) (c .before .samples-number .ensures)) (c .if2 .taken)
 
-untimed-answer-in-set-requires : tie.Need-untimed-answer-in-set-requires
-untimed-answer-in-set-requires c κs =
+untimed-requires : tie.Need-untimed-requires
+untimed-requires c κs =
     let p = c .before .before .before .before .before .before .before .before .before .before .before .before .before in
     let s = p .before .before .before .before .before .before .before in
     is-asked (s .args .t1) (s .pre) (not-false _ (p .before .before .if1 .left)) (p .before .samples-number .ensures) (p .if2 .left)
@@ -40,9 +40,9 @@ returns-3 c =
     let p = c .before .before .before .before .before .before .before .before .before .before .before .before .before .before in
     let s = p .before .before .before .before .before .before .before in
     let stands = not-false _ (p .before .before .if1 .left) in
-    ap replied (c .untimed-answer-in-set .ensures ∙ ap (λ (x : ClipSet). untimedAnswer x (lent s)) (lent-is (s .args .t1) (s .pre) stands (p .before .samples-number .ensures) (p .if2 .left)))
+    ap replied (c .untimed .ensures ∙ ap (λ (x : ClipSet). untimedAnswer x (lent s)) (lent-is (s .args .t1) (s .pre) stands (p .before .samples-number .ensures) (p .if2 .left)))
     ∙ plainly-replied (lent s) (λ (x : ClipSet). untimedAnswer x (lent s)) (s .args .t1) stands (sym (judged-number (s .args .t1) (p .before .samples-number .ensures)) ∙ p .if2 .left)
 
-pub untimed-answer-in-set-spec : {M : Type 1} → statement M
-untimed-answer-in-set-spec =
-    tie.close (tie.spec returns samples-number-requires returns-2 untimed-answer-in-set-requires returns-3)
+pub untimed-spec : {M : Type 1} → statement M
+untimed-spec =
+    tie.close (tie.spec returns samples-number-requires returns-2 untimed-requires returns-3)

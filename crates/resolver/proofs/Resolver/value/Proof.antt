@@ -1,4 +1,4 @@
--- `resolver::Resolver::value` meets its contract: 20, the samples' number, 10, else the value-in-set. Assumes nothing.
+-- `resolver::Resolver::value` meets its contract: 20, the samples' number, 10, else the value. Assumes nothing.
 use mathlib.Core.Path.{sym, ap, _∙_, subst}
 use lib.Dec.{T}
 use borrow.Author.Needs.{needs}
@@ -10,14 +10,14 @@ use Rattle.definitions.specs.Value.{valueInSet}
 use Rattle.definitions.specs.Questions.{askValue, replied, stageTimeNumber}
 use Rattle.laws.specs.cell.Lent.{samplesOf}
 use Rattle.resolver.proofs.Laws.{asked-20, not-finite, is-finite, judged-number, samples-refused, samples-passed, lent-is, is-asked}
-use Rattle.resolver.proofs.Resolver.value-in-set.Statement.{statement}
-use Rattle.resolver.proofs.Resolver.value-in-set.Tie as tie
+use Rattle.resolver.proofs.Resolver.value.Statement.{statement}
+use Rattle.resolver.proofs.Resolver.value.Tie as tie
 
 abbrev lent : tie.Start → Samples
 lent s = samplesOf (now (s .args .times)) (now (s .args .values)) (now (s .args .marks)) (now (s .args .ends))
 
 -- back to where no number applies
-abbrev passed : tie.After-value-in-set → tie.Else3
+abbrev passed : tie.After-value → tie.Else3
 passed c = c .before .before .before .before .before .before .before .before .before .before .before .before .before .before
 
 returns : tie.Need-returns
@@ -46,8 +46,8 @@ returns-3 c =
     ∙ samples-passed (lent s) (λ (x : ClipSet). stageTimeNumber (s .args .t)) (λ (x : ClipSet). valueInSet x (lent s) (s .args .t)) (s .args .t1) (not-false _ (p .before .before .if1 .left))
     (sym (judged-number (s .args .t1) (p .before .samples-number .ensures)) ∙ p .if2 .left)
 
-value-in-set-requires : tie.Need-value-in-set-requires
-value-in-set-requires c κs =
+value-requires : tie.Need-value-requires
+value-requires c κs =
     let f = c .before .before .before .before .before .before .before .before .before .before .before .before .before in
     let p = f .before .before in
     let s = p .before .before .before .before .before .before .before in
@@ -60,11 +60,11 @@ returns-4 c =
     let p = f .before .before in
     let s = p .before .before .before .before .before .before .before in
     let stands = not-false _ (p .before .before .if1 .left) in
-    ap replied (c .value-in-set .ensures ∙ ap (λ (x : ClipSet). valueInSet x (lent s) (s .args .t)) (lent-is (s .args .t1) (s .pre) stands (p .before .samples-number .ensures) (p .if2 .left)))
+    ap replied (c .value .ensures ∙ ap (λ (x : ClipSet). valueInSet x (lent s) (s .args .t)) (lent-is (s .args .t1) (s .pre) stands (p .before .samples-number .ensures) (p .if2 .left)))
     ∙ is-finite (s .args .t) _ (sym (f .before .is-finite .ensures) ∙ not-false _ (f .if3 .left))
     ∙ samples-passed (lent s) (λ (x : ClipSet). stageTimeNumber (s .args .t)) (λ (x : ClipSet). valueInSet x (lent s) (s .args .t)) (s .args .t1) stands
     (sym (judged-number (s .args .t1) (p .before .samples-number .ensures)) ∙ p .if2 .left)
 
-pub value-in-set-spec : {M : Type 1} → statement M
-value-in-set-spec =
-    tie.close (tie.spec returns samples-number-requires returns-2 is-finite-requires returns-3 value-in-set-requires returns-4)
+pub value-spec : {M : Type 1} → statement M
+value-spec =
+    tie.close (tie.spec returns samples-number-requires returns-2 is-finite-requires returns-3 value-requires returns-4)

@@ -25,8 +25,8 @@ value-in-set-requires c κs = search needs
 returns : tie.Need-returns
 returns c = search needs
 
-pub value-in-set-spec : {M : Type 1} → statement M
-value-in-set-spec =
+pub value-spec : {M : Type 1} → statement M
+value-spec =
     tie.close
     (tie.spec
     slice-aggregate-value-in-set
