@@ -15,7 +15,7 @@ use borrow.Author.Tests.{ltb-true, ltb-false, eq-eqb, ne-eqb}
 use Rattle.gf.proofs.KeyLaws.{lt-not-le}
 use Rattle.gf.specs.Doubles.{_⊖_, _⊗_, _⊘_, totalKey}
 use Rattle.definitions.specs.declared.Knot.{Knot}
-use Rattle.definitions.specs.Lists.{keep, pairs, pairsFrom, gather, below}
+use Rattle.definitions.specs.Lists.{keep, pairs, pairsFrom, below}
 use Rattle.definitions.specs.Doubles.{FiniteDouble}
 use Rattle.definitions.specs.ClipSet.{knotTimes, clip}
 use Rattle.definitions.specs.Timing.{lastAtMost}
