@@ -16,7 +16,7 @@ use Rattle.definitions.specs.Timing.{lastAtMost, activePosition, activeEntry, m
 use Rattle.definitions.specs.Samples.{Samples, clipBegin, clipTimes, heldPlace}
 use Rattle.definitions.specs.Value.{marked}
 use Rattle.definitions.specs.Track.{markOf}
-use Rattle.definitions.specs.StageSamples.{StageSample, readMark, markIn, suppliedAt, stageSampleTimes, stageSamples}
+use Rattle.definitions.specs.StageSamples.{readMark, markIn, suppliedAt, stageSampleTimes, stageSamples}
 use Rattle.laws.proofs.list.Every.{every-getD}
 use Rattle.laws.specs.cell.Lent.{start, activeOf, knotsOf, setOf, samplesOf, AcceptedLists}
 use Rattle.laws.proofs.cell.Lent.{zip-here}

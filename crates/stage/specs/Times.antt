@@ -20,7 +20,7 @@ use Rattle.stage.specs.Whole.{wholeTimes, Windows}
 abbrev pub gatheredTimes : List Float → List ℕ → List Float → List Float → List Float → List ℕ → List Float
 gatheredTimes starts clips xs ys times ends = gather (λ (p : ℕ). wholeTimes starts clips xs ys times ends p) (below (length starts))
 
--- the definitions' stage sample times, of which neither the blocks nor the default nor what a sample says is a part
+-- the stage sample times: neither the manifest nor what the samples say has a part in them, so these six lists give the definitions' list
 unfoldable pub timesOf : List Float → List ℕ → List Float → List Float → List Float → List ℕ → List Float
 timesOf starts clips xs ys times ends = dedup (sortBy totalKey (gatheredTimes starts clips xs ys times ends))
 

@@ -10,7 +10,7 @@ use Rattle.definitions.specs.StageSamples.{stageSampleTimes, stageSamples}
 use Rattle.laws.specs.cell.Lent.{samplesOf}
 use Rattle.stage.proofs.Accepted.{accepted-times, stage-times, accepted-unblocked, samples-unblocked}
 use Rattle.standing.specs.declared.Counts.{Counts}
-use Rattle.standing.specs.Standing.{Arrays, Asked, lentSet, StartsAndKnots, lentTimes, TimesAsked, lentUnblocked, SamplesAsked}
+use Rattle.standing.specs.Standing.{Asked, lentSet, StartsAndKnots, lentTimes, TimesAsked, lentUnblocked, SamplesAsked}
 
 module _ {c : Counts} {starts : List Float} {numbers : List ℕ} {xs ys blocks : List Float} {m : Missing} {times values : List Float} {marks ends : List ℕ} (A : Asked c starts numbers xs ys blocks m times values marks ends) where
   starts-and-knots : StartsAndKnots c starts numbers xs ys
