@@ -178,9 +178,8 @@ fn bake_by_pages(
     }
 }
 
-// Bakes the value into its track: the head is the value at the lowest finite double. 22: the shortest output has fewer slots than
-// there are changes.
-pub fn bake(
+// Bakes with a page of its own, from the value at the lowest finite double on.
+fn bake_from_least(
     starts: &[f64],
     clips: &[u64],
     xs: &[f64],
@@ -191,11 +190,13 @@ pub fn bake(
     values: &[f64],
     marks: &[u8],
     ends: &[u64],
+    latest: &[f64],
     outtimes: &mut [f64],
     outvalues: &mut [f64],
     outmarks: &mut [u8],
 ) -> Baked
     requires { ⌜ AcceptedLists (now starts) (now clips) (now xs) (now ys) (now blocks) m (now times) (now values) (now marks) (now ends) ⌝ }
+    requires { ⌜ LatestOf (now xs) (now ys) (now latest) ⌝ }
     ensures { λ r. ⌜ BakeIs (setOf (length (was ends)) (was starts) (was clips) (was xs) (was ys) (was blocks) m) (samplesOf (was times) (was values) (was marks) (was ends)) (outputs (was outtimes) (was outvalues) (was outmarks)) (outputs (after outtimes) (after outvalues) (after outmarks)) r ⌝ }
 {
     let head = entry_at(
@@ -211,7 +212,6 @@ pub fn bake(
         ends,
         LEAST,
     );
-    let latest = latest_inverses(xs, ys);
     let place = no_place(starts);
     let from = Cursor {
         key: LEAST,
@@ -232,11 +232,69 @@ pub fn bake(
         values,
         marks,
         ends,
-        &latest.items,
+        latest,
         from,
         &mut pagetimes,
         &mut pagevalues,
         &mut pagemarks,
+        outtimes,
+        outvalues,
+        outmarks,
+    )
+}
+
+// Bakes the value into its track: the head is the value at the lowest finite double. 22: the shortest output has fewer slots than
+// there are changes.
+pub fn bake(
+    starts: &[f64],
+    clips: &[u64],
+    xs: &[f64],
+    ys: &[f64],
+    blocks: &[f64],
+    m: Missing,
+    times: &[f64],
+    values: &[f64],
+    marks: &[u8],
+    ends: &[u64],
+    outtimes: &mut [f64],
+    outvalues: &mut [f64],
+    outmarks: &mut [u8],
+) -> Baked
+    requires { ⌜ AcceptedLists (now starts) (now clips) (now xs) (now ys) (now blocks) m (now times) (now values) (now marks) (now ends) ⌝ }
+    ensures { λ r. ⌜ BakeIs (setOf (length (was ends)) (was starts) (was clips) (was xs) (was ys) (was blocks) m) (samplesOf (was times) (was values) (was marks) (was ends)) (outputs (was outtimes) (was outvalues) (was outmarks)) (outputs (after outtimes) (after outvalues) (after outmarks)) r ⌝ }
+{
+    // without segments there are no inverse times, and no list of them is made
+    if xs.len() < 2 {
+        return bake_from_least(
+            starts,
+            clips,
+            xs,
+            ys,
+            blocks,
+            m,
+            times,
+            values,
+            marks,
+            ends,
+            &xs[..0],
+            outtimes,
+            outvalues,
+            outmarks,
+        );
+    }
+    let latest = latest_inverses(xs, ys);
+    bake_from_least(
+        starts,
+        clips,
+        xs,
+        ys,
+        blocks,
+        m,
+        times,
+        values,
+        marks,
+        ends,
+        &latest.items,
         outtimes,
         outvalues,
         outmarks,

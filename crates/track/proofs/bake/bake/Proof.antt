@@ -1,44 +1,24 @@
--- `bake::bake` meets its contract: the walk begins at the lowest key, with a page of its own. Assumes nothing.
-use mathlib.Core.Path.{refl}
-use lib.Dec.{lit≤}
+-- `bake::bake` meets its contract: of no segments there are no tops. Assumes nothing.
+use mathlib.Core.List.{List, []}
+use native.Mathlib.Omega.{arith}
+use lib.Ieee.{Float}
+use Rattle.window.specs.neighbours.Latest.{LatestOf}
 use Rattle.window.proofs.Parts.{ready-readable}
-use Rattle.cell.proofs.Lent.{no-place-is, few-knots}
-use Rattle.track.proofs.Walks.{slots-some}
+use Rattle.cell.proofs.Lent.{few-knots}
 use borrow.Author.Needs.{needs}
 use Rattle.track.proofs.bake.bake.Statement.{statement}
 use Rattle.track.proofs.bake.bake.Tie as tie
 
-entry-at-requires : tie.Need-entry-at-requires
-entry-at-requires c κs = search needs
+no-tops : (xs ys : List Float) → LatestOf xs ys []
+no-tops xs ys = record { above = λ k l. absurd (omega arith) }
 
-latest-inverses-requires : tie.Need-latest-inverses-requires
-latest-inverses-requires c κs = let a = c .before .before .before .before .before .before .before .before .before .before .before .before .before in (a .pre .knots-paired, (few-knots (a .pre), ready-readable (a .pre) .segments))
+slice-aggregate-bake-from-least : tie.Need-slice-aggregate-bake-from-least
+slice-aggregate-bake-from-least c = search needs
 
-no-place-requires : tie.Need-no-place-requires
-no-place-requires c κs = search needs
-
-slice-aggregate-bake-by-pages : tie.Need-slice-aggregate-bake-by-pages
-slice-aggregate-bake-by-pages c = search needs
-
-slice-aggregate-bake-by-pages-2 : tie.Need-slice-aggregate-bake-by-pages-2
-slice-aggregate-bake-by-pages-2 c = search needs
-
-slice-aggregate-bake-by-pages-3 : tie.Need-slice-aggregate-bake-by-pages-3
-slice-aggregate-bake-by-pages-3 c = search needs
-
-bake-by-pages-requires : tie.Need-bake-by-pages-requires
-bake-by-pages-requires c κs =
-    let n = c .before .before .before .before .before .before .before .before .before in
-    let a = n .before .before .before .before .before .before .before .before .before .before .before .before .before .before .before in (
-      a .pre,
-      (
-        n .before .latest-inverses .ensures,
-        (
-          record { keys = record { low = lit≤ tt; order = lit≤ tt; high = lit≤ tt }; last = n .before .before .entry-at .ensures; place = no-place-is (a .pre) (n .no-place .result .start) (n .no-place .result .window) (n .no-place .ensures) },
-          (refl, slots-some _ _ _ _ _ _),
-        ),
-      ),
-    )
+bake-from-least-requires : tie.Need-bake-from-least-requires
+bake-from-least-requires c κs =
+    let s = c .before .before .before .before .before .before .before .before .before .before .before .before .before .before .before .before .before in
+    (s .pre, no-tops _ _)
 
 same-length : tie.Need-same-length
 same-length c = search needs
@@ -52,18 +32,40 @@ same-length-3 c = search needs
 returns : tie.Need-returns
 returns c = search needs
 
+latest-inverses-requires : tie.Need-latest-inverses-requires
+latest-inverses-requires c κs = let a = c .before .before .before .before .before .before .before .before .before .before .before .before .before in (a .pre .knots-paired, (few-knots (a .pre), ready-readable (a .pre) .segments))
+
+bake-from-least-requires-2 : tie.Need-bake-from-least-requires-2
+bake-from-least-requires-2 c κs =
+    let l = c .before .before .before .before .before .before in
+    let s = l .before .before .before .before .before .before .before .before .before .before .before .before .before .before in
+    (s .pre, l .latest-inverses .ensures)
+
+same-length-4 : tie.Need-same-length-4
+same-length-4 c = search needs
+
+same-length-5 : tie.Need-same-length-5
+same-length-5 c = search needs
+
+same-length-6 : tie.Need-same-length-6
+same-length-6 c = search needs
+
+returns-2 : tie.Need-returns-2
+returns-2 c = search needs
+
 pub bake-spec : {M : Type 1} → statement M
 bake-spec =
     tie.close
     (tie.spec
-    entry-at-requires
-    latest-inverses-requires
-    no-place-requires
-    slice-aggregate-bake-by-pages
-    slice-aggregate-bake-by-pages-2
-    slice-aggregate-bake-by-pages-3
-    bake-by-pages-requires
+    slice-aggregate-bake-from-least
+    bake-from-least-requires
     same-length
     same-length-2
     same-length-3
-    returns)
+    returns
+    latest-inverses-requires
+    bake-from-least-requires-2
+    same-length-4
+    same-length-5
+    same-length-6
+    returns-2)
