@@ -11,6 +11,7 @@ use Rattle.definitions.specs.ClipSet.{maxSamples, anyUnstorable}
 use Rattle.definitions.specs.Samples.{samples2}
 use Rattle.definitions.specs.Normalize.{normalizeNumber}
 use Rattle.definitions.specs.Track.{Outputs, slots}
+use Rattle.definitions.specs.Moments.{outputs}
 use Rattle.laws.proofs.list.Tests.{or-false}
 use Rattle.laws.specs.list.Every.{Every}
 use Rattle.laws.proofs.list.Sorting.{every-sort, length-sort}
@@ -18,7 +19,7 @@ use Rattle.lists.specs.Placed.{Inside}
 use Rattle.normal_form.specs.Placed.{keyAt, inOrder}
 use Rattle.normal_form.specs.Runs.{Run, runs, firsts, lasts, RunsFrom}
 use Rattle.sdf.specs.declared.Counted.{Counted}
-use Rattle.normal_form.specs.Normalizes.{normalForm, outputs, Normalizes, listedNumber, InRuns}
+use Rattle.normal_form.specs.Normalizes.{normalForm, Normalizes, listedNumber, InRuns}
 use Rattle.sdf.proofs.Lent.{paired}
 use Rattle.lists.proofs.ByPlaces.{length-below, below-inside}
 use Rattle.normal_form.proofs.Merged.{runs-every, part-rest}

@@ -16,9 +16,6 @@ use Rattle.sdf.specs.declared.Counted.{Counted}
 abbrev pub normalForm : List Float → List Float → List ℕ → List TimeSample
 normalForm times values marks = normalizeTimeSamples (timeSamples times values marks)
 
-abbrev pub outputs : List Float → List Float → List ℕ → Outputs
-outputs times values marks = record { times = times; values = values; marks = marks }
-
 -- an output list after a reply with that number: only a 0 writes
 abbrev pub after : {A : Type 0} → ℕ → List A → List A → List A
 after zero new old = writtenOver new old

@@ -4,8 +4,8 @@ use definitions::refusal;
 use sdf::Counted;
 use sdf::scans;
 ghost use mathlib.Core.Path.{_≡_};
-ghost use Rattle.definitions.specs.Moments.{was, after};
-ghost use Rattle.normal_form.specs.Normalizes.{Normalizes, outputs, listedNumber};
+ghost use Rattle.definitions.specs.Moments.{was, outsWere, outsLeft};
+ghost use Rattle.normal_form.specs.Normalizes.{Normalizes, listedNumber};
 
 mod merging;
 mod sorting;
@@ -39,7 +39,7 @@ pub fn normalize_time_samples(
     outvalues: &mut [f64],
     outmarks: &mut [u8],
 ) -> Counted
-    ensures { λ r. ⌜ Normalizes (was times) (was values) (was marks) (outputs (was outtimes) (was outvalues) (was outmarks)) (outputs (after outtimes) (after outvalues) (after outmarks)) r ⌝ }
+    ensures { λ r. ⌜ Normalizes (was times) (was values) (was marks) (outsWere outtimes outvalues outmarks) (outsLeft outtimes outvalues outmarks) r ⌝ }
 {
     let number = listed_number(times, values, marks);
     if number != 0 {

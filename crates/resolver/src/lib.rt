@@ -13,13 +13,12 @@ use standing::questions::ActiveClip;
 use track::bake::Baked;
 use value::untimed::ValueState;
 ghost use mathlib.Core.Path.{_≡_};
-ghost use Rattle.definitions.specs.Moments.{was, after};
-ghost use Rattle.laws.specs.cell.Lent.{samplesOf};
+ghost use Rattle.definitions.specs.Moments.{was, after, outsWere, outsLeft};
+ghost use Rattle.laws.specs.cell.Lent.{samplesWere};
 ghost use Rattle.clip.specs.Holding.{manifest};
 ghost use Rattle.explicit.specs.Parsing.{explicitFields};
 ghost use Rattle.template.specs.Expanding.{templateFields};
 ghost use Rattle.track.specs.Bakes.{bakedReply};
-ghost use Rattle.standing.specs.Moments.{outputsWere, outputsLeft};
 ghost use Rattle.resolver.specs.State.{Made};
 ghost use Rattle.resolver.specs.Promises.{Begins, Accepts, Expands, Retimes, BakesTrack, TellsTimes, TellsSamples, TellsClip, TellsTime, TellsValue, TellsUntimed, Installable, Installs};
 
@@ -207,7 +206,7 @@ impl Resolver {
         t: StageTime,
     ) -> ValueReply
         requires { ⌜ Made self ⌝ }
-        ensures { λ r. ⌜ TellsValue self (samplesOf (was times) (was values) (was marks) (was ends)) t r ⌝ }
+        ensures { λ r. ⌜ TellsValue self (samplesWere times values marks ends) t r ⌝ }
     {
         if !self.stands {
             return ValueReply::Refused(20);
@@ -238,7 +237,7 @@ impl Resolver {
     // Whether there is a value at all.
     pub fn untimed(self, times: &[f64], values: &[f64], marks: &[u8], ends: &[u64]) -> UntimedReply
         requires { ⌜ Made self ⌝ }
-        ensures { λ r. ⌜ TellsUntimed self (samplesOf (was times) (was values) (was marks) (was ends)) r ⌝ }
+        ensures { λ r. ⌜ TellsUntimed self (samplesWere times values marks ends) r ⌝ }
     {
         if !self.stands {
             return UntimedReply::Refused(20);
@@ -272,7 +271,7 @@ impl Resolver {
         out: &mut [f64],
     ) -> Counted
         requires { ⌜ Made self ⌝ }
-        ensures { λ r. ⌜ TellsTimes self (samplesOf (was times) (was values) (was marks) (was ends)) (was out) (after out) r ⌝ }
+        ensures { λ r. ⌜ TellsTimes self (samplesWere times values marks ends) (was out) (after out) r ⌝ }
     {
         if !self.stands {
             return refused_list(20);
@@ -304,7 +303,7 @@ impl Resolver {
         outmarks: &mut [u8],
     ) -> Counted
         requires { ⌜ Made self ⌝ }
-        ensures { λ r. ⌜ TellsSamples self (samplesOf (was times) (was values) (was marks) (was ends)) (was outtimes) (after outtimes) (was outmarks) (after outmarks) r ⌝ }
+        ensures { λ r. ⌜ TellsSamples self (samplesWere times values marks ends) (was outtimes) (after outtimes) (was outmarks) (after outmarks) r ⌝ }
     {
         if !self.stands {
             return refused_list(20);
@@ -341,7 +340,7 @@ impl Resolver {
         outmarks: &mut [u8],
     ) -> Baked
         requires { ⌜ Made self ⌝ }
-        ensures { λ r. ⌜ BakesTrack self (samplesOf (was times) (was values) (was marks) (was ends)) (outputsWere outtimes outvalues outmarks) (bakedReply r) (outputsLeft outtimes outvalues outmarks) ⌝ }
+        ensures { λ r. ⌜ BakesTrack self (samplesWere times values marks ends) (outsWere outtimes outvalues outmarks) (bakedReply r) (outsLeft outtimes outvalues outmarks) ⌝ }
     {
         if !self.stands {
             return refused_bake(20);

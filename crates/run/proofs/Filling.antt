@@ -8,10 +8,11 @@ use lib.Seq.{take-append-seam, drop-append-add, drop-drop, length-take-le}
 use lib.Ieee.{Float}
 use Rattle.gf.specs.Doubles.{ofKey}
 use Rattle.definitions.specs.Track.{Entry, Change, Outputs}
+use Rattle.definitions.specs.Moments.{outputs}
 use Rattle.laws.specs.track.Track as steps
 use Rattle.laws.proofs.track.Laws.{put, length-put, length-part, no-part}
 use Rattle.laws.specs.cell.Tracks.{writtenChange}
-use Rattle.run.specs.Walks.{outputs, writtenFrom, written, Room}
+use Rattle.run.specs.Walks.{writtenFrom, written, Room}
 
 -- ---- any list
 

@@ -12,6 +12,7 @@ use lib.Ieee.{Float}
 use Rattle.gf.specs.Doubles.{ofKey}
 use Rattle.definitions.specs.Track.{Entry, Outputs, alike}
 use Rattle.definitions.proofs.Tracks.{alike-refl}
+use Rattle.definitions.specs.Moments.{outputs}
 use Rattle.laws.proofs.list.Tests.{holds, is-true}
 use Rattle.laws.specs.track.Track.{Change}
 use Rattle.laws.specs.track.Steps.{Agree, Level}
@@ -21,7 +22,7 @@ use Rattle.laws.specs.cell.Tracks.{entry-same}
 use Rattle.cell.specs.declared.step.entry.Entry as declared
 use Rattle.cell.specs.step.Entries.{entryIs}
 use Rattle.run.specs.declared.walk.Went.{Went}
-use Rattle.run.specs.Walks.{outputs, written, Room, changeFrom, Offered, changesIn, Stands, Walked}
+use Rattle.run.specs.Walks.{written, Room, changeFrom, Offered, changesIn, Stands, Walked}
 use Rattle.run.proofs.Filling.{Long, written-none, written-one, written-long, written-join}
 
 -- ---- what is offered

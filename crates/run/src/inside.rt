@@ -14,13 +14,13 @@ ghost use mathlib.Core.Path.{_≡_};
 ghost use Prim.Native.Nat.{_≤_, _<_};
 ghost use lib.ListN.{length};
 ghost use Rattle.gf.specs.Doubles as Key;
-ghost use Rattle.definitions.specs.Moments.{was};
+ghost use Rattle.definitions.specs.Moments.{was, outputs, outsWere, outsLeft};
 ghost use Rattle.laws.specs.list.Places.{Ascending};
 ghost use Rattle.window.specs.SoundSegments.{SoundSegment};
 ghost use Rattle.cell.specs.step.Entries.{entryIs};
 ghost use Rattle.run.specs.Readings.{Reads, readingAt};
 ghost use Rattle.run.specs.Runs.{spanned, PassingOn, PlaceInRun, SampleIs, NextFromPlace, WalkedOn};
-ghost use Rattle.run.specs.Walks.{outputs, outputsWas, outputsAfter, Room};
+ghost use Rattle.run.specs.Walks.{Room};
 
 // The key of the next inverse time, the place of its sample, and the place behind it; or none.
 pub enum NextInRun {
@@ -96,7 +96,7 @@ pub fn fill_run(
 ) -> Went
     requires { ⌜ PassingOn (now cs) (now vs) (now ms) (s .a, s .b) (entryIs last) k hi ⌝ }
     requires { ⌜ Room room slot (outputs (now outtimes) (now outvalues) (now outmarks)) ⌝ }
-    ensures { λ r. ⌜ WalkedOn (was cs) (was vs) (was ms) (s .a, s .b) (entryIs last) k hi room slot (outputsWas outtimes outvalues outmarks) (outputsAfter outtimes outvalues outmarks) r ⌝ }
+    ensures { λ r. ⌜ WalkedOn (was cs) (was vs) (was ms) (s .a, s .b) (entryIs last) k hi room slot (outsWere outtimes outvalues outmarks) (outsLeft outtimes outvalues outmarks) r ⌝ }
 {
     let line = Line::Segment(s);
     let mut at = k;

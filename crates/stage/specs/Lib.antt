@@ -11,8 +11,6 @@ pub mod MinusZero
 pub mod First
 -- Whether -0.0 is among the gathered times
 pub mod Zeros
--- What a call is lent
-pub mod Moments
 -- What is promised of lent output lists
 pub mod Promises
 -- The mark of a stage sample

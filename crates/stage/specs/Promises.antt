@@ -6,8 +6,7 @@ use lib.ListN.{length}
 use lib.Ieee.{Float}
 use Rattle.definitions.specs.Lists.{writtenOver}
 use Rattle.definitions.specs.StageSamples.{StageSample}
-use Rattle.definitions.specs.Moments.{was, after}
-use Rattle.stage.specs.Moments.{Lent}
+use Rattle.definitions.specs.Moments.{was, after, Lent}
 use Rattle.stage.specs.declared.Written.{Written}
 use Rattle.stage.specs.declared.Written.the-variants.{Count, NoRoom}
 

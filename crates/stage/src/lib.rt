@@ -15,10 +15,9 @@ ghost use mathlib.Core.List.{[]};
 ghost use Prim.Native.Nat.{min};
 ghost use Rattle.definitions.specs.StageSamples.{stageSamples};
 ghost use Rattle.definitions.specs.Moments.{was, after};
-ghost use Rattle.laws.specs.cell.Lent.{AcceptedLists};
+ghost use Rattle.laws.specs.cell.Lent.{AcceptedLists, samplesWere};
 ghost use Rattle.stage.specs.Promises.{TimesWritten, WritesSamples};
 ghost use Rattle.stage.specs.Times.{timesOf, AcceptedTimes};
-ghost use Rattle.stage.specs.Moments.{samplesWere};
 ghost use Rattle.stage.specs.Marks.{unblocked};
 
 // How many entries were written, or that the lent lists are too short for them and nothing was.

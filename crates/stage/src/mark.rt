@@ -13,8 +13,7 @@ ghost use Rattle.definitions.specs.Lists.{writtenOver};
 ghost use Rattle.definitions.specs.StageSamples.{suppliedAt};
 ghost use Rattle.definitions.specs.Track.{markOf};
 ghost use Rattle.definitions.specs.Moments.{was, after};
-ghost use Rattle.laws.specs.cell.Lent.{AcceptedLists};
-ghost use Rattle.stage.specs.Moments.{samplesWere};
+ghost use Rattle.laws.specs.cell.Lent.{AcceptedLists, samplesWere};
 ghost use Rattle.stage.specs.Marks.{gapMarkOf, unblocked, marksAt};
 
 // The mark that stands where the active clip has no samples: that of the manifest default if it is a value, else a block.

@@ -4,10 +4,7 @@ use lib.ListN.{length}
 use lib.Ieee.{Float}
 use Rattle.definitions.specs.declared.Missing.{Missing}
 use Rattle.definitions.specs.ClipSet.{ClipSet}
-use Rattle.definitions.specs.Track.{Outputs}
-use Rattle.definitions.specs.Moments.{was, after}
-use Rattle.track.specs.Bakes.{outputs}
-use Rattle.stage.specs.Moments.{Lent}
+use Rattle.definitions.specs.Moments.{Lent, was}
 use Rattle.standing.specs.declared.Counts.{Counts}
 use Rattle.standing.specs.Standing.{lentSet, lentUnblocked}
 
@@ -16,12 +13,5 @@ abbrev pub setWas : Counts → Lent Float → Lent ℕ → Lent Float → Lent F
 setWas c starts numbers xs ys blocks m ends = lentSet (length (was ends)) c (was starts) (was numbers) (was xs) (was ys) (was blocks) m
 
 -- the same without manifest blocks
-abbrev pub unblockedWas : Counts → Lent Float → Lent ℕ → Lent Float → Lent Float → Missing → Lent ℕ → ClipSet
-unblockedWas c starts numbers xs ys m ends = lentUnblocked c (was starts) (was numbers) (was xs) (was ys) m (was ends)
-
--- the lists that a track is written to
-abbrev pub outputsWere : Lent Float → Lent Float → Lent ℕ → Outputs
-outputsWere times values marks = outputs (was times) (was values) (was marks)
-
-abbrev pub outputsLeft : Lent Float → Lent Float → Lent ℕ → Outputs
-outputsLeft times values marks = outputs (after times) (after values) (after marks)
+abbrev pub openWas : Counts → Lent Float → Lent ℕ → Lent Float → Lent Float → Missing → Lent ℕ → ClipSet
+openWas c starts numbers xs ys m ends = lentUnblocked c (was starts) (was numbers) (was xs) (was ys) m (was ends)

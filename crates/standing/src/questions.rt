@@ -16,16 +16,15 @@ ghost use Rattle.definitions.specs.ClipSet.{maxActive, maxKnots};
 ghost use Rattle.definitions.specs.StageSamples.{stageSamples, untimedAnswer};
 ghost use Rattle.definitions.specs.Timing.{activeEntry, clipOf, mapStageToClip};
 ghost use Rattle.definitions.specs.Value.{valueInSet};
-ghost use Rattle.definitions.specs.Moments.{was, after};
+ghost use Rattle.definitions.specs.Moments.{was, after, outsWere, outsLeft};
 ghost use Rattle.laws.specs.list.Places.{Ascending};
-ghost use Rattle.laws.specs.cell.Lent.{activeOf, knotsOf};
+ghost use Rattle.laws.specs.cell.Lent.{activeOf, knotsOf, samplesWere, setWas};
 ghost use Rattle.clip.specs.Holding.{Room};
 ghost use Rattle.value.specs.Untimed.{stateIs};
 ghost use Rattle.track.specs.Bakes.{BakeIs};
 ghost use Rattle.standing.specs.Lists.{countOf, ListsTimes, ListsSamples};
-ghost use Rattle.stage.specs.Moments.{samplesWere};
 ghost use Rattle.standing.specs.Standing.{Asked, TimesAsked, lentTimes, SamplesAsked, answered};
-ghost use Rattle.standing.specs.Moments.{setWas, unblockedWas, outputsWere, outputsLeft};
+ghost use Rattle.standing.specs.Moments.{setWas, openWas};
 
 pub enum ActiveClip {
     Clip(u64),
@@ -127,7 +126,7 @@ pub fn bake<'a>(
     outmarks: &mut [u8],
 ) -> Baked
     requires { ⌜ Asked counts (now starts) (now numbers) (now xs) (now ys) (now blocks) m (now times) (now values) (now marks) (now ends) ⌝ }
-    ensures { λ r. ⌜ BakeIs (setWas counts starts numbers xs ys blocks m ends) (samplesWere times values marks ends) (outputsWere outtimes outvalues outmarks) (outputsLeft outtimes outvalues outmarks) r ⌝ }
+    ensures { λ r. ⌜ BakeIs (setWas counts starts numbers xs ys blocks m ends) (samplesWere times values marks ends) (outsWere outtimes outvalues outmarks) (outsLeft outtimes outvalues outmarks) r ⌝ }
 {
     let n = counts.starts;
     let k = counts.knots;
@@ -193,7 +192,7 @@ pub fn stage_samples<'a>(
     outmarks: &mut [u8],
 ) -> Counted
     requires { ⌜ SamplesAsked counts (now starts) (now numbers) (now xs) (now ys) m (now times) (now values) (now marks) (now ends) ⌝ }
-    ensures { λ r. ⌜ ListsSamples (stageSamples (unblockedWas counts starts numbers xs ys m ends) (samplesWere times values marks ends)) (was outtimes) (after outtimes) (was outmarks) (after outmarks) r ⌝ }
+    ensures { λ r. ⌜ ListsSamples (stageSamples (openWas counts starts numbers xs ys m ends) (samplesWere times values marks ends)) (was outtimes) (after outtimes) (was outmarks) (after outmarks) r ⌝ }
 {
     let n = counts.starts;
     let k = counts.knots;

@@ -19,8 +19,8 @@ use track::bake::Baked;
 use value::untimed::ValueState;
 ghost use mathlib.Core.Path.{_≡_};
 ghost use Rattle.definitions.specs.Track.{readTrack};
-ghost use Rattle.definitions.specs.Moments.{was, after};
-ghost use Rattle.laws.specs.cell.Lent.{samplesOf};
+ghost use Rattle.definitions.specs.Moments.{was, after, outsWere, outsLeft};
+ghost use Rattle.laws.specs.cell.Lent.{samplesWere};
 ghost use Rattle.clip.specs.Holding.{manifest};
 ghost use Rattle.explicit.specs.Parsing.{explicitFields};
 ghost use Rattle.template.specs.Expanding.{templateFields};
@@ -28,7 +28,6 @@ ghost use Rattle.normal_form.specs.Normalizes.{Normalizes};
 ghost use Rattle.cell.specs.step.Entries.{entryIs};
 ghost use Rattle.track.specs.Bakes.{bakedReply};
 ghost use Rattle.track.specs.Held.{trackOfLists};
-ghost use Rattle.standing.specs.Moments.{outputsWere, outputsLeft};
 ghost use Rattle.resolver.specs.State.{Made};
 ghost use Rattle.resolver.specs.Promises.{Begins, Accepts, Expands, Retimes, BakesTrack, TellsTimes, TellsSamples};
 ghost use Rattle.tavitrozy.specs.Codes.{clipCode, timeCode, valueCode, untimedCode, TellsClip, TellsTime, TellsValue, TellsUntimed, nameCode, SaysName};
@@ -234,7 +233,7 @@ pub extern "C" fn tavitrozy_value(
     time: StageTime,
 ) -> ValueCode
     requires { ⌜ Made resolver ⌝ }
-    ensures { λ a. ⌜ TellsValue resolver (samplesOf (was times) (was values) (was marks) (was ends)) time a ⌝ }
+    ensures { λ a. ⌜ TellsValue resolver (samplesWere times values marks ends) time a ⌝ }
 {
     value_code(resolver.value(times, values, marks, ends, time))
 }
@@ -248,7 +247,7 @@ pub extern "C" fn tavitrozy_untimed(
     ends: &[u64],
 ) -> UntimedCode
     requires { ⌜ Made resolver ⌝ }
-    ensures { λ a. ⌜ TellsUntimed resolver (samplesOf (was times) (was values) (was marks) (was ends)) a ⌝ }
+    ensures { λ a. ⌜ TellsUntimed resolver (samplesWere times values marks ends) a ⌝ }
 {
     untimed_code(resolver.untimed(times, values, marks, ends))
 }
@@ -263,7 +262,7 @@ pub extern "C" fn tavitrozy_stage_sample_times(
     out: &mut [f64],
 ) -> Counted
     requires { ⌜ Made resolver ⌝ }
-    ensures { λ r. ⌜ TellsTimes resolver (samplesOf (was times) (was values) (was marks) (was ends)) (was out) (after out) r ⌝ }
+    ensures { λ r. ⌜ TellsTimes resolver (samplesWere times values marks ends) (was out) (after out) r ⌝ }
 {
     resolver.stage_sample_times(times, values, marks, ends, out)
 }
@@ -279,7 +278,7 @@ pub extern "C" fn tavitrozy_stage_samples(
     outmarks: &mut [u8],
 ) -> Counted
     requires { ⌜ Made resolver ⌝ }
-    ensures { λ r. ⌜ TellsSamples resolver (samplesOf (was times) (was values) (was marks) (was ends)) (was outtimes) (after outtimes) (was outmarks) (after outmarks) r ⌝ }
+    ensures { λ r. ⌜ TellsSamples resolver (samplesWere times values marks ends) (was outtimes) (after outtimes) (was outmarks) (after outmarks) r ⌝ }
 {
     resolver.stage_samples(times, values, marks, ends, outtimes, outmarks)
 }
@@ -296,7 +295,7 @@ pub extern "C" fn tavitrozy_bake(
     outmarks: &mut [u8],
 ) -> Baked
     requires { ⌜ Made resolver ⌝ }
-    ensures { λ r. ⌜ BakesTrack resolver (samplesOf (was times) (was values) (was marks) (was ends)) (outputsWere outtimes outvalues outmarks) (bakedReply r) (outputsLeft outtimes outvalues outmarks) ⌝ }
+    ensures { λ r. ⌜ BakesTrack resolver (samplesWere times values marks ends) (outsWere outtimes outvalues outmarks) (bakedReply r) (outsLeft outtimes outvalues outmarks) ⌝ }
 {
     resolver.bake(times, values, marks, ends, outtimes, outvalues, outmarks)
 }
@@ -346,7 +345,7 @@ pub extern "C" fn tavitrozy_normalize(
     outvalues: &mut [f64],
     outmarks: &mut [u8],
 ) -> Counted
-    ensures { λ r. ⌜ Normalizes (was times) (was values) (was marks) (outputsWere outtimes outvalues outmarks) (outputsLeft outtimes outvalues outmarks) r ⌝ }
+    ensures { λ r. ⌜ Normalizes (was times) (was values) (was marks) (outsWere outtimes outvalues outmarks) (outsLeft outtimes outvalues outmarks) r ⌝ }
 {
     normal_form::normalize_time_samples(times, values, marks, outtimes, outvalues, outmarks)
 }

@@ -13,12 +13,13 @@ use Rattle.definitions.specs.Lists.{_if_else_, writtenOver}
 use Rattle.definitions.specs.ClipSet.{ClipSet}
 use Rattle.definitions.specs.Samples.{Samples}
 use Rattle.definitions.specs.Track.{Entry, Change, changeTimes, Outputs, slots, writeTrack}
+use Rattle.definitions.specs.Moments.{outputs}
 use Rattle.laws.specs.track.Track as steps
 use Rattle.laws.specs.cell.Keys.{entryAtKey}
 use Rattle.laws.specs.cell.Tracks.{writtenChange}
 use Rattle.run.specs.Walks.{writtenFrom, written}
 use Rattle.track.specs.span.Changes.{changesOf}
-use Rattle.track.specs.Bakes.{outputs, trackOf, BakeIs}
+use Rattle.track.specs.Bakes.{trackOf, BakeIs}
 use Rattle.track.specs.Fills.{copied}
 
 written-length : (cs : List (steps.Change Entry)) → length (map writtenChange cs) ≡ length cs

@@ -12,6 +12,7 @@ use Rattle.definitions.specs.declared.Missing.{Missing}
 use Rattle.definitions.specs.ClipSet.{ClipSet, stage}
 use Rattle.definitions.specs.Samples.{Samples}
 use Rattle.definitions.specs.Track.{Outputs, slots}
+use Rattle.definitions.specs.Moments.{outputs}
 use Rattle.laws.proofs.track.Laws.{changes-none, changes-split}
 use Rattle.laws.proofs.cell.Direct.{SoundSet, SoundSamples}
 use Rattle.laws.specs.cell.Keys.{Keys, entryAtKey}
@@ -19,7 +20,7 @@ use Rattle.laws.proofs.cell.Tracks.{SoundValues, entries-alike}
 use Rattle.laws.specs.cell.Tracks.{entry-same}
 use Rattle.laws.specs.cell.Lent.{setOf, samplesOf}
 use Rattle.run.specs.declared.walk.Went.{Went}
-use Rattle.run.specs.Walks.{outputs, written, Room, Walked}
+use Rattle.run.specs.Walks.{written, Room, Walked}
 use Rattle.run.proofs.Filling.{Long}
 use Rattle.run.proofs.Walking.{Reaches}
 use Rattle.cell.specs.declared.place.WindowPlace.{WindowPlace}

@@ -17,9 +17,6 @@ use Rattle.track.specs.declared.bake.Baked.{Baked}
 
 -- ---- the bake
 
-abbrev pub outputs : List Float → List Float → List ℕ → Outputs
-outputs times values marks = record { times = times; values = values; marks = marks }
-
 -- the track of the value
 abbrev pub trackOf : ClipSet → Samples → Track
 trackOf set s = writtenTrack (entryAtKey set s least) (changesOf set s least most)

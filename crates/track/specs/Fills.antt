@@ -7,6 +7,7 @@ use lib.ListN.{length, take, drop}
 use lib.Ieee.{Float}
 use Rattle.definitions.specs.declared.Missing.{Missing}
 use Rattle.definitions.specs.Track.{Outputs, slots}
+use Rattle.definitions.specs.Moments.{Lent, was}
 use Rattle.laws.specs.cell.Keys.{Keys, entryAtKey}
 use Rattle.laws.specs.cell.Lent.{setOf, samplesOf}
 use Rattle.cell.specs.step.Entries.{entryIs}
@@ -36,6 +37,11 @@ pub record FillIs (starts : List Float) (clips : List ℕ) (xs ys blocks : List 
   pub writes : after ≡ written 0 (changesOf (setOf (length ends) starts clips xs ys blocks m) (samplesOf times values marks ends) from (r .cursor .key)) before
   pub fits : r .count ≤ slots before
   pub full : r .done ≡ false → r .count ≡ slots before
+
+-- the same of what a call was lent
+abbrev pub Fills : Lent Float → Lent ℕ → Lent Float → Lent Float → Lent Float → Missing → Lent Float → Lent Float → Lent ℕ → Lent ℕ → Cursor → ℕ → Outputs → Outputs → Filled → Type 0
+Fills starts clips xs ys blocks m times values marks ends from top before after r =
+    FillIs (was starts) (was clips) (was xs) (was ys) (was blocks) m (was times) (was values) (was marks) (was ends) (from .key) top before after r
 
 -- of a page that is dropped
 pub record PageIs (starts : List Float) (clips : List ℕ) (xs ys blocks : List Float) (m : Missing) (times values : List Float) (marks ends : List ℕ) (from top : ℕ) (r : Filled) : Type 0 where

@@ -13,15 +13,14 @@ use lists::writing::copy;
 use window::search::latest::latest_inverses;
 ghost use mathlib.Core.Path.{_≡_};
 ghost use Prim.Native.Nat.{_<_};
-ghost use lib.ListN.{length};
 ghost use Rattle.gf.specs.Doubles.{0·0};
 ghost use Rattle.gf.specs.Doubles as Key;
 ghost use Rattle.definitions.specs.Track.{slots};
-ghost use Rattle.definitions.specs.Moments.{was, after};
-ghost use Rattle.laws.specs.cell.Lent.{setOf, samplesOf, AcceptedLists};
+ghost use Rattle.definitions.specs.Moments.{outputs, outsWere, outsLeft};
+ghost use Rattle.laws.specs.cell.Lent.{AcceptedLists, setWas, samplesWere};
 ghost use Rattle.window.specs.neighbours.Latest.{LatestOf};
 ghost use Rattle.run.specs.Walks.{Room};
-ghost use Rattle.track.specs.Bakes.{outputs, BakeIs};
+ghost use Rattle.track.specs.Bakes.{BakeIs};
 ghost use Rattle.track.specs.Fills.{CursorIs, copied};
 
 // What a bake replies: 22, or 0 with the head and the number of changes.
@@ -44,7 +43,7 @@ fn write_page(
     outmarks: &mut [u8],
 )
     requires { ⌜ Room n 0 (outputs (now pagetimes) (now pagevalues) (now pagemarks)) ⌝ ∗ ⌜ Room n 0 (outputs (now outtimes) (now outvalues) (now outmarks)) ⌝ }
-    ensures { λ _. ⌜ outputs (after outtimes) (after outvalues) (after outmarks) ≡ copied n (outputs (was pagetimes) (was pagevalues) (was pagemarks)) (outputs (was outtimes) (was outvalues) (was outmarks)) ⌝ }
+    ensures { λ _. ⌜ outsLeft outtimes outvalues outmarks ≡ copied n (outsWere pagetimes pagevalues pagemarks) (outsWere outtimes outvalues outmarks) ⌝ }
 {
     copy(&pagetimes[..n], &mut outtimes[..n]);
     copy(&pagevalues[..n], &mut outvalues[..n]);
@@ -88,7 +87,7 @@ fn bake_by_pages(
     requires { ⌜ LatestOf (now xs) (now ys) (now latest) ⌝ }
     requires { ⌜ CursorIs (now starts) (now clips) (now xs) (now ys) (now blocks) m (now times) (now values) (now marks) (now ends) Key.most from ⌝ ∗ ⌜ from .key ≡ Key.least ⌝ }
     requires { ⌜ 0 < slots (outputs (now pagetimes) (now pagevalues) (now pagemarks)) ⌝ }
-    ensures { λ r. ⌜ BakeIs (setOf (length (was ends)) (was starts) (was clips) (was xs) (was ys) (was blocks) m) (samplesOf (was times) (was values) (was marks) (was ends)) (outputs (was outtimes) (was outvalues) (was outmarks)) (outputs (after outtimes) (after outvalues) (after outmarks)) r ⌝ }
+    ensures { λ r. ⌜ BakeIs (setWas starts clips xs ys blocks m ends) (samplesWere times values marks ends) (outsWere outtimes outvalues outmarks) (outsLeft outtimes outvalues outmarks) r ⌝ }
 {
     let room = shortest(outtimes.len(), outvalues.len(), outmarks.len());
     let head = from.last;
@@ -197,7 +196,7 @@ fn bake_from_least(
 ) -> Baked
     requires { ⌜ AcceptedLists (now starts) (now clips) (now xs) (now ys) (now blocks) m (now times) (now values) (now marks) (now ends) ⌝ }
     requires { ⌜ LatestOf (now xs) (now ys) (now latest) ⌝ }
-    ensures { λ r. ⌜ BakeIs (setOf (length (was ends)) (was starts) (was clips) (was xs) (was ys) (was blocks) m) (samplesOf (was times) (was values) (was marks) (was ends)) (outputs (was outtimes) (was outvalues) (was outmarks)) (outputs (after outtimes) (after outvalues) (after outmarks)) r ⌝ }
+    ensures { λ r. ⌜ BakeIs (setWas starts clips xs ys blocks m ends) (samplesWere times values marks ends) (outsWere outtimes outvalues outmarks) (outsLeft outtimes outvalues outmarks) r ⌝ }
 {
     let head = entry_at(
         starts,
@@ -261,7 +260,7 @@ pub fn bake(
     outmarks: &mut [u8],
 ) -> Baked
     requires { ⌜ AcceptedLists (now starts) (now clips) (now xs) (now ys) (now blocks) m (now times) (now values) (now marks) (now ends) ⌝ }
-    ensures { λ r. ⌜ BakeIs (setOf (length (was ends)) (was starts) (was clips) (was xs) (was ys) (was blocks) m) (samplesOf (was times) (was values) (was marks) (was ends)) (outputs (was outtimes) (was outvalues) (was outmarks)) (outputs (after outtimes) (after outvalues) (after outmarks)) r ⌝ }
+    ensures { λ r. ⌜ BakeIs (setWas starts clips xs ys blocks m ends) (samplesWere times values marks ends) (outsWere outtimes outvalues outmarks) (outsLeft outtimes outvalues outmarks) r ⌝ }
 {
     // without segments there are no inverse times, and no list of them is made
     if xs.len() < 2 {

@@ -7,11 +7,10 @@ ghost use Prim.Native.Nat.{_<_};
 ghost use lib.Dec.{leb};
 ghost use lib.ListN.{length};
 ghost use Rattle.definitions.specs.Track.{slots};
-ghost use Rattle.definitions.specs.Moments.{was};
-ghost use Rattle.laws.specs.cell.Lent.{setOf, samplesOf, AcceptedLists};
+ghost use Rattle.definitions.specs.Moments.{outputs};
+ghost use Rattle.laws.specs.cell.Lent.{AcceptedLists, setWas, samplesWere};
 ghost use Rattle.window.specs.neighbours.Latest.{LatestOf};
 ghost use Rattle.track.specs.span.Changes.{changesOf};
-ghost use Rattle.track.specs.Bakes.{outputs};
 ghost use Rattle.track.specs.Fills.{CursorIs};
 
 // Whether the changes above the cursor's key and up to top are at most room in number. Each page is filled and dropped. It stops
@@ -39,7 +38,7 @@ pub fn has_room(
     requires { ⌜ LatestOf (now xs) (now ys) (now latest) ⌝ }
     requires { ⌜ CursorIs (now starts) (now clips) (now xs) (now ys) (now blocks) m (now times) (now values) (now marks) (now ends) top from ⌝ }
     requires { ⌜ 0 < slots (outputs (now pagetimes) (now pagevalues) (now pagemarks)) ⌝ }
-    ensures { λ r. ⌜ r ≡ leb (length (changesOf (setOf (length (was ends)) (was starts) (was clips) (was xs) (was ys) (was blocks) m) (samplesOf (was times) (was values) (was marks) (was ends)) (from .key) top)) room ⌝ }
+    ensures { λ r. ⌜ r ≡ leb (length (changesOf (setWas starts clips xs ys blocks m ends) (samplesWere times values marks ends) (from .key) top)) room ⌝ }
 {
     let mut at = from;
     let mut count: usize = 0;

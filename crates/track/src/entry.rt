@@ -5,11 +5,9 @@ use definitions::Missing;
 use definitions::StageTime;
 ghost use mathlib.Core.Path.{_≡_};
 ghost use Prim.Native.Nat.{_≤_};
-ghost use lib.ListN.{length};
 ghost use Rattle.gf.specs.Doubles as Key;
-ghost use Rattle.definitions.specs.Moments.{was};
 ghost use Rattle.laws.specs.cell.Keys.{entryAtKey};
-ghost use Rattle.laws.specs.cell.Lent.{setOf, samplesOf, AcceptedLists};
+ghost use Rattle.laws.specs.cell.Lent.{AcceptedLists, setWas, samplesWere};
 ghost use Rattle.cell.specs.step.Entries.{entryIs};
 
 // The entry at the double with the key k.
@@ -28,7 +26,7 @@ pub fn entry_at(
 ) -> Entry
     requires { ⌜ AcceptedLists (now starts) (now clips) (now xs) (now ys) (now blocks) m (now times) (now values) (now marks) (now ends) ⌝ }
     requires { ⌜ (Key.least ≤ k) × (k ≤ Key.most) ⌝ }
-    ensures { λ r. ⌜ entryIs r ≡ entryAtKey (setOf (length (was ends)) (was starts) (was clips) (was xs) (was ys) (was blocks) m) (samplesOf (was times) (was values) (was marks) (was ends)) k ⌝ }
+    ensures { λ r. ⌜ entryIs r ≡ entryAtKey (setWas starts clips xs ys blocks m ends) (samplesWere times values marks ends) k ⌝ }
 {
     let t = gf::of_key(k);
     entry_of(value::value::value_in_set(

@@ -7,11 +7,10 @@ use definitions::Missing;
 use run::walk::offer;
 ghost use mathlib.Core.Path.{_≡_};
 ghost use Prim.Native.Nat.{min};
-ghost use Rattle.definitions.specs.Moments.{was, after};
+ghost use Rattle.definitions.specs.Moments.{outsWere, outsLeft};
 ghost use Rattle.laws.specs.cell.Lent.{AcceptedLists};
 ghost use Rattle.window.specs.neighbours.Latest.{LatestOf};
-ghost use Rattle.run.specs.Walks.{outputs};
-ghost use Rattle.track.specs.Fills.{CursorIs, FillIs};
+ghost use Rattle.track.specs.Fills.{CursorIs, Fills};
 
 // The key that a walk has reached, the entry there, and where its last search ended.
 pub struct Cursor {
@@ -65,7 +64,7 @@ pub fn fill(
     requires { ⌜ AcceptedLists (now starts) (now clips) (now xs) (now ys) (now blocks) m (now times) (now values) (now marks) (now ends) ⌝ }
     requires { ⌜ LatestOf (now xs) (now ys) (now latest) ⌝ }
     requires { ⌜ CursorIs (now starts) (now clips) (now xs) (now ys) (now blocks) m (now times) (now values) (now marks) (now ends) top from ⌝ }
-    ensures { λ r. ⌜ FillIs (was starts) (was clips) (was xs) (was ys) (was blocks) m (was times) (was values) (was marks) (was ends) (from .key) top (outputs (was outtimes) (was outvalues) (was outmarks)) (outputs (after outtimes) (after outvalues) (after outmarks)) r ⌝ }
+    ensures { λ r. ⌜ Fills starts clips xs ys blocks m times values marks ends from top (outsWere outtimes outvalues outmarks) (outsLeft outtimes outvalues outmarks) r ⌝ }
 {
     let room = shortest(outtimes.len(), outvalues.len(), outmarks.len());
     let mut at = from.key;

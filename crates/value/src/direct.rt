@@ -14,7 +14,7 @@ ghost use lib.ListN.{length, getD, take, drop};
 ghost use lib.Ieee.{Float, nan, eq};
 ghost use Rattle.definitions.specs.Lists.{any};
 ghost use Rattle.definitions.specs.Moments.{was};
-ghost use Rattle.laws.specs.cell.Lent.{start, activeOf, setOf, samplesOf, AcceptedLists};
+ghost use Rattle.laws.specs.cell.Lent.{start, activeOf, AcceptedLists, setWas, samplesWere};
 ghost use Rattle.window.specs.Parts.{Readable};
 ghost use Rattle.sdf.specs.look.Reads.{heldIs};
 ghost use Rattle.value.specs.direct.Reads.{readingIs, heldPart, readStart, firstRead, SearchAsks};
@@ -199,7 +199,7 @@ pub fn interpolate_missing_value(
     p: usize,
 ) -> Source
     requires { ⌜ AcceptedLists (now starts) (now clips) (now xs) (now ys) (now blocks) m (now times) (now values) (now marks) (now ends) ⌝ ∗ ⌜ p < length (now starts) ⌝ }
-    ensures { λ r. ⌜ r ≡ standIn (setOf (length (was ends)) (was starts) (was clips) (was xs) (was ys) (was blocks) m) (samplesOf (was times) (was values) (was marks) (was ends)) p ⌝ }
+    ensures { λ r. ⌜ r ≡ standIn (setWas starts clips xs ys blocks m ends) (samplesWere times values marks ends) p ⌝ }
 {
     let default = m.default;
     if default.mark == 0 {

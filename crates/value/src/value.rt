@@ -18,7 +18,7 @@ ghost use lib.ListN.{length};
 ghost use lib.Ieee.Scale.{finite};
 ghost use Rattle.definitions.specs.Value.{valueSource, valueInSet};
 ghost use Rattle.definitions.specs.Moments.{was};
-ghost use Rattle.laws.specs.cell.Lent.{setOf, samplesOf, AcceptedLists};
+ghost use Rattle.laws.specs.cell.Lent.{AcceptedLists, setWas, samplesWere};
 ghost use Rattle.value.specs.Answers.{answerIn, Answerable};
 ghost use Rattle.value.specs.Values.{Valued, ValueIn};
 
@@ -62,7 +62,7 @@ pub fn value_source(
     t: StageTime,
 ) -> Source
     requires { ⌜ AcceptedLists (now starts) (now clips) (now xs) (now ys) (now blocks) m (now times) (now values) (now marks) (now ends) ⌝ ∗ ⌜ T (finite (t .0)) ⌝ }
-    ensures { λ r. ⌜ r ≡ valueSource (setOf (length (was ends)) (was starts) (was clips) (was xs) (was ys) (was blocks) m) (samplesOf (was times) (was values) (was marks) (was ends)) t ⌝ }
+    ensures { λ r. ⌜ r ≡ valueSource (setWas starts clips xs ys blocks m ends) (samplesWere times values marks ends) t ⌝ }
 {
     if starts.len() == 0 {
         return Source::Absent;
@@ -129,7 +129,7 @@ pub fn value_in_set(
     t: StageTime,
 ) -> Answer
     requires { ⌜ AcceptedLists (now starts) (now clips) (now xs) (now ys) (now blocks) m (now times) (now values) (now marks) (now ends) ⌝ ∗ ⌜ T (finite (t .0)) ⌝ }
-    ensures { λ r. ⌜ r ≡ valueInSet (setOf (length (was ends)) (was starts) (was clips) (was xs) (was ys) (was blocks) m) (samplesOf (was times) (was values) (was marks) (was ends)) t ⌝ }
+    ensures { λ r. ⌜ r ≡ valueInSet (setWas starts clips xs ys blocks m ends) (samplesWere times values marks ends) t ⌝ }
 {
     let source = value_source(
         starts,

@@ -34,7 +34,8 @@ fn is_beyond(sa: f64, ca: f64, sb: f64, cb: f64, c: f64, t: f64) -> bool
 
 // The sample at `n` lies behind the place, or there is none at `n`.
 fn begins_at(cs: &[f64], sa: f64, ca: f64, sb: f64, cb: f64, t: f64, n: usize) -> bool
-    ensures { λ r. ⌜ ((r ≡ true) → n < length (was cs) → isBeyond t (knot sa ca, knot sb cb) (getD (was cs) n nan) ≡ true) ⌝ ∗ ⌜ ((r ≡ false) → (n < length (was cs)) × (isBeyond t (knot sa ca, knot sb cb) (getD (was cs) n nan) ≡ false)) ⌝ }
+    ensures { λ r. ⌜ ((r ≡ true) → n < length (was cs) → isBeyond t (knot sa ca, knot sb cb) (getD (was cs) n nan) ≡ true) ⌝ }
+    ensures { λ r. ⌜ ((r ≡ false) → (n < length (was cs)) × (isBeyond t (knot sa ca, knot sb cb) (getD (was cs) n nan) ≡ false)) ⌝ }
 {
     if n < cs.len() {
         return is_beyond(sa, ca, sb, cb, cs[n], t);

@@ -11,6 +11,7 @@ use Rattle.definitions.specs.Lists.{zipWith}
 use Rattle.definitions.specs.Explicit.{knot}
 use Rattle.definitions.specs.ClipSet.{ClipSet}
 use Rattle.definitions.specs.Samples.{Samples}
+use Rattle.definitions.specs.Moments.{Lent, was}
 use Rattle.laws.specs.list.Every.{Every}
 use Rattle.laws.specs.list.Places.{Fits}
 use Rattle.laws.specs.set.Sound.{Sound}
@@ -39,6 +40,14 @@ setOf n starts clips xs ys blocks m = record {
 
 abbrev pub samplesOf : List Float → List Float → List ℕ → List ℕ → Samples
 samplesOf times values marks ends = record { times = times; values = values; marks = marks; ends = ends }
+
+-- ---- of the lists as they were lent
+
+abbrev pub setWas : Lent Float → Lent ℕ → Lent Float → Lent Float → Lent Float → Missing → Lent ℕ → ClipSet
+setWas starts clips xs ys blocks m ends = setOf (length (was ends)) (was starts) (was clips) (was xs) (was ys) (was blocks) m
+
+abbrev pub samplesWere : Lent Float → Lent Float → Lent ℕ → Lent ℕ → Samples
+samplesWere times values marks ends = samplesOf (was times) (was values) (was marks) (was ends)
 
 -- ---- the laws' premises
 

@@ -3,10 +3,11 @@ use Prim.Native.Nat.{_≤_}
 use mathlib.Core.Path.{_≡_, sym, _∙_}
 use lib.ListN.{length}
 use lib.Seq.{length-take-le}
-use Rattle.normal_form.specs.Normalizes.{outputs, listedNumber}
+use Rattle.normal_form.specs.Normalizes.{listedNumber}
 use Rattle.normal_form.proofs.Normal.{refused}
 use Rattle.normal_form.proofs.Written.{untouched, long}
 use borrow.Author.Needs.{needs}
+use Rattle.definitions.specs.Moments.{outputs}
 use Rattle.normal_form.proofs.normalize_time_samples.Statement.{statement}
 use Rattle.normal_form.proofs.normalize_time_samples.Tie as tie
 

@@ -4,13 +4,14 @@ use Prim.Native.Nat.{ℕ, _-_, _≤_}
 use native.Mathlib.Omega.{arith}
 use borrow.Author.Needs.{needs}
 use Rattle.definitions.specs.Track.{Entry, Outputs}
+use Rattle.definitions.specs.Moments.{outputs}
 use Rattle.laws.specs.track.Steps.{Level, StepAt, FirstStep}
 use Rattle.laws.specs.declared.Next.{Next}
 use Rattle.laws.specs.cell.Keys.{Keys}
 use Rattle.cell.specs.step.Lines.{placeOn}
 use Rattle.cell.specs.step.Entries.{entryIs}
 use Rattle.run.specs.Readings.{Reads, entryAt, readingAt}
-use Rattle.run.specs.Walks.{outputs, Room, Stands}
+use Rattle.run.specs.Walks.{Room, Stands}
 use Rattle.run.proofs.Readings.{turns-once, place-inside, place-slots, read-level, read-reaches}
 use Rattle.run.proofs.Filling.{Long}
 use Rattle.run.proofs.Walking.{stands-first, stands-long, stands-room, stands-level, stands-next, stands-full, full, walked-all, walked-full}

@@ -11,6 +11,7 @@ use Rattle.definitions.specs.declared.Knot.{Knot}
 use Rattle.definitions.specs.ClipSet.{ClipSet}
 use Rattle.definitions.specs.Samples.{Samples, clipBegin, clipEnd}
 use Rattle.definitions.specs.Track.{Entry}
+use Rattle.definitions.specs.Moments.{Lent, was}
 use Rattle.laws.specs.track.Steps.{Agree}
 use Rattle.laws.specs.cell.Keys.{Keys, entryAtKey}
 use Rattle.laws.specs.cell.Lent.{setOf, samplesOf}
@@ -55,6 +56,9 @@ abbrev pub entryOn : List Float → List Float → List ℕ → List ℕ → Cel
 entryOn times values marks ends (Constant r) here j = here
 entryOn times values marks ends (Reading c line) here j = readingAt (part times ends c) (part values ends c) (part marks ends c) line j
 
+abbrev pub entryOnLent : Lent Float → Lent Float → Lent ℕ → Lent ℕ → Cell → Entry → ℕ → Entry
+entryOnLent times values marks ends = entryOn (was times) (was values) (was marks) (was ends)
+
 -- ---- with a run of samples
 
 -- the clip's part can be passed in the segment of q from k to hi, where e is read at k
@@ -74,6 +78,9 @@ SpanIs times values marks ends (ByRun c floor g n) here k hi = PastRun times val
 abbrev pub entryBy : List Float → List Float → List ℕ → List ℕ → ReadBy → Entry → ℕ → Entry
 entryBy times values marks ends (ByCell c) here j = entryOn times values marks ends c here j
 entryBy times values marks ends (ByRun c floor g n) here j = passingAt (part times ends c) (part values ends c) (part marks ends c) (g .a, g .b) floor j
+
+abbrev pub entryByLent : Lent Float → Lent Float → Lent ℕ → Lent ℕ → ReadBy → Entry → ℕ → Entry
+entryByLent times values marks ends = entryBy (was times) (was values) (was marks) (was ends)
 
 -- the span from k on, up to top: the value there is what its way says
 pub record StretchIs (set : ClipSet) (s : Samples) (k top : ℕ) (r : Span) : Type 0 where

@@ -8,11 +8,11 @@ use run::inside::fill_run;
 use run::walk::Went;
 use sdf::part::clip_begin;
 use sdf::part::clip_end;
-ghost use Rattle.definitions.specs.Moments.{was};
+ghost use Rattle.definitions.specs.Moments.{outputs, outsWere, outsLeft};
 ghost use Rattle.laws.specs.cell.Keys.{Keys};
 ghost use Rattle.cell.specs.step.Entries.{entryIs};
-ghost use Rattle.run.specs.Walks.{outputs, outputsWas, outputsAfter, Room, Walked};
-ghost use Rattle.track.specs.span.Runs.{Runs, SpanIs, entryOn, entryBy};
+ghost use Rattle.run.specs.Walks.{Room, Walked};
+ghost use Rattle.track.specs.span.Runs.{Runs, SpanIs, entryOnLent, entryByLent};
 
 // Writes the changes above the key k and up to hi in a cell that says `here` at k, from slot n on.
 fn fill_cell(
@@ -33,7 +33,7 @@ fn fill_cell(
     requires { ⌜ Keys k hi ⌝ }
     requires { ⌜ Runs (now times) (now values) (now marks) (now ends) cell k hi ⌝ }
     requires { ⌜ Room room n (outputs (now outtimes) (now outvalues) (now outmarks)) ⌝ }
-    ensures { λ r. ⌜ Walked (entryOn (was times) (was values) (was marks) (was ends) cell (entryIs here)) k hi room n (outputsWas outtimes outvalues outmarks) (outputsAfter outtimes outvalues outmarks) r ⌝ }
+    ensures { λ r. ⌜ Walked (entryOnLent times values marks ends cell (entryIs here)) k hi room n (outsWere outtimes outvalues outmarks) (outsLeft outtimes outvalues outmarks) r ⌝ }
 {
     let Cell::Reading(clip, line) = cell else {
         return Went {
@@ -77,7 +77,7 @@ pub fn fill_in(
     requires { ⌜ Keys k (s .hi) ⌝ }
     requires { ⌜ SpanIs (now times) (now values) (now marks) (now ends) (s .way) (entryIs (s .here)) k (s .hi) ⌝ }
     requires { ⌜ Room room n (outputs (now outtimes) (now outvalues) (now outmarks)) ⌝ }
-    ensures { λ r. ⌜ Walked (entryBy (was times) (was values) (was marks) (was ends) (s .way) (entryIs (s .here))) k (s .hi) room n (outputsWas outtimes outvalues outmarks) (outputsAfter outtimes outvalues outmarks) r ⌝ }
+    ensures { λ r. ⌜ Walked (entryByLent times values marks ends (s .way) (entryIs (s .here))) k (s .hi) room n (outsWere outtimes outvalues outmarks) (outsLeft outtimes outvalues outmarks) r ⌝ }
 {
     let way = s.way;
     let here = s.here;

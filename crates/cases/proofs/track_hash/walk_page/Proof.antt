@@ -6,7 +6,7 @@ use native.Mathlib.Omega.{arith}
 use lib.ListN.{length}
 use lib.Ieee.{Float}
 use Rattle.definitions.specs.Track.{slots}
-use Rattle.run.specs.Walks.{outputs}
+use Rattle.definitions.specs.Moments.{outputs}
 use Rattle.track.proofs.Walks.{slots-is, slots-some, paged}
 use borrow.Author.Needs.{needs}
 use Rattle.cases.proofs.track_hash.walk_page.Statement.{statement}

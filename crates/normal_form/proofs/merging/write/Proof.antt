@@ -2,7 +2,7 @@
 use native.Mathlib.Omega.{arith}
 use lib.ListN.{length}
 use Rattle.definitions.specs.Track.{Outputs}
-use Rattle.normal_form.specs.Normalizes.{outputs}
+use Rattle.definitions.specs.Moments.{outputs}
 use Rattle.normal_form.proofs.Normal.{short-times, short-values, short-marks}
 use Rattle.normal_form.proofs.Written.{first-length, last-length, first-inside, last-values, last-marks, no-room, written}
 use borrow.Author.Needs.{needs}

@@ -6,12 +6,13 @@ use borrow.Author.Needs.{needs}
 use lib.Ieee.{Float}
 use Rattle.definitions.specs.declared.Knot.{Knot}
 use Rattle.definitions.specs.Track.{Entry, Outputs}
+use Rattle.definitions.specs.Moments.{outputs}
 use Rattle.window.specs.nearest.Crossings.{isBeyond, Crossing}
 use Rattle.cell.specs.step.Entries.{entryIs}
 use Rattle.run.specs.declared.inside.NextInRun.{NextInRun}
 use Rattle.run.specs.declared.inside.NextInRun.the-variants.{Nothing}
 use Rattle.run.specs.Runs.{passingAt, Passing, InRun, left, InRunAt, NextInRunIs}
-use Rattle.run.specs.Walks.{outputs, Room, Stands}
+use Rattle.run.specs.Walks.{Room, Stands}
 use Rattle.run.proofs.Runs.{begins}
 use Rattle.run.proofs.Between.{stays, passed-reads, passed-reaches}
 use Rattle.run.proofs.Filling.{Long}

@@ -3,8 +3,8 @@ use mathlib.Core.Path.{_≡_, sym, _∙_}
 use mathlib.Core.Bool.{false}
 use native.Mathlib.Omega.{arith}
 use Rattle.definitions.specs.Track.{Outputs, alike}
+use Rattle.definitions.specs.Moments.{outputs}
 use Rattle.cell.specs.step.Entries.{entryIs}
-use Rattle.run.specs.Walks.{outputs}
 use Rattle.run.proofs.Walking.{offered-none, offered-full, offered-one}
 use borrow.Author.Needs.{needs}
 use Rattle.run.proofs.walk.offer.Statement.{statement}

@@ -9,13 +9,14 @@ use Rattle.gf.specs.Doubles.{least, most}
 use Rattle.definitions.specs.ClipSet.{ClipSet}
 use Rattle.definitions.specs.Samples.{Samples}
 use Rattle.definitions.specs.Track.{slots}
+use Rattle.definitions.specs.Moments.{outputs}
 use Rattle.laws.specs.cell.Keys.{entryAtKey}
 use Rattle.laws.specs.cell.Lent.{setOf, samplesOf}
 use Rattle.cell.specs.step.Entries.{entryIs}
 use Rattle.run.proofs.Filling.{Long}
 use Rattle.track.specs.span.Changes.{changesOf}
 use Rattle.track.specs.declared.bake.Baked.{Baked}
-use Rattle.track.specs.Bakes.{outputs, BakeIs}
+use Rattle.track.specs.Bakes.{BakeIs}
 use Rattle.track.proofs.Walks.{slots-is, slots-long, room-of, filled-total, filled-done, filled-all}
 use Rattle.track.proofs.Baking.{page-copied, bake-refused, bake-done}
 use Rattle.track.proofs.bake.bake_by_pages.Statement.{statement}

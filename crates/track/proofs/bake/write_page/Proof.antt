@@ -3,7 +3,7 @@ use mathlib.Core.Path.{sym, _∙_}
 use lib.Seq.{length-take-le}
 use borrow.Author.Needs.{needs}
 use denote.Ref.{now}
-use Rattle.track.specs.Bakes.{outputs}
+use Rattle.definitions.specs.Moments.{outputs}
 use Rattle.track.proofs.Baking.{copied-is}
 use Rattle.track.proofs.bake.write_page.Statement.{statement}
 use Rattle.track.proofs.bake.write_page.Tie as tie

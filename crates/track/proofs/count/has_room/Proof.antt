@@ -7,6 +7,7 @@ use lib.ListN.{length}
 use borrow.Author.Tests.{le-leb, lt-leb}
 use Rattle.definitions.specs.ClipSet.{ClipSet}
 use Rattle.definitions.specs.Samples.{Samples}
+use Rattle.definitions.specs.Moments.{outputs}
 use Rattle.laws.proofs.track.Laws.{changes-none}
 use Rattle.laws.specs.cell.Keys.{entryAtKey}
 use Rattle.laws.specs.cell.Tracks.{entry-same}
@@ -14,7 +15,6 @@ use Rattle.laws.specs.cell.Lent.{setOf, samplesOf}
 use Rattle.track.specs.span.Changes.{changesOf}
 use Rattle.track.specs.Fills.{CursorIs, PageIs}
 use Rattle.run.proofs.Filling.{Long}
-use Rattle.track.specs.Bakes.{outputs}
 use Rattle.track.proofs.Walks.{split-length, paged, slots-long}
 use Rattle.track.proofs.count.has_room.Statement.{statement}
 use Rattle.track.proofs.count.has_room.Tie as tie

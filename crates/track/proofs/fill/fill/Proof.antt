@@ -7,10 +7,11 @@ use borrow.Author.Tests.{not-true, not-false}
 use Rattle.definitions.specs.ClipSet.{ClipSet}
 use Rattle.definitions.specs.Samples.{Samples}
 use Rattle.definitions.specs.Track.{Entry, Outputs, slots}
+use Rattle.definitions.specs.Moments.{outputs}
 use Rattle.laws.specs.cell.Keys.{Keys, entryAtKey}
 use Rattle.laws.specs.cell.Lent.{setOf, samplesOf}
 use Rattle.cell.specs.step.Entries.{entryIs}
-use Rattle.run.specs.Walks.{outputs, Room, Stands, Walked}
+use Rattle.run.specs.Walks.{Room, Stands, Walked}
 use Rattle.run.proofs.Filling.{Long}
 use Rattle.run.proofs.Walking.{Reaches, stands-first, stands-long, stands-room, stands-next, stands-full, full, walked-all, walked-full, walked-agree, walked-wider, walked-join}
 use Rattle.cell.specs.WindowPlaces.{PlaceIs}

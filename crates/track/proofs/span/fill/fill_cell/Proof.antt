@@ -7,9 +7,10 @@ use native.Mathlib.Omega.{arith}
 use lib.ListN.{length}
 use lib.Ieee.{Float}
 use Rattle.definitions.specs.Track.{Entry}
+use Rattle.definitions.specs.Moments.{outputs}
 use Rattle.cell.specs.step.Entries.{entryIs}
 use Rattle.run.specs.Readings.{readingAt}
-use Rattle.run.specs.Walks.{outputs, Walked}
+use Rattle.run.specs.Walks.{Walked}
 use Rattle.run.proofs.Walking.{stands-first, stands-level, walked-all}
 use Rattle.cell.specs.declared.Cell.{Cell}
 use Rattle.track.specs.span.Runs.{Run, Runs, entryOn}

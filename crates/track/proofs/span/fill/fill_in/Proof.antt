@@ -6,8 +6,9 @@ use native.Mathlib.Omega.{arith}
 use lib.ListN.{length}
 use lib.Ieee.{Float}
 use Rattle.definitions.specs.declared.Knot.{Knot}
+use Rattle.definitions.specs.Moments.{outputs}
 use Rattle.cell.specs.step.Entries.{entryIs}
-use Rattle.run.specs.Walks.{outputs, Walked}
+use Rattle.run.specs.Walks.{Walked}
 use Rattle.run.specs.Runs.{passingAt, Passing}
 use Rattle.track.specs.declared.span.ReadBy.{ReadBy}
 use Rattle.track.specs.span.Runs.{PastRun, SpanIs, entryBy}
