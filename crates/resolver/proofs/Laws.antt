@@ -25,7 +25,7 @@ use Rattle.definitions.specs.declared.StageTime.{StageTime}
 use Rattle.definitions.specs.Questions.{Reply, refused, replied, reply, ofSet, stageTimeNumber, roomNumber, askStageSampleTimes, askStageSamples}
 use Rattle.gf.specs.Doubles.{0·0}
 use Rattle.definitions.specs.Track.{Track, Outputs, slots, bakeNumber}
-use Rattle.laws.specs.cell.Lent.{setOf, samplesOf}
+use Rattle.laws.specs.cell.Lent.{setOf, samplesOf, AcceptedLists}
 use Rattle.laws.proofs.cell.Lent.{active-times, knot-times, sound-set, sound-samples}
 use Rattle.track.specs.declared.bake.Baked.{Baked}
 use Rattle.track.specs.Bakes.{BakeIs, bakedIs, bakedReply}
@@ -229,6 +229,29 @@ module _ (d : Resolver) {times values : List Float} {marks ends : List ℕ} {n :
       subst (λ (x : Model). Bakes x s before (bakedReply r) after) (sym (stands-as d e))
       (bakes (standingIn d) s (sound-set (setIn (d .set)) sound) (sound-samples (setIn (d .set)) s is-accepted)
       (record { values = j .values-fit; default = sound .default .fitting }) (sym (judged-number d j) ∙ z) before after r (subst (λ (x : ClipSet). BakeIs x s before after r) lent-is p))
+
+  -- ---- the same without knots and blocks
+
+  module _ (k : d .set .counts .knots ≡ 0) (b : d .set .counts .blocks ≡ 0) where
+    abbrev starts : List Float
+    starts = take (d .set .counts .starts) (d .set .starts)
+
+    abbrev numbers : List ℕ
+    numbers = take (d .set .counts .starts) (d .set .numbers)
+
+    pub plain-ready : AcceptedLists starts numbers [] [] [] (d .set .manifest) times values marks ends
+    plain-ready =
+        subst (λ (n : ℕ). AcceptedLists starts numbers (take n (d .set .xs)) (take n (d .set .ys)) [] (d .set .manifest) times values marks ends) k
+        (subst (λ (n : ℕ). AcceptedLists starts numbers (take (d .set .counts .knots) (d .set .xs)) (take (d .set .counts .knots) (d .set .ys)) (take n (d .set .blocks)) (d .set .manifest) times values marks ends) b (is-asked .ready))
+
+    pub bakes-plain : (before after : Outputs) (r : Baked)
+        → BakeIs (setOf (length ends) starts numbers [] [] [] (d .set .manifest)) (samplesOf times values marks ends) before after r
+        → Bakes (model d) (samplesOf times values marks ends) before (bakedReply r) after
+    bakes-plain before after r p =
+        let s = samplesOf times values marks ends in
+        bakes-set before after r
+        (subst (λ (n : ℕ). BakeIs (setOf (length ends) starts numbers (take (d .set .counts .knots) (d .set .xs)) (take (d .set .counts .knots) (d .set .ys)) (take n (d .set .blocks)) (d .set .manifest)) s before after r) (sym b)
+        (subst (λ (n : ℕ). BakeIs (setOf (length ends) starts numbers (take n (d .set .xs)) (take n (d .set .ys)) [] (d .set .manifest)) s before after r) (sym k) p))
 
 -- ---- the active clip, case by case
 

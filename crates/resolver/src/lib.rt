@@ -165,12 +165,10 @@ impl Resolver {
         if !gf::is_finite(t.0) {
             return TimeReply::Refused(10);
         }
-        TimeReply::Time(questions::map_stage_to_clip(
-            &self.set.xs,
-            &self.set.ys,
-            self.set.counts.knots,
-            t,
-        ))
+        let set = self.set;
+        let xs = set.xs;
+        let ys = set.ys;
+        TimeReply::Time(questions::map_stage_to_clip(&xs, &ys, set.counts.knots, t))
     }
 
     // The clip that is active at a stage time, none in a set without starts.
@@ -184,12 +182,10 @@ impl Resolver {
         if !gf::is_finite(t.0) {
             return ClipReply::Refused(10);
         }
-        let active = questions::active_clip(
-            &self.set.starts,
-            &self.set.numbers,
-            self.set.counts.starts,
-            t,
-        );
+        let set = self.set;
+        let starts = set.starts;
+        let numbers = set.numbers;
+        let active = questions::active_clip(&starts, &numbers, set.counts.starts, t);
         match active {
             ActiveClip::Clip(c) => ClipReply::Clip(c),
             ActiveClip::NoClip => ClipReply::NoClip,
@@ -349,14 +345,39 @@ impl Resolver {
         if number != 0 {
             return refused_bake(number);
         }
+        let set = self.set;
+        let starts = set.starts;
+        let numbers = set.numbers;
+        let counts = set.counts;
+        let manifest = set.manifest;
+        if counts.knots == 0 {
+            if counts.blocks == 0 {
+                return questions::bake_knotless(
+                    &starts,
+                    &numbers,
+                    counts.starts,
+                    manifest,
+                    times,
+                    values,
+                    marks,
+                    ends,
+                    outtimes,
+                    outvalues,
+                    outmarks,
+                );
+            }
+        }
+        let xs = set.xs;
+        let ys = set.ys;
+        let blocks = set.blocks;
         questions::bake(
-            &self.set.starts,
-            &self.set.numbers,
-            &self.set.xs,
-            &self.set.ys,
-            &self.set.blocks,
-            self.set.counts,
-            self.set.manifest,
+            &starts,
+            &numbers,
+            &xs,
+            &ys,
+            &blocks,
+            counts,
+            manifest,
             times,
             values,
             marks,

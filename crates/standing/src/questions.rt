@@ -9,6 +9,7 @@ use stage::Written;
 use track::bake::Baked;
 use value::untimed::ValueState;
 ghost use mathlib.Core.Path.{_≡_};
+ghost use mathlib.Core.List.{[]};
 ghost use lib.Dec.{T};
 ghost use lib.ListN.{take};
 ghost use lib.Ieee.Scale.{finite};
@@ -18,13 +19,13 @@ ghost use Rattle.definitions.specs.Timing.{activeEntry, clipOf, mapStageToClip}
 ghost use Rattle.definitions.specs.Value.{valueInSet};
 ghost use Rattle.definitions.specs.Moments.{was, after, outsWere, outsLeft};
 ghost use Rattle.laws.specs.list.Places.{Ascending};
-ghost use Rattle.laws.specs.cell.Lent.{activeOf, knotsOf, samplesWere, setWas};
+ghost use Rattle.laws.specs.cell.Lent.{activeOf, knotsOf, samplesWere, AcceptedLists};
 ghost use Rattle.clip.specs.Holding.{Room};
 ghost use Rattle.value.specs.Untimed.{stateIs};
 ghost use Rattle.track.specs.Bakes.{BakeIs};
 ghost use Rattle.standing.specs.Lists.{countOf, ListsTimes, ListsSamples};
 ghost use Rattle.standing.specs.Standing.{Asked, TimesAsked, lentTimes, SamplesAsked, answered};
-ghost use Rattle.standing.specs.Moments.{setWas, openWas};
+ghost use Rattle.standing.specs.Moments.{setWas, openWas, knotlessWas};
 
 pub enum ActiveClip {
     Clip(u64),
@@ -137,6 +138,41 @@ pub fn bake<'a>(
         &xs[..k],
         &ys[..k],
         &blocks[..b],
+        m,
+        times,
+        values,
+        marks,
+        ends,
+        outtimes,
+        outvalues,
+        outmarks,
+    )
+}
+
+// The same of a set without knots and blocks, whose arrays need not be lent then.
+pub fn bake_knotless<'a>(
+    starts: &'a [f64],
+    numbers: &'a [u64],
+    n: usize,
+    m: Missing,
+    times: &[f64],
+    values: &[f64],
+    marks: &[u8],
+    ends: &[u64],
+    outtimes: &mut [f64],
+    outvalues: &mut [f64],
+    outmarks: &mut [u8],
+) -> Baked
+    requires { ⌜ Room maxActive (now starts) n ⌝ ∗ ⌜ Room maxActive (now numbers) n ⌝ }
+    requires { ⌜ AcceptedLists (take n (now starts)) (take n (now numbers)) [] [] [] m (now times) (now values) (now marks) (now ends) ⌝ }
+    ensures { λ r. ⌜ BakeIs (knotlessWas starts numbers n m ends) (samplesWere times values marks ends) (outsWere outtimes outvalues outmarks) (outsLeft outtimes outvalues outmarks) r ⌝ }
+{
+    track::bake::bake(
+        &starts[..n],
+        &numbers[..n],
+        &starts[..0],
+        &starts[..0],
+        &starts[..0],
         m,
         times,
         values,

@@ -15,7 +15,7 @@ passed c = c .before .before .before .before .before .before
 
 returns : tie.Need-returns
 unfolding askActiveClip
-returns c = asked-20 _ (c .before .args .t1) (not-true _ (c .if1 .taken))
+returns c = asked-20 _ (c .before .before .args .self) (not-true _ (c .if1 .taken))
 
 is-finite-requires : tie.Need-is-finite-requires
 is-finite-requires c κs = search needs
@@ -23,14 +23,20 @@ is-finite-requires c κs = search needs
 returns-2 : tie.Need-returns-2
 unfolding askActiveClip
 returns-2 c =
-    let s = c .before .before .before in
-    not-finite (s .args .t) _ (sym (c .before .is-finite .ensures) ∙ not-true _ (c .if2 .taken)) ∙ asked _ (s .args .t1) (not-false _ (c .before .before .if1 .left))
+    let s = c .before .before .before .before in
+    not-finite (s .args .t) _ (sym (c .before .is-finite .ensures) ∙ not-true _ (c .if2 .taken)) ∙ asked _ (s .args .self) (not-false _ (c .before .before .if1 .left))
+
+slice-aggregate-active-clip : tie.Need-slice-aggregate-active-clip
+slice-aggregate-active-clip c = search needs
+
+slice-aggregate-active-clip-2 : tie.Need-slice-aggregate-active-clip-2
+slice-aggregate-active-clip-2 c = search needs
 
 active-clip-requires : tie.Need-active-clip-requires
 active-clip-requires c κs =
     let p = c .before .before .before .before .before in
-    let s = p .before .before .before in
-    (s .pre .whole .in-starts, (s .pre .whole .in-numbers, starts-ascend (s .args .t1) (s .pre) (not-false _ (p .before .before .if1 .left))))
+    let s = p .before .before .before .before in
+    (s .pre .whole .in-starts, (s .pre .whole .in-numbers, starts-ascend (s .args .self) (s .pre) (not-false _ (p .before .before .if1 .left))))
 
 enum-known-active : tie.Need-enum-known-active
 enum-known-active c = search needs
@@ -43,21 +49,32 @@ unfolding askActiveClip activeClip setOf
 returns-3 c =
     let m = c .before .before .before in
     let p = passed m in
-    let s = p .before .before .before in
+    let s = p .before .before .before .before in
     clip-told _ _ (sym (c .before .active .given .1) ∙ m .active-clip .ensures)
     ∙ is-finite (s .args .t) _ (sym (p .before .is-finite .ensures) ∙ not-false _ (p .if2 .left))
-    ∙ asked _ (s .args .t1) (not-false _ (p .before .before .if1 .left))
+    ∙ asked _ (s .args .self) (not-false _ (p .before .before .if1 .left))
 
 returns-4 : tie.Need-returns-4
 unfolding askActiveClip activeClip setOf
 returns-4 c =
     let m = c .before .before in
     let p = passed m in
-    let s = p .before .before .before in
+    let s = p .before .before .before .before in
     none-told _ (sym (c .enum-told .given .1) ∙ m .active-clip .ensures)
     ∙ is-finite (s .args .t) _ (sym (p .before .is-finite .ensures) ∙ not-false _ (p .if2 .left))
-    ∙ asked _ (s .args .t1) (not-false _ (p .before .before .if1 .left))
+    ∙ asked _ (s .args .self) (not-false _ (p .before .before .if1 .left))
 
 pub active-clip-spec : {M : Type 1} → statement M
 active-clip-spec =
-    tie.close (tie.spec returns is-finite-requires returns-2 active-clip-requires enum-known-active enum-told returns-3 returns-4)
+    tie.close
+    (tie.spec
+    returns
+    is-finite-requires
+    returns-2
+    slice-aggregate-active-clip
+    slice-aggregate-active-clip-2
+    active-clip-requires
+    enum-known-active
+    enum-told
+    returns-3
+    returns-4)

@@ -7,7 +7,7 @@ use Rattle.definitions.specs.Samples.{Samples}
 use Rattle.definitions.specs.Track.{Outputs}
 use Rattle.definitions.specs.Moments.{outputs}
 use Rattle.laws.specs.cell.Lent.{samplesOf}
-use Rattle.resolver.proofs.Laws.{judged-number, bakes-20, bakes-refused, bakes-set, bakes-reply, reply-refused, is-asked}
+use Rattle.resolver.proofs.Laws.{judged-number, bakes-20, bakes-refused, bakes-set, bakes-plain, bakes-reply, reply-refused, is-asked, plain-ready}
 use Rattle.resolver.proofs.Resolver.bake.Statement.{statement}
 use Rattle.resolver.proofs.Resolver.bake.Tie as tie
 
@@ -22,8 +22,8 @@ refused-bake-requires c κs = search needs
 
 returns : tie.Need-returns
 returns c =
-    let s = c .before .before .before .before .before .before .before .before .before in
-    bakes-reply (reply-refused _ 20 (c .refused-bake .ensures) (λ z. omega arith)) (bakes-20 (s .args .t1) (lent s) (before s) (not-true _ (c .before .if1 .taken)))
+    let s = c .before .before .before .before .before .before .before .before .before .before in
+    bakes-reply (reply-refused _ 20 (c .refused-bake .ensures) (λ z. omega arith)) (bakes-20 (s .args .self) (lent s) (before s) (not-true _ (c .before .if1 .taken)))
 
 samples-number-requires : tie.Need-samples-number-requires
 samples-number-requires c κs = search needs
@@ -34,15 +34,28 @@ refused-bake-requires-2 c κs = search needs
 returns-2 : tie.Need-returns-2
 returns-2 c =
     let p = c .before in
-    let s = p .before .before .before .before .before .before .before .before .before .before in
+    let s = p .before .before .before .before .before .before .before .before .before .before .before in
     bakes-reply (reply-refused _ _ (c .refused-bake2 .ensures) (p .if2 .taken))
-    (bakes-refused (s .args .t1) (lent s) (before s) _ (not-false _ (p .before .before .if1 .left)) (judged-number (s .args .t1) (p .before .samples-number .ensures)) (p .if2 .taken))
+    (bakes-refused (s .args .self) (lent s) (before s) _ (not-false _ (p .before .before .if1 .left)) (judged-number (s .args .self) (p .before .samples-number .ensures)) (p .if2 .taken))
 
-bake-requires : tie.Need-bake-requires
-bake-requires c κs =
-    let p = c .before .before .before .before .before .before .before .before .before .before .before .before .before .before .before .before in
-    let s = p .before .before .before .before .before .before .before .before .before .before in
-    is-asked (s .args .t1) (s .pre) (not-false _ (p .before .before .if1 .left)) (p .before .samples-number .ensures) (p .if2 .left)
+slice-aggregate-bake-knotless : tie.Need-slice-aggregate-bake-knotless
+slice-aggregate-bake-knotless c = search needs
+
+slice-aggregate-bake-knotless-2 : tie.Need-slice-aggregate-bake-knotless-2
+slice-aggregate-bake-knotless-2 c = search needs
+
+bake-knotless-requires : tie.Need-bake-knotless-requires
+bake-knotless-requires c κs =
+    let b = c .before .before .before .before .before in
+    let k = b .before .before in
+    let p = k .before .before .before .before .before .before .before in
+    let s = p .before .before .before .before .before .before .before .before .before .before .before in (
+      s .pre .whole .in-starts,
+      (
+        s .pre .whole .in-numbers,
+        plain-ready (s .args .self) (s .pre) (not-false _ (p .before .before .if1 .left)) (p .before .samples-number .ensures) (p .if2 .left) (k .if3 .taken) (b .if4 .taken),
+      ),
+    )
 
 same-length : tie.Need-same-length
 same-length c = search needs
@@ -56,10 +69,72 @@ same-length-3 c = search needs
 returns-3 : tie.Need-returns-3
 returns-3 c =
     let w = c .before .before .before .before .before .before in
-    let p = w .before .before .before .before .before .before .before .before .before .before .before .before .before .before .before .before .before in
-    let s = p .before .before .before .before .before .before .before .before .before .before in
-    bakes-set (s .args .t1) (s .pre) (not-false _ (p .before .before .if1 .left)) (p .before .samples-number .ensures) (p .if2 .left) _ _ _ (w .bake .ensures)
+    let b = w .before .before .before .before .before .before in
+    let k = b .before .before in
+    let p = k .before .before .before .before .before .before .before in
+    let s = p .before .before .before .before .before .before .before .before .before .before .before in
+    bakes-plain (s .args .self) (s .pre) (not-false _ (p .before .before .if1 .left)) (p .before .samples-number .ensures) (p .if2 .left) (k .if3 .taken) (b .if4 .taken) _ _ _ (w .bake-knotless .ensures)
+
+slice-aggregate-bake : tie.Need-slice-aggregate-bake
+slice-aggregate-bake c = search needs
+
+slice-aggregate-bake-2 : tie.Need-slice-aggregate-bake-2
+slice-aggregate-bake-2 c = search needs
+
+slice-aggregate-bake-3 : tie.Need-slice-aggregate-bake-3
+slice-aggregate-bake-3 c = search needs
+
+slice-aggregate-bake-4 : tie.Need-slice-aggregate-bake-4
+slice-aggregate-bake-4 c = search needs
+
+slice-aggregate-bake-5 : tie.Need-slice-aggregate-bake-5
+slice-aggregate-bake-5 c = let s = c .before .before .before .before .before .before .before .before .before .before .before .before .before .before .before .before .before .before .before .before .before .before .before .before .before .before in search (needs, s .pre .whole .in-blocks .long)
+
+bake-requires : tie.Need-bake-requires
+bake-requires c κs =
+    let p = c .before .before .before .before .before .before .before .before .before .before .before .before .before .before .before .before .before .before in
+    let s = p .before .before .before .before .before .before .before .before .before .before .before in
+    is-asked (s .args .self) (s .pre) (not-false _ (p .before .before .if1 .left)) (p .before .samples-number .ensures) (p .if2 .left)
+
+same-length-4 : tie.Need-same-length-4
+same-length-4 c = search needs
+
+same-length-5 : tie.Need-same-length-5
+same-length-5 c = search needs
+
+same-length-6 : tie.Need-same-length-6
+same-length-6 c = search needs
+
+returns-4 : tie.Need-returns-4
+returns-4 c =
+    let w = c .before .before .before .before .before .before in
+    let p = w .before .before .before .before .before .before .before .before .before .before .before .before .before .before .before .before .before .before .before in
+    let s = p .before .before .before .before .before .before .before .before .before .before .before in
+    bakes-set (s .args .self) (s .pre) (not-false _ (p .before .before .if1 .left)) (p .before .samples-number .ensures) (p .if2 .left) _ _ _ (w .bake .ensures)
 
 pub bake-spec : {M : Type 1} → statement M
 bake-spec =
-    tie.close (tie.spec refused-bake-requires returns samples-number-requires refused-bake-requires-2 returns-2 bake-requires same-length same-length-2 same-length-3 returns-3)
+    tie.close
+    (tie.spec
+    refused-bake-requires
+    returns
+    samples-number-requires
+    refused-bake-requires-2
+    returns-2
+    slice-aggregate-bake-knotless
+    slice-aggregate-bake-knotless-2
+    bake-knotless-requires
+    same-length
+    same-length-2
+    same-length-3
+    returns-3
+    slice-aggregate-bake
+    slice-aggregate-bake-2
+    slice-aggregate-bake-3
+    slice-aggregate-bake-4
+    slice-aggregate-bake-5
+    bake-requires
+    same-length-4
+    same-length-5
+    same-length-6
+    returns-4)

@@ -10,7 +10,7 @@ use Rattle.resolver.proofs.Resolver.clip_time.Tie as tie
 
 returns : tie.Need-returns
 unfolding askClipTime
-returns c = asked-20 _ (c .before .args .t1) (not-true _ (c .if1 .taken))
+returns c = asked-20 _ (c .before .before .args .self) (not-true _ (c .if1 .taken))
 
 is-finite-requires : tie.Need-is-finite-requires
 is-finite-requires c κs = search needs
@@ -18,24 +18,38 @@ is-finite-requires c κs = search needs
 returns-2 : tie.Need-returns-2
 unfolding askClipTime
 returns-2 c =
-    let s = c .before .before .before in
-    not-finite (s .args .t) _ (sym (c .before .is-finite .ensures) ∙ not-true _ (c .if2 .taken)) ∙ asked _ (s .args .t1) (not-false _ (c .before .before .if1 .left))
+    let s = c .before .before .before .before in
+    not-finite (s .args .t) _ (sym (c .before .is-finite .ensures) ∙ not-true _ (c .if2 .taken)) ∙ asked _ (s .args .self) (not-false _ (c .before .before .if1 .left))
+
+slice-aggregate-map-stage-to-clip : tie.Need-slice-aggregate-map-stage-to-clip
+slice-aggregate-map-stage-to-clip c = search needs
+
+slice-aggregate-map-stage-to-clip-2 : tie.Need-slice-aggregate-map-stage-to-clip-2
+slice-aggregate-map-stage-to-clip-2 c = search needs
 
 map-stage-to-clip-requires : tie.Need-map-stage-to-clip-requires
 map-stage-to-clip-requires c κs =
     let p = c .before .before .before .before .before in
-    let s = p .before .before .before in
-    (s .pre .whole .in-xs, (s .pre .whole .in-ys, knots-ascend (s .args .t1) (s .pre) (not-false _ (p .before .before .if1 .left))))
+    let s = p .before .before .before .before in
+    (s .pre .whole .in-xs, (s .pre .whole .in-ys, knots-ascend (s .args .self) (s .pre) (not-false _ (p .before .before .if1 .left))))
 
 returns-3 : tie.Need-returns-3
 unfolding askClipTime setOf
 returns-3 c =
     let p = c .before .before .before .before .before .before in
-    let s = p .before .before .before in
+    let s = p .before .before .before .before in
     ap replied (c .map-stage-to-clip .ensures)
     ∙ is-finite (s .args .t) _ (sym (p .before .is-finite .ensures) ∙ not-false _ (p .if2 .left))
-    ∙ asked _ (s .args .t1) (not-false _ (p .before .before .if1 .left))
+    ∙ asked _ (s .args .self) (not-false _ (p .before .before .if1 .left))
 
 pub clip-time-spec : {M : Type 1} → statement M
 clip-time-spec =
-    tie.close (tie.spec returns is-finite-requires returns-2 map-stage-to-clip-requires returns-3)
+    tie.close
+    (tie.spec
+    returns
+    is-finite-requires
+    returns-2
+    slice-aggregate-map-stage-to-clip
+    slice-aggregate-map-stage-to-clip-2
+    map-stage-to-clip-requires
+    returns-3)
