@@ -77,3 +77,7 @@ pub record Walked (v : ℕ → Entry) (k hi room n : ℕ) (before after : Output
   pub upto : w .key ≤ hi
   pub whole : w .done ≡ true → w .key ≡ hi
   pub more : w .done ≡ false → (w .count ≡ room) × (0 < length (changesIn v (w .key) hi))
+
+-- into outputs that are lent
+abbrev pub WalkedInto : (v : ℕ → Entry) (k hi room n : ℕ) → Both (RefT (List Float)) (RefT (List Float)) → Both (RefT (List Float)) (RefT (List Float)) → Both (RefT (List ℕ)) (RefT (List ℕ)) → Went → Type 0
+WalkedInto v k hi room n times values marks w = Walked v k hi room n (outputsWas times values marks) (outputsAfter times values marks) w

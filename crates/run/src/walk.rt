@@ -3,7 +3,6 @@ use cell::step::entry::Entry;
 use cell::step::entry::alike;
 ghost use Prim.Native.Nat.{_≤_};
 ghost use Rattle.gf.specs.Key as Key;
-ghost use Rattle.definitions.specs.Moments.{after};
 ghost use Rattle.cell.specs.step.Entries.{entryIs};
 ghost use Rattle.run.specs.Walks.{outputs, outputsWas, outputsAfter, Room, Offered};
 
