@@ -10,26 +10,11 @@ use Rattle.cell.proofs.first_above.Tie as tie
 returns : tie.Need-returns
 returns c = let a = c .before .before in upper-end (a .args .xs .now) (a .pre .0) (a .args .t) (a .pre .1) (omega arith)
 
-shared-slice-read-if2 : tie.Need-shared-slice-read-if2
-shared-slice-read-if2 c = search needs
-
-shared-slice-read-t9 : tie.Need-shared-slice-read-t9
-shared-slice-read-t9 c = search needs
-
 returns-2 : tie.Need-returns-2
 returns-2 c = let a = c .before .before .before .before .before in upper-at (a .args .xs .now) (a .pre .0) (a .args .t) (a .pre .1) 0 (none-counted (a .args .xs .now) (a .pre .0) (a .args .t) (a .pre .1) (omega arith) (c .before .if2 .taken)) (omega arith)
 
-last-at-most-requires : tie.Need-last-at-most-requires
-last-at-most-requires c κs = search needs
-
 add-next : tie.Need-add-next
 add-next c = let a = c .before .before .before .before .before in let e = c .last-at-most .ensures in let l = last-inside (a .args .t) (a .pre .1 .fitting) (a .args .xs .now) (a .pre .0) (omega arith) in omega arith
-
-mul-t10 : tie.Need-mul-t10
-mul-t10 c = search needs
-
-shared-slice-read-t12 : tie.Need-shared-slice-read-t12
-shared-slice-read-t12 c = search needs
 
 returns-3 : tie.Need-returns-3
 returns-3 c =
@@ -52,12 +37,12 @@ first-above-spec =
     tie.close
     (tie.spec
     returns
-    shared-slice-read-if2
-    shared-slice-read-t9
+    (λ c. search needs)
+    (λ c. search needs)
     returns-2
-    last-at-most-requires
+    (λ c κs. search needs)
     add-next
-    mul-t10
-    shared-slice-read-t12
+    (λ c. search needs)
+    (λ c. search needs)
     returns-3
     returns-4)

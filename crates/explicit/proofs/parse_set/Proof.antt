@@ -34,19 +34,10 @@ fitting c =
       value = subst T (sym (c .before .before .before .before .before .good .1 .1 .1 .1 .1 .1 .0 .1 .1 .1 .0 .1)) tt;
     }
 
-fields-number-requires : tie.Need-fields-number-requires
-fields-number-requires c κs = search needs
-
-refused-requires : tie.Need-refused-requires
-refused-requires c κs = search needs
-
 returns : tie.Need-returns
 returns c =
     let s = c .before .before .before .before .before .before .before .before in
     parse-refuses (fields s) (c .before .before .fields-number .result) (c .refused .result) (c .before .before .fields-number .ensures) (c .before .if1 .taken) (c .refused .ensures)
-
-blank-requires : tie.Need-blank-requires
-blank-requires c κs = search needs
 
 array-borrow-prefix-times : tie.Need-array-borrow-prefix-times
 array-borrow-prefix-times c = omega (arith, limits (c .before .before .before .before .before) .starts, c .before .before .before .before .blank .ensures .times)
@@ -94,10 +85,10 @@ pub parse-set-spec : {M : Type 1} → statement M
 parse-set-spec =
     tie.close
     (tie.spec
-    fields-number-requires
-    refused-requires
+    (λ c κs. search needs)
+    (λ c κs. search needs)
     returns
-    blank-requires
+    (λ c κs. search needs)
     array-borrow-prefix-times
     slice-aggregate-parse-lists
     array-borrow-prefix-indices

@@ -7,15 +7,6 @@ use Rattle.cell.specs.step.Lines.{lineIs, placeOn}
 use Rattle.run.proofs.place_beside.Statement.{statement}
 use Rattle.run.proofs.place_beside.Tie as tie
 
-of-key-requires : tie.Need-of-key-requires
-of-key-requires c κs = search needs
-
-along-requires : tie.Need-along-requires
-along-requires c κs = search needs
-
-last-at-most-near-requires : tie.Need-last-at-most-near-requires
-last-at-most-near-requires c κs = search needs
-
 returns : tie.Need-returns
 unfolding placeOn
 returns c =
@@ -25,4 +16,4 @@ returns c =
 
 pub place-beside-spec : {M : Type 1} → statement M
 place-beside-spec =
-    tie.close (tie.spec of-key-requires along-requires last-at-most-near-requires returns)
+    tie.close (tie.spec (λ c κs. search needs) (λ c κs. search needs) (λ c κs. search needs) returns)

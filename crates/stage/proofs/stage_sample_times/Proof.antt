@@ -19,9 +19,6 @@ latest-inverses-requires c κs =
     let R = c .before .before .before .before .before .before .before .pre in
     (R .windows .readable .paired, (R .few, R .windows .readable .segments))
 
-fits-requires : tie.Need-fits-requires
-fits-requires c κs = search needs
-
 -- all stage sample times
 abbrev all : tie.Start → List Float
 all s = timesOf (now (s .args .starts)) (now (s .args .clips)) (now (s .args .xs)) (now (s .args .ys)) (now (s .args .times)) (now (s .args .ends))
@@ -38,9 +35,6 @@ write-times-requires c κs =
     let k = c .before .before .before .before in
     (entry (reach k) .pre, (reach k .latest-inverses .ensures, room k))
 
-same-length : tie.Need-same-length
-same-length c = search needs
-
 returns : tie.Need-returns
 returns c =
     let w = c .before .before in
@@ -52,4 +46,4 @@ returns-2 c = let k = c .before in (leb-false _ _ (sym (k .fits2 .ensures) ∙ c
 pub stage-sample-times-spec : {M : Type 1} → statement M
 stage-sample-times-spec =
     tie.close
-    (tie.spec latest-inverses-requires fits-requires write-times-requires same-length returns returns-2)
+    (tie.spec latest-inverses-requires (λ c κs. search needs) write-times-requires (λ c. search needs) returns returns-2)

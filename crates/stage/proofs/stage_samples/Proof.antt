@@ -56,9 +56,6 @@ latest-inverses-requires c κs =
     let A = accepted-times (c .before .before .before .before .before .before .before .before .before .before .pre) in
     (A .windows .readable .paired, (A .few, A .windows .readable .segments))
 
-shorter-requires : tie.Need-shorter-requires
-shorter-requires c κs = search needs
-
 fits-requires : tie.Need-fits-requires
 fits-requires c κs = search (needs, accepted-times)
 
@@ -90,12 +87,6 @@ write-marks-requires c κs =
       omega (arith, length-take-le (w .write-times .result) (w .write-times .last .1 .1 .1 .1 .1 .1 .1 .0) (count-room w), marks-room (then w), w .write-times .ensures .0),
     )
 
-same-length : tie.Need-same-length
-same-length c = search needs
-
-same-length-2 : tie.Need-same-length-2
-same-length-2 c = search needs
-
 returns : tie.Need-returns
 returns c =
     let b = c .before .before in
@@ -115,13 +106,13 @@ stage-samples-spec =
     tie.close
     (tie.spec
     latest-inverses-requires
-    shorter-requires
+    (λ c κs. search needs)
     fits-requires
     write-times-requires
     slice-reshare-prefix-write-marks
     slice-aggregate-write-marks
     write-marks-requires
-    same-length
-    same-length-2
+    (λ c. search needs)
+    (λ c. search needs)
     returns
     returns-2)

@@ -9,14 +9,8 @@ returns : tie.Need-returns
 unfolding ofBits neg div
 returns c = rw (eq-eqb (c .before .args .p) 0 (c .if1 .taken))
 
-mul-result : tie.Need-mul-result
-mul-result c = search needs
-
-shared-slice-read-result : tie.Need-shared-slice-read-result
-shared-slice-read-result c = search needs
-
 returns-2 : tie.Need-returns-2
 returns-2 c = rw (ne-eqb (c .before .before .args .p) 0 (c .before .if1 .left))
 
 pub window-min-spec : {M : Type 1} → statement M
-window-min-spec = tie.close (tie.spec returns mul-result shared-slice-read-result returns-2)
+window-min-spec = tie.close (tie.spec returns (λ c. search needs) (λ c. search needs) returns-2)

@@ -10,17 +10,11 @@ use Rattle.cell.proofs.place.follows.Tie as tie
 returns : tie.Need-returns
 returns c e = absurd (false≢true e)
 
-sub-if2 : tie.Need-sub-if2
-sub-if2 c = search needs
-
 returns-2 : tie.Need-returns-2
 returns-2 c e = absurd (false≢true e)
 
 returns-3 : tie.Need-returns-3
 returns-3 c e = absurd (false≢true e)
-
-has-reading-requires : tie.Need-has-reading-requires
-has-reading-requires c κs = search needs
 
 returns-4 : tie.Need-returns-4
 returns-4 c e =
@@ -31,4 +25,4 @@ returns-4 c e =
 
 pub follows-spec : {M : Type 1} → statement M
 follows-spec =
-    tie.close (tie.spec returns sub-if2 returns-2 returns-3 has-reading-requires returns-4)
+    tie.close (tie.spec returns (λ c. search needs) returns-2 returns-3 (λ c κs. search needs) returns-4)

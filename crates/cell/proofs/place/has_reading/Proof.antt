@@ -7,15 +7,6 @@ use borrow.Author.Needs.{needs}
 use Rattle.cell.proofs.place.has_reading.Statement.{statement}
 use Rattle.cell.proofs.place.has_reading.Tie as tie
 
-contributes-requires : tie.Need-contributes-requires
-contributes-requires c κs = search needs
-
-clip-begin-requires : tie.Need-clip-begin-requires
-clip-begin-requires c κs = search needs
-
-clip-end-requires : tie.Need-clip-end-requires
-clip-end-requires c κs = search needs
-
 returns : tie.Need-returns
 returns c =
     let a = c .before .before .before .before .before .before .args in
@@ -30,4 +21,4 @@ returns-2 c =
 pub has-reading-spec : {M : Type 1} → statement M
 has-reading-spec =
     tie.close
-    (tie.spec contributes-requires clip-begin-requires clip-end-requires returns returns-2)
+    (tie.spec (λ c κs. search needs) (λ c κs. search needs) (λ c κs. search needs) returns returns-2)

@@ -7,14 +7,8 @@ use borrow.Author.Needs.{needs}
 use Rattle.cell.proofs.place.place_at.Statement.{statement}
 use Rattle.cell.proofs.place.place_at.Tie as tie
 
-returns : tie.Need-returns
-returns c = search needs
-
 last-at-most-near-requires : tie.Need-last-at-most-near-requires
 last-at-most-near-requires c κs = ready-starts (c .before .before .before .before .before .before .before .before .before .before .pre .0)
-
-returns-2 : tie.Need-returns-2
-returns-2 c = search needs
 
 window-after-requires : tie.Need-window-after-requires
 window-after-requires c κs =
@@ -41,4 +35,4 @@ returns-3 c =
 pub place-at-spec : {M : Type 1} → statement M
 place-at-spec =
     tie.close
-    (tie.spec returns last-at-most-near-requires returns-2 window-after-requires returns-3)
+    (tie.spec (λ c. search needs) last-at-most-near-requires (λ c. search needs) window-after-requires returns-3)

@@ -7,29 +7,11 @@ use borrow.Author.Needs.{needs}
 use Rattle.cell.proofs.place.window_after.Statement.{statement}
 use Rattle.cell.proofs.place.window_after.Tie as tie
 
-mul-start : tie.Need-mul-start
-mul-start c = search needs
-
-shared-slice-read-start : tie.Need-shared-slice-read-start
-shared-slice-read-start c = search needs
-
-mul-clip : tie.Need-mul-clip
-mul-clip c = search needs
-
-shared-slice-read-clip : tie.Need-shared-slice-read-clip
-shared-slice-read-clip c = search needs
-
 follows-requires : tie.Need-follows-requires
 follows-requires c κs = let a = c .before .before .before .before .before .before .before .before .before .before .before in ready-clip (a .pre .0) (a .args .p) (a .pre .1 .1)
 
 clip-begin-requires : tie.Need-clip-begin-requires
 clip-begin-requires c κs = let a = c .before .before .before .before .before .before .before .before .before .before .before .before .before .before in ready-clip (a .pre .0) (a .args .p) (a .pre .1 .1)
-
-window-min-requires : tie.Need-window-min-requires
-window-min-requires c κs = search needs
-
-window-max-requires : tie.Need-window-max-requires
-window-max-requires c κs = search needs
 
 returns : tie.Need-returns
 returns c =
@@ -43,24 +25,18 @@ returns c =
     window-on (a .pre .0) (a .args .place .start) (a .args .place .window) (S .window (omega arith)) (F .none-before) (S .gap (omega arith) (F .none-before)) (a .args .p) (F .next) h (F .none-here)
     _ refl refl (c .before .window-min .ensures) (c .window-max .ensures) (c .before .before .clip-begin .ensures) refl refl
 
-window-of-requires : tie.Need-window-of-requires
-window-of-requires c κs = search needs
-
-returns-2 : tie.Need-returns-2
-returns-2 c = search needs
-
 pub window-after-spec : {M : Type 1} → statement M
 window-after-spec =
     tie.close
     (tie.spec
-    mul-start
-    shared-slice-read-start
-    mul-clip
-    shared-slice-read-clip
+    (λ c. search needs)
+    (λ c. search needs)
+    (λ c. search needs)
+    (λ c. search needs)
     follows-requires
     clip-begin-requires
-    window-min-requires
-    window-max-requires
+    (λ c κs. search needs)
+    (λ c κs. search needs)
     returns
-    window-of-requires
-    returns-2)
+    (λ c κs. search needs)
+    (λ c. search needs))

@@ -9,15 +9,6 @@ use Rattle.cell.specs.step.Lines.{lineIs, placeOn}
 use Rattle.cell.proofs.step.is_read.Statement.{statement}
 use Rattle.cell.proofs.step.is_read.Tie as tie
 
-of-key-requires : tie.Need-of-key-requires
-of-key-requires c κs = search needs
-
-along-requires : tie.Need-along-requires
-along-requires c κs = search needs
-
-is-place-requires : tie.Need-is-place-requires
-is-place-requires c κs = search needs
-
 returns : tie.Need-returns
 unfolding placeOn
 returns c =
@@ -26,4 +17,4 @@ returns c =
     ∙ ap (λ (t : Float). eqb (lastAtMost (a .ts .now) t) (a .q)) (c .before .along .ensures ∙ ap (Knots.along (lineIs (a .line))) (c .before .before .of-key .ensures))
 
 pub is-read-spec : {M : Type 1} → statement M
-is-read-spec = tie.close (tie.spec of-key-requires along-requires is-place-requires returns)
+is-read-spec = tie.close (tie.spec (λ c κs. search needs) (λ c κs. search needs) (λ c κs. search needs) returns)

@@ -28,9 +28,6 @@ at a = a .pre .1 .1 .1 .1
 still : (c : tie.Then1) → f (c .before .before .before .before) (c .before .before .guess .result) ≡ c .before .before .before .before .args .q
 still c = eqb-true _ _ (sym (c .before .is-read .ensures) ∙ c .if1 .taken)
 
-guess-requires : tie.Need-guess-requires
-guess-requires c κs = search needs
-
 is-read-requires : tie.Need-is-read-requires
 is-read-requires c κs =
     let a = c .before .before in
@@ -68,7 +65,7 @@ pub next-step-spec : {M : Type 1} → statement M
 next-step-spec =
     tie.close
     (tie.spec
-    guess-requires
+    (λ c κs. search needs)
     is-read-requires
     step-above-requires
     returns

@@ -26,14 +26,8 @@ abbrev μ-loop : tie.MeasureT-loop
 loop-holds : tie.Need-loop-holds Inv-loop μ-loop
 loop-holds c = (omega arith, refl)
 
-mul-is-clip-number : tie.Need-mul-is-clip-number Inv-loop μ-loop
-mul-is-clip-number c = search needs
-
 shared-slice-read-is-clip-number : tie.Need-shared-slice-read-is-clip-number Inv-loop μ-loop
 shared-slice-read-is-clip-number c = omega arith
-
-is-clip-number-requires : tie.Need-is-clip-number-requires Inv-loop μ-loop
-is-clip-number-requires c κs = search needs
 
 returns : tie.Need-returns Inv-loop μ-loop
 returns c =
@@ -66,9 +60,9 @@ any-not-clip-spec =
     Inv-loop
     μ-loop
     loop-holds
-    mul-is-clip-number
+    (λ c. search needs)
     shared-slice-read-is-clip-number
-    is-clip-number-requires
+    (λ c κs. search needs)
     returns
     add-i
     loop-less

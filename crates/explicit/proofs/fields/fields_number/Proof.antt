@@ -31,50 +31,29 @@ not6 c = sym (c .before .is-nan-default .ensures) ∙ c .if6 .left
 not7 : (c : tie.Else7) → anyNotClip (c .before .before .before .before .before .before .before .before .before .before .before .before .before .before .before .before .before .before .before .args .clips) (now (c .before .before .before .before .before .before .before .before .before .before .before .before .before .before .before .before .before .before .before .args .numbers)) ≡ false
 not7 c = sym (c .before .any-not-clip .ensures) ∙ c .if7 .left
 
-is-misshapen-requires : tie.Need-is-misshapen-requires
-is-misshapen-requires c κs = search needs
-
 returns : tie.Need-returns
 unfolding fieldsNumber explicit1 misshapen explicit2 explicit3
 returns c = rw (sym (c .before .is-misshapen .ensures) ∙ c .if1 .taken)
-
-any-unstorable-requires : tie.Need-any-unstorable-requires
-any-unstorable-requires c κs = search needs
 
 returns-2 : tie.Need-returns-2
 unfolding fieldsNumber explicit1 misshapen explicit2 explicit3
 returns-2 c = rw (not1 (c .before .before), sym (c .before .any-unstorable .ensures) ∙ c .if2 .taken)
 
-any-unstorable-requires-2 : tie.Need-any-unstorable-requires-2
-any-unstorable-requires-2 c κs = search needs
-
 returns-3 : tie.Need-returns-3
 unfolding fieldsNumber explicit1 misshapen explicit2 explicit3
 returns-3 c = rw (not1 (c .before .before .before .before), not2 (c .before .before), sym (c .before .any-unstorable2 .ensures) ∙ c .if3 .taken)
-
-any-unstorable-requires-3 : tie.Need-any-unstorable-requires-3
-any-unstorable-requires-3 c κs = search needs
 
 returns-4 : tie.Need-returns-4
 unfolding fieldsNumber explicit1 misshapen explicit2 explicit3
 returns-4 c = rw (not1 (c .before .before .before .before .before .before), not2 (c .before .before .before .before), not3 (c .before .before), sym (c .before .any-unstorable3 .ensures) ∙ c .if4 .taken)
 
-any-unstorable-requires-4 : tie.Need-any-unstorable-requires-4
-any-unstorable-requires-4 c κs = search needs
-
 returns-5 : tie.Need-returns-5
 unfolding fieldsNumber explicit1 misshapen explicit2 explicit3
 returns-5 c = rw (not1 (c .before .before .before .before .before .before .before .before), not2 (c .before .before .before .before .before .before), not3 (c .before .before .before .before), not4 (c .before .before), sym (c .before .any-unstorable4 .ensures) ∙ c .if5 .taken)
 
-is-nan-default-requires : tie.Need-is-nan-default-requires
-is-nan-default-requires c κs = search needs
-
 returns-6 : tie.Need-returns-6
 unfolding fieldsNumber explicit1 misshapen explicit2 explicit3
 returns-6 c = rw (not1 (c .before .before .before .before .before .before .before .before .before .before), not2 (c .before .before .before .before .before .before .before .before), not3 (c .before .before .before .before .before .before), not4 (c .before .before .before .before), not5 (c .before .before), sym (c .before .is-nan-default .ensures) ∙ c .if6 .taken)
-
-any-not-clip-requires : tie.Need-any-not-clip-requires
-any-not-clip-requires c κs = search needs
 
 returns-7 : tie.Need-returns-7
 unfolding fieldsNumber explicit1 misshapen explicit2 explicit3
@@ -88,18 +67,18 @@ pub fields-number-spec : {M : Type 1} → statement M
 fields-number-spec =
     tie.close
     (tie.spec
-    is-misshapen-requires
+    (λ c κs. search needs)
     returns
-    any-unstorable-requires
+    (λ c κs. search needs)
     returns-2
-    any-unstorable-requires-2
+    (λ c κs. search needs)
     returns-3
-    any-unstorable-requires-3
+    (λ c κs. search needs)
     returns-4
-    any-unstorable-requires-4
+    (λ c κs. search needs)
     returns-5
-    is-nan-default-requires
+    (λ c κs. search needs)
     returns-6
-    any-not-clip-requires
+    (λ c κs. search needs)
     returns-7
     returns-8)

@@ -26,9 +26,6 @@ loop-holds c =
     let s = c .before .before in
     (fill-start (map truncated (now (s .args .numbers))) (now (s .args .to)) (omega (arith, length-map (now (s .args .numbers)) truncated, s .pre .1)), s .pre .1)
 
-mul-to-index : tie.Need-mul-to-index Inv-loop μ-loop
-mul-to-index c = search needs
-
 shared-slice-read-to-index : tie.Need-shared-slice-read-to-index Inv-loop μ-loop
 shared-slice-read-to-index c = omega arith
 
@@ -38,27 +35,12 @@ to-index-requires c κs =
     let s = c .before .before .before .before .before in
     every-at Indexed (now (s .args .numbers)) (k .i) nan (s .pre .0) (omega arith)
 
-mul-to : tie.Need-mul-to Inv-loop μ-loop
-mul-to c = search needs
-
-slice-write-to : tie.Need-slice-write-to Inv-loop μ-loop
-slice-write-to c = search needs
-
-add-i : tie.Need-add-i Inv-loop μ-loop
-add-i c = search needs
-
-loop-less : tie.Need-loop-less Inv-loop μ-loop
-loop-less c = search needs
-
 loop-again : tie.Need-loop-again Inv-loop μ-loop
 loop-again c =
     let k = c .before .before .before .loop in
     let s = c .before .before .before .before .before .before in
     let n = length-map (now (s .args .numbers)) truncated in
     (fill-next (map truncated (now (s .args .numbers))) (k .to) (k .i) _ 0 (k .inv .0) (omega arith) (c .to-index .ensures ∙ mapped-at truncated (now (s .args .numbers)) (k .i) nan 0 (omega arith)), length-set (k .to) (k .i) _ ∙ k .inv .1)
-
-same-length : tie.Need-same-length Inv-loop μ-loop
-same-length c = search needs
 
 returns : tie.Need-returns Inv-loop μ-loop
 returns c =
@@ -74,13 +56,13 @@ copy-clips-spec =
     Inv-loop
     μ-loop
     loop-holds
-    mul-to-index
+    (λ c. search needs)
     shared-slice-read-to-index
     to-index-requires
-    mul-to
-    slice-write-to
-    add-i
-    loop-less
+    (λ c. search needs)
+    (λ c. search needs)
+    (λ c. search needs)
+    (λ c. search needs)
     loop-again
-    same-length
+    (λ c. search needs)
     returns)

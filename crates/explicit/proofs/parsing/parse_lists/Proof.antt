@@ -38,16 +38,10 @@ ys-copied c = c .before .before .before .before .before .before
 abbrev stored : tie.After-slice-known12 → tie.After-sort-check-and-store
 stored c = c .before .before .before .before .before .before .before .before
 
-copy-requires : tie.Need-copy-requires
-copy-requires c κs = search needs
-
 copy-clips-requires : tie.Need-copy-clips-requires
 copy-clips-requires c κs =
     let s = entry (c .before .before .before) in
     (clips-indexed (s .args .clips) (now (s .args .numbers)) (s .fits .clips .fits) (fields-clips (fields s) (s .pre .0)), s .pre .1 .for-indices ∙ limits s .starts-paired)
-
-copy-requires-2 : tie.Need-copy-requires-2
-copy-requires-2 c κs = search needs
 
 copy-requires-3 : tie.Need-copy-requires-3
 copy-requires-3 c κs = let s = entry (starts-copied (clips-copied (c .before .before .before))) in s .pre .1 .for-ys ∙ limits s .knots-paired
@@ -76,12 +70,6 @@ same-length c = stored c .sort-check-and-store .kept .1 .0 ∙ starts-copied (nu
 same-length-2 : tie.Need-same-length-2
 same-length-2 c = stored c .sort-check-and-store .kept .1 .1 .0 ∙ numbers-copied c .copy-clips .kept .1 .0
 
-same-length-3 : tie.Need-same-length-3
-same-length-3 c = search needs
-
-same-length-4 : tie.Need-same-length-4
-same-length-4 c = search needs
-
 returns : tie.Need-returns
 returns c =
     let y = ys-copied (stored c .before) .copy3 in
@@ -98,13 +86,13 @@ pub parse-lists-spec : {M : Type 1} → statement M
 parse-lists-spec =
     tie.close
     (tie.spec
-    copy-requires
+    (λ c κs. search needs)
     copy-clips-requires
-    copy-requires-2
+    (λ c κs. search needs)
     copy-requires-3
     sort-check-and-store-requires
     same-length
     same-length-2
-    same-length-3
-    same-length-4
+    (λ c. search needs)
+    (λ c. search needs)
     returns)

@@ -12,15 +12,6 @@ use Rattle.run.proofs.begin.is_past.Tie as tie
 returns : tie.Need-returns
 returns c = λ e h. absurd (omega (arith, c .if1 .taken))
 
-sub-before : tie.Need-sub-before
-sub-before c = search needs
-
-mul-result : tie.Need-mul-result
-mul-result c = search needs
-
-shared-slice-read-result : tie.Need-shared-slice-read-result
-shared-slice-read-result c = search needs
-
 returns-2 : tie.Need-returns-2
 returns-2 c =
     let a = c .before .before .before .args in
@@ -31,4 +22,4 @@ returns-3 c = λ e. absurd (false≢true e)
 
 pub is-past-spec : {M : Type 1} → statement M
 is-past-spec =
-    tie.close (tie.spec returns sub-before mul-result shared-slice-read-result returns-2 returns-3)
+    tie.close (tie.spec returns (λ c. search needs) (λ c. search needs) (λ c. search needs) returns-2 returns-3)

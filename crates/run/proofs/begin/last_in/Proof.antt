@@ -24,12 +24,6 @@ fits-max a = search needs
 abbrev entry : tie.After-segment-at → tie.Start
 entry c = c .before .before .before .before
 
-segment-at-requires : tie.Need-segment-at-requires
-segment-at-requires c κs = search needs
-
-lesser-time-requires : tie.Need-lesser-time-requires
-lesser-time-requires c κs = search needs
-
 -- the bound is the lesser of the two times
 ceil : (c : tie.After-lesser-time) → let a = entry (c .before) .args in c .lesser-time .result ≡ cond (lt (a .max) (getD (now (a .xs)) (a .i + 1) nan)) (a .max) (getD (now (a .xs)) (a .i + 1) nan)
 ceil c = let a = entry (c .before) .args in c .lesser-time .ensures ∙ ap (λ (s : Segment). cond (lt (a .max) (s .b .x)) (a .max) (s .b .x)) (c .before .segment-at .ensures)
@@ -48,4 +42,4 @@ returns c =
     (c .last-before .result) (subst (λ (s : Segment). BeforeIs (now (a .args .cs)) (s .a, s .b) (l .lesser-time .result) (c .last-before .result)) (m .segment-at .ensures) (c .last-before .ensures))
 
 pub last-in-spec : {M : Type 1} → statement M
-last-in-spec = tie.close (tie.spec segment-at-requires lesser-time-requires last-before-requires returns)
+last-in-spec = tie.close (tie.spec (λ c κs. search needs) (λ c κs. search needs) last-before-requires returns)

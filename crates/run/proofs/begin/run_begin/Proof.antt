@@ -27,80 +27,11 @@ fits-max a = search needs
 on : (c : tie.Else2) → OnSegment (now (entry c .args .xs)) (entry c .args .t) (c .before .before .last-at-most-near .result)
 on c = c .before .is-between .ensures (passed (c .before .is-between .result) (c .if2 .left))
 
-returns : tie.Need-returns
-returns c = search needs
-
-last-at-most-near-requires : tie.Need-last-at-most-near-requires
-last-at-most-near-requires c κs = search needs
-
-is-between-requires : tie.Need-is-between-requires
-is-between-requires c κs = search needs
-
-returns-2 : tie.Need-returns-2
-returns-2 c = search needs
-
-mul-last-in : tie.Need-mul-last-in
-mul-last-in c = search needs
-
-sub-last-in : tie.Need-sub-last-in
-sub-last-in c = search needs
-
-part-last-in-start : tie.Need-part-last-in-start
-part-last-in-start c = search needs
-
-part-last-in-end : tie.Need-part-last-in-end
-part-last-in-end c = search needs
-
 last-in-requires : tie.Need-last-in-requires
 last-in-requires c κs =
     let e = c .before in
     let a = entry e in
     (a .pre .0 .knots, (a .pre .0 .paired, (on e .place, le-no-nan (a .args .t) (a .args .w .max) (lt→le (a .args .t) (a .args .w .max) (a .pre .0 .upto)) .1)))
-
-enum-known-h : tie.Need-enum-known-h
-enum-known-h c = search needs
-
-enum-told : tie.Need-enum-told
-enum-told c = search needs
-
-returns-3 : tie.Need-returns-3
-returns-3 c = search needs
-
-is-below-requires : tie.Need-is-below-requires
-is-below-requires c κs = search needs
-
-returns-4 : tie.Need-returns-4
-returns-4 c = search needs
-
-mul-neighbours-in : tie.Need-mul-neighbours-in
-mul-neighbours-in c = search needs
-
-sub-neighbours-in : tie.Need-sub-neighbours-in
-sub-neighbours-in c = search needs
-
-part-neighbours-in-start : tie.Need-part-neighbours-in-start
-part-neighbours-in-start c = search needs
-
-part-neighbours-in-end : tie.Need-part-neighbours-in-end
-part-neighbours-in-end c = search needs
-
-neighbours-in-requires : tie.Need-neighbours-in-requires
-neighbours-in-requires c κs = search needs
-
-enum-known-lower : tie.Need-enum-known-lower
-enum-known-lower c = search needs
-
-enum-told-2 : tie.Need-enum-told-2
-enum-told-2 c = search needs
-
-returns-5 : tie.Need-returns-5
-returns-5 c = search needs
-
-is-past-requires : tie.Need-is-past-requires
-is-past-requires c κs = search needs
-
-returns-6 : tie.Need-returns-6
-returns-6 c = search needs
 
 returns-7 : tie.Need-returns-7
 returns-7 c =
@@ -131,28 +62,28 @@ pub run-begin-spec : {M : Type 1} → statement M
 run-begin-spec =
     tie.close
     (tie.spec
-    returns
-    last-at-most-near-requires
-    is-between-requires
-    returns-2
-    mul-last-in
-    sub-last-in
-    part-last-in-start
-    part-last-in-end
+    (λ c. search needs)
+    (λ c κs. search needs)
+    (λ c κs. search needs)
+    (λ c. search needs)
+    (λ c. search needs)
+    (λ c. search needs)
+    (λ c. search needs)
+    (λ c. search needs)
     last-in-requires
-    enum-known-h
-    enum-told
-    returns-3
-    is-below-requires
-    returns-4
-    mul-neighbours-in
-    sub-neighbours-in
-    part-neighbours-in-start
-    part-neighbours-in-end
-    neighbours-in-requires
-    enum-known-lower
-    enum-told-2
-    returns-5
-    is-past-requires
-    returns-6
+    (λ c. search needs)
+    (λ c. search needs)
+    (λ c. search needs)
+    (λ c κs. search needs)
+    (λ c. search needs)
+    (λ c. search needs)
+    (λ c. search needs)
+    (λ c. search needs)
+    (λ c. search needs)
+    (λ c κs. search needs)
+    (λ c. search needs)
+    (λ c. search needs)
+    (λ c. search needs)
+    (λ c κs. search needs)
+    (λ c. search needs)
     returns-7)

@@ -19,15 +19,6 @@ place c =
     let a = entry c .args in
     c .last-at-most-near .ensures ∙ ap (lastAtMost (a .cs .now)) (c .before .along .ensures ∙ ap (Knots.along (lineIs (a .line))) (c .before .before .of-key .ensures))
 
-of-key-requires : tie.Need-of-key-requires
-of-key-requires c κs = search needs
-
-along-requires : tie.Need-along-requires
-along-requires c κs = search needs
-
-last-at-most-near-requires : tie.Need-last-at-most-near-requires
-last-at-most-near-requires c κs = search needs
-
 entry-of-sample-requires : tie.Need-entry-of-sample-requires
 entry-of-sample-requires c κs = let a = entry c in place-slots (a .pre .0) (a .args .line) (c .last-at-most-near .result) (a .args .k) (place c)
 
@@ -38,8 +29,8 @@ pub entry-along-spec : {M : Type 1} → statement M
 entry-along-spec =
     tie.close
     (tie.spec
-    of-key-requires
-    along-requires
-    last-at-most-near-requires
+    (λ c κs. search needs)
+    (λ c κs. search needs)
+    (λ c κs. search needs)
     entry-of-sample-requires
     returns)

@@ -13,15 +13,6 @@ use Rattle.run.proofs.inside.next_in_run.Tie as tie
 abbrev q : tie.Start → Knot × Knot
 q a = (a .args .s .a, a .args .s .b)
 
-mul-if3 : tie.Need-mul-if3
-mul-if3 c = search needs
-
-shared-slice-read-if3 : tie.Need-shared-slice-read-if3
-shared-slice-read-if3 c = search needs
-
-add-sample-in-run : tie.Need-add-sample-in-run
-add-sample-in-run c = search needs
-
 sample-in-run-requires : tie.Need-sample-in-run-requires
 sample-in-run-requires c κs =
     let n = c .before .before in
@@ -50,12 +41,6 @@ returns-3 c = λ k P.
     let a = u .before .before in
     let h = c .if2 .left in
     end-up (a .args .cs .now) (a .pre .1 .0) (q a) (a .pre .0) (a .args .n) k (a .args .hi) P (holds _ (u .if1 .taken)) (omega arith)
-
-sub-before : tie.Need-sub-before
-sub-before c = search needs
-
-mul-if6 : tie.Need-mul-if6
-mul-if6 c = search needs
 
 shared-slice-read-if6 : tie.Need-shared-slice-read-if6
 shared-slice-read-if6 c = let p = c .before in let a = p .before .before .before .before in let h = p .if5 .taken in omega (arith, a .pre .1 .1 .here .upto)
@@ -104,15 +89,15 @@ pub next-in-run-spec : {M : Type 1} → statement M
 next-in-run-spec =
     tie.close
     (tie.spec
-    mul-if3
-    shared-slice-read-if3
-    add-sample-in-run
+    (λ c. search needs)
+    (λ c. search needs)
+    (λ c. search needs)
     sample-in-run-requires
     returns
     returns-2
     returns-3
-    sub-before
-    mul-if6
+    (λ c. search needs)
+    (λ c. search needs)
     shared-slice-read-if6
     sample-in-run-requires-2
     returns-4

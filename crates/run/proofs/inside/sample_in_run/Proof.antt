@@ -11,15 +11,6 @@ use borrow.Author.Needs.{needs}
 use Rattle.run.proofs.inside.sample_in_run.Statement.{statement}
 use Rattle.run.proofs.inside.sample_in_run.Tie as tie
 
-mul-stage-time : tie.Need-mul-stage-time
-mul-stage-time c = search needs
-
-shared-slice-read-stage-time : tie.Need-shared-slice-read-stage-time
-shared-slice-read-stage-time c = search needs
-
-stage-time-requires : tie.Need-stage-time-requires
-stage-time-requires c κs = search needs
-
 -- the key that is found
 found : (c : tie.After-key) → c .key .result ≡ (let a = c .before .before .before .before .args in inverseKey (a .cs .now) (a .s .a, a .s .b) (a .i))
 found c = c .key .ensures ∙ ap key (c .before .stage-time .ensures)
@@ -40,9 +31,9 @@ pub sample-in-run-spec : {M : Type 1} → statement M
 sample-in-run-spec =
     tie.close
     (tie.spec
-    mul-stage-time
-    shared-slice-read-stage-time
-    stage-time-requires
+    (λ c. search needs)
+    (λ c. search needs)
+    (λ c κs. search needs)
     key-requires
     returns
     returns-2)

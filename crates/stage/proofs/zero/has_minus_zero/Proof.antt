@@ -21,14 +21,8 @@ abbrev μ-loop : tie.MeasureT-loop
 loop-holds : tie.Need-loop-holds Inv-loop μ-loop
 loop-holds c = (omega arith, refl)
 
-mul-total-key : tie.Need-mul-total-key Inv-loop μ-loop
-mul-total-key c = search needs
-
 shared-slice-read-total-key : tie.Need-shared-slice-read-total-key Inv-loop μ-loop
 shared-slice-read-total-key c = omega arith
-
-total-key-requires : tie.Need-total-key-requires Inv-loop μ-loop
-total-key-requires c κs = search needs
 
 returns : tie.Need-returns Inv-loop μ-loop
 returns c =
@@ -61,9 +55,9 @@ has-minus-zero-spec =
     Inv-loop
     μ-loop
     loop-holds
-    mul-total-key
+    (λ c. search needs)
     shared-slice-read-total-key
-    total-key-requires
+    (λ c κs. search needs)
     returns
     add-i
     loop-less

@@ -8,20 +8,11 @@ use borrow.Author.Needs.{needs}
 use Rattle.stage.proofs.zero.is_minus.Statement.{statement}
 use Rattle.stage.proofs.zero.is_minus.Tie as tie
 
-has-minus-zero-requires : tie.Need-has-minus-zero-requires
-has-minus-zero-requires c κs = search needs
-
 returns : tie.Need-returns
 returns c = rw (sym (c .before .has-minus-zero .ensures) ∙ c .if1 .taken)
 
-has-minus-zero-requires-2 : tie.Need-has-minus-zero-requires-2
-has-minus-zero-requires-2 c κs = search needs
-
 returns-2 : tie.Need-returns-2
 returns-2 c = let a = c .before .before in rw (sym (a .before .has-minus-zero .ensures) ∙ a .if1 .left, sym (c .before .has-minus-zero2 .ensures) ∙ c .if2 .taken)
-
-is-sampled-requires : tie.Need-is-sampled-requires
-is-sampled-requires c κs = search needs
 
 abbrev entry : tie.Else2 → tie.Start
 entry k = k .before .before .before .before .before .before .before .before .before
@@ -48,10 +39,10 @@ pub is-minus-spec : {M : Type 1} → statement M
 is-minus-spec =
     tie.close
     (tie.spec
-    has-minus-zero-requires
+    (λ c κs. search needs)
     returns
-    has-minus-zero-requires-2
+    (λ c κs. search needs)
     returns-2
-    is-sampled-requires
+    (λ c κs. search needs)
     returns-3
     returns-4)

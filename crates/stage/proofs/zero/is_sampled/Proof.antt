@@ -55,9 +55,6 @@ part-has-minus-zero-start c = let l = order c in let u = upto c in search needs
 part-has-minus-zero-end : tie.Need-part-has-minus-zero-end
 part-has-minus-zero-end c = let l = order c in let u = upto c in search needs
 
-has-minus-zero-requires : tie.Need-has-minus-zero-requires
-has-minus-zero-requires c κs = search needs
-
 returns : tie.Need-returns
 unfolding ofBits neg
 returns c =
@@ -78,5 +75,5 @@ is-sampled-spec =
     sub-has-minus-zero
     part-has-minus-zero-start
     part-has-minus-zero-end
-    has-minus-zero-requires
+    (λ c κs. search needs)
     returns)

@@ -51,23 +51,8 @@ total f = filled-total _ _ _ _ _ _ (f .fill .ensures) (entry f .pre .1 .1 .1 .0)
 page-long : (f : tie.After-fill) → let a = entry f .args in Long (outputs (a .pagetimes .now) (a .pagevalues .now) (a .pagemarks .now)) (outputs (f .fill .last .1 .1 .1 .1 .1 .1 .1 .1 .1 .1 .1 .1 .1 .0) (f .fill .last .1 .1 .1 .1 .1 .1 .1 .1 .1 .1 .1 .1 .1 .1 .0) (f .fill .last .1 .1 .1 .1 .1 .1 .1 .1 .1 .1 .1 .1 .1 .1 .1 .0))
 page-long f = record { times = f .fill .kept .1 .1 .1 .1 .1 .1 .1 .1 .1 .1 .1 .1 .1 .0; values = f .fill .kept .1 .1 .1 .1 .1 .1 .1 .1 .1 .1 .1 .1 .1 .1 .0; marks = f .fill .kept .1 .1 .1 .1 .1 .1 .1 .1 .1 .1 .1 .1 .1 .1 .1 .0 }
 
-shortest-requires : tie.Need-shortest-requires
-shortest-requires c κs = search needs
-
 fill-requires : tie.Need-fill-requires
 fill-requires c κs = let a = c .before .before .before .before .before .before .before .before .before .before .before .before .before .before .before .before .before .before .before .before .before in (a .pre .0, (a .pre .1 .0, a .pre .1 .1 .0))
-
-refused-requires : tie.Need-refused-requires
-refused-requires c κs = search needs
-
-same-length : tie.Need-same-length
-same-length c = search needs
-
-same-length-2 : tie.Need-same-length-2
-same-length-2 c = search needs
-
-same-length-3 : tie.Need-same-length-3
-same-length-3 c = search needs
 
 returns : tie.Need-returns
 returns c =
@@ -91,24 +76,6 @@ write-page-requires c κs =
     let h = c .before .before .before .before .before .before .before .if1 .left in
     (room-of _ _ _ _ (omega (arith, l .times, l .values, l .marks)), room-of _ _ _ _ (omega arith))
 
-same-length-4 : tie.Need-same-length-4
-same-length-4 c = search needs
-
-same-length-5 : tie.Need-same-length-5
-same-length-5 c = search needs
-
-same-length-6 : tie.Need-same-length-6
-same-length-6 c = search needs
-
-same-length-7 : tie.Need-same-length-7
-same-length-7 c = search needs
-
-same-length-8 : tie.Need-same-length-8
-same-length-8 c = search needs
-
-same-length-9 : tie.Need-same-length-9
-same-length-9 c = search needs
-
 returns-2 : tie.Need-returns-2
 returns-2 c =
     let f = c .before .before .before .before .before .before .before .before .before .before .before .before .before .before .before .before .before .before .before .before .before in
@@ -126,18 +93,6 @@ has-room-requires c κs =
     let f = c .before .before .before .before .before .before .before .before .before .before .before in
     let a = entry f in
     (a .pre .0, (a .pre .1 .0, (f .fill .ensures .passed .cursor, slots-long (page-long f) (a .pre .1 .1 .1 .1))))
-
-refused-requires-2 : tie.Need-refused-requires-2
-refused-requires-2 c κs = search needs
-
-same-length-10 : tie.Need-same-length-10
-same-length-10 c = search needs
-
-same-length-11 : tie.Need-same-length-11
-same-length-11 c = search needs
-
-same-length-12 : tie.Need-same-length-12
-same-length-12 c = search needs
 
 returns-3 : tie.Need-returns-3
 returns-3 c =
@@ -164,15 +119,6 @@ same-length-14 c = c .before .before .before .before .before .before .before .be
 same-length-15 : tie.Need-same-length-15
 same-length-15 c = c .before .before .before .before .before .before .before .before .before .before .before .before .before .before .before .before .before .has-room .kept .1 .1 .1 .1 .1 .1 .1 .1 .1 .1 .1 .1 .1 .1 .1 .1 .0 ∙ c .before .before .before .before .before .before .before .before .before .before .before .before .before .before .before .before .before .before .before .before .before .before .before .before .before .before .before .before .before .fill .kept .1 .1 .1 .1 .1 .1 .1 .1 .1 .1 .1 .1 .1 .1 .1 .0
 
-same-length-16 : tie.Need-same-length-16
-same-length-16 c = search needs
-
-same-length-17 : tie.Need-same-length-17
-same-length-17 c = search needs
-
-same-length-18 : tie.Need-same-length-18
-same-length-18 c = search needs
-
 returns-4 : tie.Need-returns-4
 returns-4 c =
     let f = c .before .before .before .before .before .before .before .before .before .before .before .before .before .before .before .before .before .before .before .before .before .before .before .before .before .before .before .before .before in
@@ -190,4 +136,4 @@ returns-4 c =
 
 pub bake-by-pages-spec : {M : Type 1} → statement M
 bake-by-pages-spec =
-    tie.close (tie.spec shortest-requires fill-requires refused-requires same-length same-length-2 same-length-3 returns write-page-requires same-length-4 same-length-5 same-length-6 same-length-7 same-length-8 same-length-9 returns-2 has-room-requires refused-requires-2 same-length-10 same-length-11 same-length-12 returns-3 fill-requires-2 same-length-13 same-length-14 same-length-15 same-length-16 same-length-17 same-length-18 returns-4)
+    tie.close (tie.spec (λ c κs. search needs) fill-requires (λ c κs. search needs) (λ c. search needs) (λ c. search needs) (λ c. search needs) returns write-page-requires (λ c. search needs) (λ c. search needs) (λ c. search needs) (λ c. search needs) (λ c. search needs) (λ c. search needs) returns-2 has-room-requires (λ c κs. search needs) (λ c. search needs) (λ c. search needs) (λ c. search needs) returns-3 fill-requires-2 same-length-13 same-length-14 same-length-15 (λ c. search needs) (λ c. search needs) (λ c. search needs) returns-4)

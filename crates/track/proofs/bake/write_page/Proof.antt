@@ -44,15 +44,6 @@ slice-aggregate-copy-marks-2 c = sym (length-take-le _ _ (c .before .before .bef
 copy-marks-requires : tie.Need-copy-marks-requires
 copy-marks-requires c κs = let p = c .before .before .before .before .before .before .before .before .before .before .before .before .before .before .before .before .before .before .pre in length-take-le _ _ (p .1 .marks) ∙ sym (length-take-le _ _ (p .0 .marks))
 
-same-length : tie.Need-same-length
-same-length c = search needs
-
-same-length-2 : tie.Need-same-length-2
-same-length-2 c = search needs
-
-same-length-3 : tie.Need-same-length-3
-same-length-3 c = search needs
-
 returns : tie.Need-returns
 returns c =
     let s = c .before .before .before .before .before .before .before .before .before .before .before .before .before .before .before .before .before .before .before .before .before in
@@ -61,4 +52,4 @@ returns c =
 
 pub write-page-spec : {M : Type 1} → statement M
 write-page-spec =
-    tie.close (tie.spec slice-aggregate-copy slice-relend-prefix-copy slice-aggregate-copy-2 copy-requires slice-aggregate-copy-3 slice-relend-prefix-copy-2 slice-aggregate-copy-4 copy-requires-2 slice-aggregate-copy-marks slice-relend-prefix-copy-marks slice-aggregate-copy-marks-2 copy-marks-requires same-length same-length-2 same-length-3 returns)
+    tie.close (tie.spec slice-aggregate-copy slice-relend-prefix-copy slice-aggregate-copy-2 copy-requires slice-aggregate-copy-3 slice-relend-prefix-copy-2 slice-aggregate-copy-4 copy-requires-2 slice-aggregate-copy-marks slice-relend-prefix-copy-marks slice-aggregate-copy-marks-2 copy-marks-requires (λ c. search needs) (λ c. search needs) (λ c. search needs) returns)

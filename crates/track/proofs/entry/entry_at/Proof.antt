@@ -13,16 +13,10 @@ use borrow.Author.Needs.{needs}
 use Rattle.track.proofs.entry.entry_at.Statement.{statement}
 use Rattle.track.proofs.entry.entry_at.Tie as tie
 
-of-key-requires : tie.Need-of-key-requires
-of-key-requires c κs = search needs
-
 value-in-set-requires : tie.Need-value-in-set-requires
 value-in-set-requires c κs =
     let a = c .before .before .before .before .before .before .before .before .before .before in
     (a .pre .0, subst (λ (t : Float). T (finite t)) (sym (c .of-key .ensures)) (ofKey-finite (a .args .k) (a .pre .1 .0) (a .pre .1 .1)))
-
-entry-of-requires : tie.Need-entry-of-requires
-entry-of-requires c κs = search needs
 
 returns : tie.Need-returns
 returns c =
@@ -36,4 +30,4 @@ returns c =
     (c .before .before .of-key .ensures)
 
 pub entry-at-spec : {M : Type 1} → statement M
-entry-at-spec = tie.close (tie.spec of-key-requires value-in-set-requires entry-of-requires returns)
+entry-at-spec = tie.close (tie.spec (λ c κs. search needs) value-in-set-requires (λ c κs. search needs) returns)

@@ -20,39 +20,12 @@ Inv-loop mark value times values marks t n held₀ i₀ held i =
 abbrev μ-loop : tie.MeasureT-loop
 μ-loop mark value times values marks t n held₀ i₀ held i = n - i
 
-shortest-requires : tie.Need-shortest-requires Inv-loop μ-loop
-shortest-requires c κs = search needs
-
 loop-holds : tie.Need-loop-holds Inv-loop μ-loop
 loop-holds c = let a = c .before .before .before .before .args in (omega arith, c .shortest .ensures, ap (λ (l : List Change). readFrom (entry (a .value) (a .mark)) l (a .t)) (sym (whole (changesOfLists (a .times .now) (a .values .now) (a .marks .now)))))
   where
     whole : (l : List Change) → drop 0 l ≡ l
     whole [] = refl
     whole (x ∷ l) = refl
-
-mul-held-with : tie.Need-mul-held-with Inv-loop μ-loop
-mul-held-with c = search needs
-
-shared-slice-read-held-with : tie.Need-shared-slice-read-held-with Inv-loop μ-loop
-shared-slice-read-held-with c = search needs
-
-mul-held-with-2 : tie.Need-mul-held-with-2 Inv-loop μ-loop
-mul-held-with-2 c = search needs
-
-shared-slice-read-held-with-2 : tie.Need-shared-slice-read-held-with-2 Inv-loop μ-loop
-shared-slice-read-held-with-2 c = search needs
-
-shared-slice-read-held-with-3 : tie.Need-shared-slice-read-held-with-3 Inv-loop μ-loop
-shared-slice-read-held-with-3 c = search needs
-
-held-with-requires : tie.Need-held-with-requires Inv-loop μ-loop
-held-with-requires c κs = search needs
-
-add-i : tie.Need-add-i Inv-loop μ-loop
-add-i c = search needs
-
-loop-less : tie.Need-loop-less Inv-loop μ-loop
-loop-less c = search needs
 
 loop-again : tie.Need-loop-again Inv-loop μ-loop
 loop-again c =
@@ -81,15 +54,15 @@ read-held-spec =
     (tie.spec
     Inv-loop
     μ-loop
-    shortest-requires
+    (λ c κs. search needs)
     loop-holds
-    mul-held-with
-    shared-slice-read-held-with
-    mul-held-with-2
-    shared-slice-read-held-with-2
-    shared-slice-read-held-with-3
-    held-with-requires
-    add-i
-    loop-less
+    (λ c. search needs)
+    (λ c. search needs)
+    (λ c. search needs)
+    (λ c. search needs)
+    (λ c. search needs)
+    (λ c κs. search needs)
+    (λ c. search needs)
+    (λ c. search needs)
     loop-again
     returns)

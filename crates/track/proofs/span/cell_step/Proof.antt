@@ -23,9 +23,6 @@ found c = let a = entry c .args in subst (λ (t : Float). CellIn (a .starts .now
 reads : (c : tie.After-cell-at) → ReadsAt (entry c .args .times .now) (entry c .args .values .now) (entry c .args .marks .now) (entry c .args .ends .now) (c .cell-at .result .cell) (c .cell-at .result .end) (entry c .args .k)
 reads c = entry c .pre .reads (c .cell-at .result .cell) (c .cell-at .result .end) (found c)
 
-of-key-requires : tie.Need-of-key-requires
-of-key-requires c κs = search needs
-
 cell-at-requires : tie.Need-cell-at-requires
 cell-at-requires c κs =
     let a = c .before .before .before .before .before .before .before .before .before in
@@ -37,9 +34,6 @@ end-key-requires c κs = reads c .number
 sub-lesser : tie.Need-sub-lesser
 sub-lesser c = omega (arith, reads (c .before) .later, c .end-key .ensures)
 
-lesser-requires : tie.Need-lesser-requires
-lesser-requires c κs = search needs
-
 read-on-requires : tie.Need-read-on-requires
 read-on-requires c κs = let A = reads (c .before .before) in (A .point, A .read)
 
@@ -48,9 +42,6 @@ answer-of-requires c κs =
     let q = c .before .before .before in
     let a = entry q .args in
     (subst (Answerable (length (a .values .now)) (a .ends .now)) (sym (c .read-on .ensures)) (reads q .said), reads q .flagged)
-
-entry-of-requires : tie.Need-entry-of-requires
-entry-of-requires c κs = search needs
 
 returns : tie.Need-returns
 returns c =
@@ -75,12 +66,12 @@ pub cell-step-spec : {M : Type 1} → statement M
 cell-step-spec =
     tie.close
     (tie.spec
-    of-key-requires
+    (λ c κs. search needs)
     cell-at-requires
     end-key-requires
     sub-lesser
-    lesser-requires
+    (λ c κs. search needs)
     read-on-requires
     answer-of-requires
-    entry-of-requires
+    (λ c κs. search needs)
     returns)

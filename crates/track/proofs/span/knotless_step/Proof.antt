@@ -21,17 +21,11 @@ entry c = c .before .before .before .before .before .before
 asks : (c : tie.After-knotless-cell) → ReadsAt (entry c .args .times .now) (entry c .args .values .now) (entry c .args .marks .now) (entry c .args .ends .now) (c .knotless-cell .result) (At (entry c .args .at .window .max)) (entry c .args .k)
 asks c = let a = entry c .args in subst (λ (d : Cell). ReadsAt (a .times .now) (a .values .now) (a .marks .now) (a .ends .now) d (At (a .at .window .max)) (a .k)) (sym (c .knotless-cell .ensures)) (entry c .pre)
 
-knotless-cell-requires : tie.Need-knotless-cell-requires
-knotless-cell-requires c κs = search needs
-
 key-requires : tie.Need-key-requires
 key-requires c κs = entry c .pre .number
 
 sub-lesser : tie.Need-sub-lesser
 sub-lesser c = omega (arith, c .key .ensures, entry (c .before) .pre .later)
-
-lesser-requires : tie.Need-lesser-requires
-lesser-requires c κs = search needs
 
 read-on-requires : tie.Need-read-on-requires
 read-on-requires c κs = let A = asks (c .before .before) in (A .point, A .read)
@@ -41,9 +35,6 @@ answer-of-requires c κs =
     let q = c .before .before .before in
     let a = entry q .args in
     (subst (Answerable (length (a .values .now)) (a .ends .now)) (sym (c .read-on .ensures)) (asks q .said), asks q .flagged)
-
-entry-of-requires : tie.Need-entry-of-requires
-entry-of-requires c κs = search needs
 
 returns : tie.Need-returns
 returns c =
@@ -65,11 +56,11 @@ pub knotless-step-spec : {M : Type 1} → statement M
 knotless-step-spec =
     tie.close
     (tie.spec
-    knotless-cell-requires
+    (λ c κs. search needs)
     key-requires
     sub-lesser
-    lesser-requires
+    (λ c κs. search needs)
     read-on-requires
     answer-of-requires
-    entry-of-requires
+    (λ c κs. search needs)
     returns)

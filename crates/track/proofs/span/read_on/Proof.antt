@@ -32,12 +32,6 @@ part-inside c =
 part-is : (c : tie.After-clip-end) → take (c .clip-end .result - c .before .clip-begin .result) (drop (c .before .clip-begin .result) (entry (c .before .before) .args .times .now)) ≡ part (entry (c .before .before) .args .times .now) (entry (c .before .before) .args .ends .now) (c .before .before .before .cell2 .given .0 .0)
 part-is c = ap₂ (λ (e b : ℕ). take (e - b) (drop b (entry (c .before .before) .args .times .now))) (c .clip-end .ensures) (c .before .clip-begin .ensures)
 
-enum-known-cell : tie.Need-enum-known-cell
-enum-known-cell c = search needs
-
-enum-known-cell-2 : tie.Need-enum-known-cell-2
-enum-known-cell-2 c = search needs
-
 clip-begin-requires : tie.Need-clip-begin-requires
 clip-begin-requires c κs = read c .clip
 
@@ -62,9 +56,6 @@ place-on-requires c κs =
     let K = a .pre .0 in
     (subst Ascending (sym (part-is (c .before))) (read (c .before .before .before) .rising), (K .low, K .high))
 
-returns : tie.Need-returns
-returns c = search needs
-
 returns-2 : tie.Need-returns-2
 returns-2 c =
     let t = c .before .before .before .before in
@@ -77,8 +68,8 @@ pub read-on-spec : {M : Type 1} → statement M
 read-on-spec =
     tie.close
     (tie.spec
-    enum-known-cell
-    enum-known-cell-2
+    (λ c. search needs)
+    (λ c. search needs)
     clip-begin-requires
     clip-end-requires
     mul-place-on
@@ -86,5 +77,5 @@ read-on-spec =
     part-place-on-start
     part-place-on-end
     place-on-requires
-    returns
+    (λ c. search needs)
     returns-2)

@@ -31,36 +31,6 @@ taken e = e .before .before .before .before .segment-at .ensures
 cut-reads : (e : tie.After-clip-end) → Reads (cut (entry e .args .times .now) (e .before .clip-begin .result) (e .clip-end .result)) (cut (entry e .args .values .now) (e .before .clip-begin .result) (e .clip-end .result)) (cut (entry e .args .marks .now) (e .before .clip-begin .result) (e .clip-end .result))
 cut-reads e = let a = entry e in recut (a .args .times .now) (a .args .values .now) (a .args .marks .now) (a .args .ends .now) (a .args .at .window .clip) (e .before .clip-begin .result) (e .clip-end .result) (e .before .clip-begin .ensures) (e .clip-end .ensures) Reads (a .pre .reads)
 
-segment-at-requires : tie.Need-segment-at-requires
-segment-at-requires c κs = search needs
-
-key-requires : tie.Need-key-requires
-key-requires c κs = search needs
-
-sub-lesser : tie.Need-sub-lesser
-sub-lesser c = search needs
-
-lesser-requires : tie.Need-lesser-requires
-lesser-requires c κs = search needs
-
-clip-begin-requires : tie.Need-clip-begin-requires
-clip-begin-requires c κs = search needs
-
-clip-end-requires : tie.Need-clip-end-requires
-clip-end-requires c κs = search needs
-
-mul-place-on : tie.Need-mul-place-on
-mul-place-on c = search needs
-
-sub-place-on : tie.Need-sub-place-on
-sub-place-on c = search needs
-
-part-place-on-start : tie.Need-part-place-on-start
-part-place-on-start c = search needs
-
-part-place-on-end : tie.Need-part-place-on-end
-part-place-on-end c = search needs
-
 key-requires-2 : tie.Need-key-requires-2
 key-requires-2 c κs = let a = entry (c .before) in finite-no-nan (a .args .l) (a .pre .ground .finitely)
 
@@ -70,27 +40,6 @@ place-on-requires c κs =
     let a = entry e in
     let f = finite→key (a .args .l) (a .pre .ground .fitting) (a .pre .ground .finitely) in
     (cut-reads e .ascending, (omega (arith, f .0, c .key2 .ensures), omega (arith, f .1, c .key2 .ensures)))
-
-mul-entry-of-sample : tie.Need-mul-entry-of-sample
-mul-entry-of-sample c = search needs
-
-sub-entry-of-sample : tie.Need-sub-entry-of-sample
-sub-entry-of-sample c = search needs
-
-part-entry-of-sample-start : tie.Need-part-entry-of-sample-start
-part-entry-of-sample-start c = search needs
-
-part-entry-of-sample-end : tie.Need-part-entry-of-sample-end
-part-entry-of-sample-end c = search needs
-
-sub-entry-of-sample-2 : tie.Need-sub-entry-of-sample-2
-sub-entry-of-sample-2 c = search needs
-
-part-entry-of-sample-start-2 : tie.Need-part-entry-of-sample-start-2
-part-entry-of-sample-start-2 c = search needs
-
-part-entry-of-sample-end-2 : tie.Need-part-entry-of-sample-end-2
-part-entry-of-sample-end-2 c = search needs
 
 entry-of-sample-requires : tie.Need-entry-of-sample-requires
 entry-of-sample-requires c κs =
@@ -122,24 +71,24 @@ pub run-step-spec : {M : Type 1} → statement M
 run-step-spec =
     tie.close
     (tie.spec
-    segment-at-requires
-    key-requires
-    sub-lesser
-    lesser-requires
-    clip-begin-requires
-    clip-end-requires
-    mul-place-on
-    sub-place-on
-    part-place-on-start
-    part-place-on-end
+    (λ c κs. search needs)
+    (λ c κs. search needs)
+    (λ c. search needs)
+    (λ c κs. search needs)
+    (λ c κs. search needs)
+    (λ c κs. search needs)
+    (λ c. search needs)
+    (λ c. search needs)
+    (λ c. search needs)
+    (λ c. search needs)
     key-requires-2
     place-on-requires
-    mul-entry-of-sample
-    sub-entry-of-sample
-    part-entry-of-sample-start
-    part-entry-of-sample-end
-    sub-entry-of-sample-2
-    part-entry-of-sample-start-2
-    part-entry-of-sample-end-2
+    (λ c. search needs)
+    (λ c. search needs)
+    (λ c. search needs)
+    (λ c. search needs)
+    (λ c. search needs)
+    (λ c. search needs)
+    (λ c. search needs)
     entry-of-sample-requires
     returns)

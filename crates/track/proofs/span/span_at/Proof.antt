@@ -34,14 +34,8 @@ place c =
     let a = entry c .args in
     subst (λ (t : Float). PlaceAt (a .starts .now) (a .clips .now) (a .xs .now) (a .ys .now) (a .blocks .now) (a .m) (a .times .now) (a .values .now) (a .marks .now) (a .ends .now) t (c .place-at .result .start) (c .place-at .result .window)) (c .before .of-key .ensures) (c .place-at .ensures)
 
-of-key-requires : tie.Need-of-key-requires
-of-key-requires c κs = search needs
-
 place-at-requires : tie.Need-place-at-requires
 place-at-requires c κs = let a = c .before .before .before .before .before .before .before .before .before .before .before in (a .pre .0, (a .pre .1 .1 .0, subst FiniteDouble (sym (c .of-key .ensures)) (finite-key a)))
-
-is-knotless-requires : tie.Need-is-knotless-requires
-is-knotless-requires c κs = search needs
 
 -- several starts, and no knots
 knotless : (c : tie.Then1) → (1 < length (entry (c .before .before) .args .starts .now)) × (length (entry (c .before .before) .args .xs .now) ≡ 0)
@@ -77,9 +71,6 @@ run-begin-requires c κs =
       (window-lent (a .pre .0) (q .place-at .result .start) (q .place-at .result .window) W, window-least (a .pre .0) (q .place-at .result .start) (q .place-at .result .window) W),
     )
 
-enum-known-found : tie.Need-enum-known-found
-enum-known-found c = search needs
-
 -- a run begins at k
 abbrev placed : tie.After-known-told → tie.After-place-at
 placed c = c .before .before .before .before .before .before .before .before
@@ -107,9 +98,6 @@ returns-2 c =
     let y = run (c .before) in
     run-steps (a .pre .0) (a .args .k) (a .args .top) (a .pre .1 .1 .1) (q .place-at .result) (place q) (c .before .before .before .before .before .before .if2 .taken) (y .0) (a .args .latest .now) _ _ _ (y .1) _ (c .run-step .result) (c .run-step .ensures)
 
-enum-told : tie.Need-enum-told
-enum-told c = search needs
-
 cell-step-requires : tie.Need-cell-step-requires
 cell-step-requires c κs = let q = c .before .before .before in let a = entry q in cell-step-asks (a .pre .0) (a .args .k) (a .args .top) (a .pre .1 .1 .1) (q .place-at .result) (place q) (a .args .latest .now) (a .pre .1 .0)
 
@@ -120,15 +108,15 @@ pub span-at-spec : {M : Type 1} → statement M
 span-at-spec =
     tie.close
     (tie.spec
-    of-key-requires
+    (λ c κs. search needs)
     place-at-requires
-    is-knotless-requires
+    (λ c κs. search needs)
     knotless-step-requires
     returns
     run-begin-requires
-    enum-known-found
+    (λ c. search needs)
     run-step-requires
     returns-2
-    enum-told
+    (λ c. search needs)
     cell-step-requires
     returns-3)

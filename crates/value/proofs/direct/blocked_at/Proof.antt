@@ -30,14 +30,8 @@ one-more c =
 loop-holds : tie.Need-loop-holds Inv-loop μ-loop
 loop-holds c = (omega arith, omega arith, refl)
 
-mul-equal-found : tie.Need-mul-equal-found Inv-loop μ-loop
-mul-equal-found c = search needs
-
 shared-slice-read-equal-found : tie.Need-shared-slice-read-equal-found Inv-loop μ-loop
 shared-slice-read-equal-found c = omega arith
-
-equal-found-requires : tie.Need-equal-found-requires Inv-loop μ-loop
-equal-found-requires c κs = search needs
 
 add-found : tie.Need-add-found Inv-loop μ-loop
 add-found c = let k = c .before .before .before .loop in omega (arith, k .inv .1, one-more c)
@@ -71,9 +65,9 @@ blocked-at-spec =
     Inv-loop
     μ-loop
     loop-holds
-    mul-equal-found
+    (λ c. search needs)
     shared-slice-read-equal-found
-    equal-found-requires
+    (λ c κs. search needs)
     add-found
     add-i
     loop-less

@@ -14,20 +14,11 @@ use Rattle.value.proofs.direct.read_clip.Tie as tie
 abbrev entry : tie.After-clip-end → tie.Start
 entry c = c .before .before .before .before .before .before .before .before
 
-clip-begin-requires : tie.Need-clip-begin-requires
-clip-begin-requires c κs = search needs
-
-clip-end-requires : tie.Need-clip-end-requires
-clip-end-requires c κs = search needs
-
 returns : tie.Need-returns
 returns c =
     let k = c .before in
     let a = entry k .args in
     held-none (now (a .times)) (now (a .values)) (now (a .marks)) _ _ _ (sym (k .before .clip-begin .ensures) ∙ c .if1 .taken ∙ k .clip-end .ensures)
-
-map-time-requires : tie.Need-map-time-requires
-map-time-requires c κs = search needs
 
 read-clip-requires : tie.Need-read-clip-requires
 read-clip-requires c κs =
@@ -50,9 +41,9 @@ pub read-clip-spec : {M : Type 1} → statement M
 read-clip-spec =
     tie.close
     (tie.spec
-    clip-begin-requires
-    clip-end-requires
+    (λ c κs. search needs)
+    (λ c κs. search needs)
     returns
-    map-time-requires
+    (λ c κs. search needs)
     read-clip-requires
     returns-2)

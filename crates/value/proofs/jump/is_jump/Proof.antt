@@ -34,9 +34,6 @@ fits-upper s = search needs
 inside : (k : tie.At-loop Inv-loop μ-loop) → 0 < k .loop .i → k .loop .i < length (now (entry k .args .xs))
 inside k h = let s = entry k in let a = s .args in last-place (now (a .xs)) (s .pre) (a .lower) (a .upper) (fits-lower s) (fits-upper s) (k .loop .i) (k .loop .inv .0) h
 
-last-at-most-near-requires : tie.Need-last-at-most-near-requires Inv-loop μ-loop
-last-at-most-near-requires c κs = search needs
-
 loop-holds : tie.Need-loop-holds Inv-loop μ-loop
 loop-holds c =
     let s = c .before .before in
@@ -96,7 +93,7 @@ is-jump-spec =
     (tie.spec
     Inv-loop
     μ-loop
-    last-at-most-near-requires
+    (λ c κs. search needs)
     loop-holds
     mul-x
     shared-slice-read-x

@@ -23,9 +23,6 @@ abbrev μ-loop : tie.MeasureT-loop
 loop-holds : tie.Need-loop-holds Inv-loop μ-loop
 loop-holds c = (omega arith, refl)
 
-mul-clip : tie.Need-mul-clip Inv-loop μ-loop
-mul-clip c = search needs
-
 shared-slice-read-clip : tie.Need-shared-slice-read-clip Inv-loop μ-loop
 shared-slice-read-clip c = omega arith
 
@@ -76,7 +73,7 @@ any-samples-spec =
     Inv-loop
     μ-loop
     loop-holds
-    mul-clip
+    (λ c. search needs)
     shared-slice-read-clip
     clip-begin-requires
     clip-end-requires

@@ -17,9 +17,6 @@ returns-2 c =
     let a = entry (e .before) .args in
     untimed-default (a .clips .now) (a .m) (a .ends .now) (e .if1 .left) (c .if2 .taken)
 
-any-samples-requires : tie.Need-any-samples-requires
-any-samples-requires c κs = search needs
-
 returns-3 : tie.Need-returns-3
 returns-3 c =
     let q = c .before in
@@ -35,4 +32,4 @@ returns-4 c =
     untimed-blocked (a .clips .now) (a .m) (a .ends .now) (e .if1 .left) (q .before .if2 .left) (sym (q .any-samples .ensures) ∙ c .if3 .left)
 
 pub untimed-answer-in-set-spec : {M : Type 1} → statement M
-untimed-answer-in-set-spec = tie.close (tie.spec returns returns-2 any-samples-requires returns-3 returns-4)
+untimed-answer-in-set-spec = tie.close (tie.spec returns returns-2 (λ c κs. search needs) returns-3 returns-4)

@@ -13,9 +13,6 @@ use Rattle.value.proofs.value.value_in_set.Tie as tie
 abbrev entry : tie.After-shared-slice-known9 → tie.Start
 entry k = k .before .before .before .before .before .before .before .before .before
 
-value-source-requires : tie.Need-value-source-requires
-value-source-requires c κs = search needs
-
 answer-of-requires : tie.Need-answer-of-requires
 answer-of-requires c κs =
     let s = entry (c .before) in
@@ -32,4 +29,4 @@ returns c =
     ∙ ap (says (setOf (length (now (a .ends))) (now (a .starts)) (now (a .clips)) (now (a .xs)) (now (a .ys)) (now (a .blocks)) (a .m)) (samplesOf (now (a .times)) (now (a .values)) (now (a .marks)) (now (a .ends)))) (v .value-source .ensures)
 
 pub value-in-set-spec : {M : Type 1} → statement M
-value-in-set-spec = tie.close (tie.spec value-source-requires answer-of-requires returns)
+value-in-set-spec = tie.close (tie.spec (λ c κs. search needs) answer-of-requires returns)

@@ -19,14 +19,8 @@ held s = search needs
 on : (o : tie.Then1) → OnSegment (now (o .before .before .before .before .args .xs)) (o .before .before .before .before .args .t .0) (o .before .before .before .before .args .knot)
 on o = o .before .is-between .ensures (o .if1 .taken)
 
-is-between-requires : tie.Need-is-between-requires
-is-between-requires c κs = search needs
-
 segment-at-requires : tie.Need-segment-at-requires
 segment-at-requires c κs = (c .before .before .before .before .pre .1, on c .place)
-
-clip-time-requires : tie.Need-clip-time-requires
-clip-time-requires c κs = search needs
 
 returns : tie.Need-returns
 unfolding mapStageToClip
@@ -39,11 +33,5 @@ returns c =
     ∙ ap (λ (q : Segment). onSegment (q .a) (q .b) (a .t .0)) (c .before .segment-at .ensures)
     ∙ on-segment (now (a .xs)) (now (a .ys)) (s .pre .0) (s .pre .1) (a .t .0) (held s) (a .knot) (on o))
 
-map-time-requires : tie.Need-map-time-requires
-map-time-requires c κs = search needs
-
-returns-2 : tie.Need-returns-2
-returns-2 c = search needs
-
 pub clip-time-spec : {M : Type 1} → statement M
-clip-time-spec = tie.close (tie.spec is-between-requires segment-at-requires clip-time-requires returns map-time-requires returns-2)
+clip-time-spec = tie.close (tie.spec (λ c κs. search needs) segment-at-requires (λ c κs. search needs) returns (λ c κs. search needs) (λ c. search needs))

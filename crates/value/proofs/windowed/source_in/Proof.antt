@@ -10,24 +10,6 @@ use borrow.Author.Needs.{needs}
 use Rattle.value.proofs.windowed.source_in.Statement.{statement}
 use Rattle.value.proofs.windowed.source_in.Tie as tie
 
-clip-time-requires : tie.Need-clip-time-requires
-clip-time-requires c κs = search needs
-
-mul-last-at-most-near : tie.Need-mul-last-at-most-near
-mul-last-at-most-near c = search needs
-
-sub-last-at-most-near : tie.Need-sub-last-at-most-near
-sub-last-at-most-near c = search needs
-
-part-last-at-most-near-start : tie.Need-part-last-at-most-near-start
-part-last-at-most-near-start c = search needs
-
-part-last-at-most-near-end : tie.Need-part-last-at-most-near-end
-part-last-at-most-near-end c = search needs
-
-last-at-most-near-requires : tie.Need-last-at-most-near-requires
-last-at-most-near-requires c κs = search needs
-
 returns : tie.Need-returns
 unfolding windowSource mapStageToClip
 returns c =
@@ -43,11 +25,11 @@ pub source-in-spec : {M : Type 1} → statement M
 source-in-spec =
     tie.close
     (tie.spec
-    clip-time-requires
-    mul-last-at-most-near
-    sub-last-at-most-near
-    part-last-at-most-near-start
-    part-last-at-most-near-end
-    last-at-most-near-requires
+    (λ c κs. search needs)
+    (λ c. search needs)
+    (λ c. search needs)
+    (λ c. search needs)
+    (λ c. search needs)
+    (λ c κs. search needs)
     returns
     returns-2)

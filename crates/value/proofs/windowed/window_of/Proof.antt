@@ -17,32 +17,11 @@ use Rattle.value.proofs.windowed.window_of.Tie as tie
 abbrev entry : tie.After-window-max → tie.Start
 entry k = k .before .before .before .before .before .before .before .before .before .before .before .before .before
 
-mul-start : tie.Need-mul-start
-mul-start c = search needs
-
-shared-slice-read-start : tie.Need-shared-slice-read-start
-shared-slice-read-start c = search needs
-
-mul-clip : tie.Need-mul-clip
-mul-clip c = search needs
-
-shared-slice-read-clip : tie.Need-shared-slice-read-clip
-shared-slice-read-clip c = search needs
-
-window-min-requires : tie.Need-window-min-requires
-window-min-requires c κs = search needs
-
-window-max-requires : tie.Need-window-max-requires
-window-max-requires c κs = search needs
-
 clip-begin-requires : tie.Need-clip-begin-requires
 clip-begin-requires c κs = let s = entry c in ready-clip (s .pre .0) (s .args .p) (s .pre .1)
 
 clip-end-requires : tie.Need-clip-end-requires
 clip-end-requires c κs = let s = entry (c .before) in ready-clip (s .pre .0) (s .args .p) (s .pre .1)
-
-has-samples-requires : tie.Need-has-samples-requires
-has-samples-requires c κs = search needs
 
 returns : tie.Need-returns
 returns c =
@@ -55,9 +34,6 @@ returns c =
     let u = holds (ltb (e .before .clip-begin .result) (e .clip-end .result) && own) (sym (h .has-samples .ensures) ∙ c .if1 .taken) in
     window-samples (s .pre .0) (a .p) (s .pre .1) _ refl refl (k .before .window-min .ensures) (k .window-max .ensures) (e .before .clip-begin .ensures) (e .clip-end .ensures)
     (ltb→lt (e .before .clip-begin .result) (e .clip-end .result) (both-l (ltb (e .before .clip-begin .result) (e .clip-end .result)) own u)) (is-true own (both-r (ltb (e .before .clip-begin .result) (e .clip-end .result)) own u))
-
-interpolate-missing-value-requires : tie.Need-interpolate-missing-value-requires
-interpolate-missing-value-requires c κs = search needs
 
 returns-2 : tie.Need-returns-2
 returns-2 c =
@@ -74,15 +50,15 @@ pub window-of-spec : {M : Type 1} → statement M
 window-of-spec =
     tie.close
     (tie.spec
-    mul-start
-    shared-slice-read-start
-    mul-clip
-    shared-slice-read-clip
-    window-min-requires
-    window-max-requires
+    (λ c. search needs)
+    (λ c. search needs)
+    (λ c. search needs)
+    (λ c. search needs)
+    (λ c κs. search needs)
+    (λ c κs. search needs)
     clip-begin-requires
     clip-end-requires
-    has-samples-requires
+    (λ c κs. search needs)
     returns
-    interpolate-missing-value-requires
+    (λ c κs. search needs)
     returns-2)

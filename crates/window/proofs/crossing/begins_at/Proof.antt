@@ -6,15 +6,6 @@ use borrow.Author.Needs.{needs}
 use Rattle.window.proofs.crossing.begins_at.Statement.{statement}
 use Rattle.window.proofs.crossing.begins_at.Tie as tie
 
-mul-is-beyond : tie.Need-mul-is-beyond
-mul-is-beyond c = search needs
-
-shared-slice-read-is-beyond : tie.Need-shared-slice-read-is-beyond
-shared-slice-read-is-beyond c = search needs
-
-is-beyond-requires : tie.Need-is-beyond-requires
-is-beyond-requires c κs = search needs
-
 returns : tie.Need-returns
 returns c = (λ e l. sym (c .is-beyond .ensures) ∙ e, λ e. (omega arith, sym (c .is-beyond .ensures) ∙ e))
 
@@ -24,4 +15,4 @@ returns-2 c = (λ e l. absurd (omega arith), λ e. absurd (false≢true (sym e))
 pub begins-at-spec : {M : Type 1} → statement M
 begins-at-spec =
     tie.close
-    (tie.spec mul-is-beyond shared-slice-read-is-beyond is-beyond-requires returns returns-2)
+    (tie.spec (λ c. search needs) (λ c. search needs) (λ c κs. search needs) returns returns-2)

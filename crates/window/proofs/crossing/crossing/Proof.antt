@@ -9,14 +9,8 @@ use borrow.Author.Needs.{needs}
 use Rattle.window.proofs.crossing.crossing.Statement.{statement}
 use Rattle.window.proofs.crossing.crossing.Tie as tie
 
-begins-at-requires : tie.Need-begins-at-requires
-begins-at-requires c κs = search needs
-
 add-next : tie.Need-add-next
 add-next c = let h = c .before .begins-at .ensures .1 (not-true (c .before .begins-at .result) (c .if1 .taken)) in omega (arith, h .0)
-
-begins-at-requires-2 : tie.Need-begins-at-requires-2
-begins-at-requires-2 c κs = search needs
 
 returns : tie.Need-returns
 returns c =
@@ -25,56 +19,32 @@ returns c =
     let h = b .begins-at .ensures .1 (not-true (b .begins-at .result) (c .before .before .if1 .taken)) in
     turn-next (isBeyond (a .t) (knot (a .sa) (a .ca), knot (a .sb) (a .cb))) (now (a .cs)) (a .hint) (h .0) (h .1) (c .before .begins-at2 .ensures .0 (c .if2 .taken))
 
-search-crossing-requires : tie.Need-search-crossing-requires
-search-crossing-requires c κs = search needs
-
-returns-2 : tie.Need-returns-2
-returns-2 c = search needs
-
-ends-before-requires : tie.Need-ends-before-requires
-ends-before-requires c κs = search needs
-
 returns-3 : tie.Need-returns-3
 returns-3 c =
     let b = c .before .before .before in
     let h = c .before .ends-before .ensures (c .if3 .taken) in
     record { upto = h .0; before = h .1; here = b .begins-at .ensures .0 (not-false (b .begins-at .result) (c .before .before .if1 .left)) }
 
-sub-before : tie.Need-sub-before
-sub-before c = search needs
-
-begins-at-requires-3 : tie.Need-begins-at-requires-3
-begins-at-requires-3 c κs = search needs
-
-ends-before-requires-2 : tie.Need-ends-before-requires-2
-ends-before-requires-2 c κs = search needs
-
 returns-4 : tie.Need-returns-4
 returns-4 c =
     let h = c .before .ends-before2 .ensures (c .if6 .taken) in
     record { upto = h .0; before = h .1; here = c .before .before .before .begins-at3 .ensures .0 (c .before .before .if5 .taken) }
 
-search-crossing-requires-2 : tie.Need-search-crossing-requires-2
-search-crossing-requires-2 c κs = search needs
-
-returns-5 : tie.Need-returns-5
-returns-5 c = search needs
-
 pub crossing-spec : {M : Type 1} → statement M
 crossing-spec =
     tie.close
     (tie.spec
-    begins-at-requires
+    (λ c κs. search needs)
     add-next
-    begins-at-requires-2
+    (λ c κs. search needs)
     returns
-    search-crossing-requires
-    returns-2
-    ends-before-requires
+    (λ c κs. search needs)
+    (λ c. search needs)
+    (λ c κs. search needs)
     returns-3
-    sub-before
-    begins-at-requires-3
-    ends-before-requires-2
+    (λ c. search needs)
+    (λ c κs. search needs)
+    (λ c κs. search needs)
     returns-4
-    search-crossing-requires-2
-    returns-5)
+    (λ c κs. search needs)
+    (λ c. search needs))

@@ -19,18 +19,6 @@ returns c = λ e. absurd (false≢true e)
 returns-2 : tie.Need-returns-2
 returns-2 c = λ e. (omega arith, λ i k. absurd (omega arith))
 
-sub-before : tie.Need-sub-before
-sub-before c = search needs
-
-mul-is-beyond : tie.Need-mul-is-beyond
-mul-is-beyond c = search needs
-
-shared-slice-read-is-beyond : tie.Need-shared-slice-read-is-beyond
-shared-slice-read-is-beyond c = search needs
-
-is-beyond-requires : tie.Need-is-beyond-requires
-is-beyond-requires c κs = search needs
-
 returns-3 : tie.Need-returns-3
 returns-3 c =
     λ e. (
@@ -47,8 +35,8 @@ ends-before-spec =
     (tie.spec
     returns
     returns-2
-    sub-before
-    mul-is-beyond
-    shared-slice-read-is-beyond
-    is-beyond-requires
+    (λ c. search needs)
+    (λ c. search needs)
+    (λ c. search needs)
+    (λ c κs. search needs)
     returns-3)

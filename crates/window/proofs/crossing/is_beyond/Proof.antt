@@ -14,9 +14,6 @@ returns-2 : tie.Need-returns-2
 unfolding isBeyond
 returns-2 c = rw (c .before .before .if1 .taken, c .before .if2 .left, c .if3 .taken)
 
-inverse-requires : tie.Need-inverse-requires
-inverse-requires c κs = search needs
-
 returns-3 : tie.Need-returns-3
 unfolding isBeyond
 returns-3 c = rw (c .before .before .before .if1 .taken, c .before .before .if2 .left, c .before .if3 .left) (ap (lt (c .before .before .before .before .args .t)) (c .inverse .ensures))
@@ -29,9 +26,6 @@ returns-5 : tie.Need-returns-5
 unfolding isBeyond
 returns-5 c = rw (c .before .before .if1 .left, c .before .if4 .left, c .if5 .taken)
 
-inverse-requires-2 : tie.Need-inverse-requires-2
-inverse-requires-2 c κs = search needs
-
 returns-6 : tie.Need-returns-6
 unfolding isBeyond
 returns-6 c = rw (c .before .before .before .if1 .left, c .before .before .if4 .left, c .before .if5 .left) (ap (λ (x : Float). le x (c .before .before .before .before .args .t)) (c .inverse2 .ensures))
@@ -42,9 +36,9 @@ is-beyond-spec =
     (tie.spec
     returns
     returns-2
-    inverse-requires
+    (λ c κs. search needs)
     returns-3
     returns-4
     returns-5
-    inverse-requires-2
+    (λ c κs. search needs)
     returns-6)

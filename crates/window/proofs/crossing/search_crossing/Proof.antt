@@ -27,14 +27,8 @@ sub-mid c = omega arith
 add-mid : tie.Need-add-mid Inv-loop μ-loop
 add-mid c = omega arith
 
-mul-is-beyond : tie.Need-mul-is-beyond Inv-loop μ-loop
-mul-is-beyond c = search needs
-
 shared-slice-read-is-beyond : tie.Need-shared-slice-read-is-beyond Inv-loop μ-loop
 shared-slice-read-is-beyond c = omega arith
-
-is-beyond-requires : tie.Need-is-beyond-requires Inv-loop μ-loop
-is-beyond-requires c κs = search needs
 
 loop-less : tie.Need-loop-less Inv-loop μ-loop
 loop-less c = omega arith
@@ -72,9 +66,9 @@ search-crossing-spec =
     loop-holds
     sub-mid
     add-mid
-    mul-is-beyond
+    (λ c. search needs)
     shared-slice-read-is-beyond
-    is-beyond-requires
+    (λ c κs. search needs)
     loop-less
     loop-again
     add-lo

@@ -6,24 +6,12 @@ use borrow.Author.Needs.{needs}
 use Rattle.window.proofs.nearest.near_crossing.Statement.{statement}
 use Rattle.window.proofs.nearest.near_crossing.Tie as tie
 
-near-sample-requires : tie.Need-near-sample-requires
-near-sample-requires c κs = search needs
-
 returns : tie.Need-returns
 returns c =
     let s = c .before .before .before in
     let a = s .args in
     turn-searched (a .t) (a .w) (s .pre .1 .1 .0) (a .s .a, a .s .b) (s .pre .0) (now (a .cs)) (s .pre .1 .0) (a .n) (s .pre .1 .1 .1)
     (before-none (a .t) (a .w) (a .known) (now (a .cs)) (a .s .a, a .s .b) (a .n) (c .before .if1 .taken)) (c .near-sample .ensures)
-
-sub-near-sample : tie.Need-sub-near-sample
-sub-near-sample c = search needs
-
-near-sample-requires-2 : tie.Need-near-sample-requires-2
-near-sample-requires-2 c κs = search needs
-
-near-sample-requires-3 : tie.Need-near-sample-requires-3
-near-sample-requires-3 c κs = search needs
 
 returns-2 : tie.Need-returns-2
 returns-2 c =
@@ -36,9 +24,9 @@ pub near-crossing-spec : {M : Type 1} → statement M
 near-crossing-spec =
     tie.close
     (tie.spec
-    near-sample-requires
+    (λ c κs. search needs)
     returns
-    sub-near-sample
-    near-sample-requires-2
-    near-sample-requires-3
+    (λ c. search needs)
+    (λ c κs. search needs)
+    (λ c κs. search needs)
     returns-2)

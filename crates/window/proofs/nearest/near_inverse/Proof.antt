@@ -11,15 +11,6 @@ use borrow.Author.Needs.{needs}
 use Rattle.window.proofs.nearest.near_inverse.Statement.{statement}
 use Rattle.window.proofs.nearest.near_inverse.Tie as tie
 
-spans-requires : tie.Need-spans-requires
-spans-requires c κs = search needs
-
-stage-time-requires : tie.Need-stage-time-requires
-stage-time-requires c κs = search needs
-
-near-inside-requires : tie.Need-near-inside-requires
-near-inside-requires c κs = search needs
-
 returns : tie.Need-returns
 returns c =
     let a = c .before .before .before .before .args in
@@ -34,4 +25,4 @@ returns-2 c =
 
 pub near-inverse-spec : {M : Type 1} → statement M
 near-inverse-spec =
-    tie.close (tie.spec spans-requires stage-time-requires near-inside-requires returns returns-2)
+    tie.close (tie.spec (λ c κs. search needs) (λ c κs. search needs) (λ c κs. search needs) returns returns-2)

@@ -5,15 +5,6 @@ use borrow.Author.Needs.{needs}
 use Rattle.window.proofs.nearest.near_place.Statement.{statement}
 use Rattle.window.proofs.nearest.near_place.Tie as tie
 
-mul-near-inside : tie.Need-mul-near-inside
-mul-near-inside c = search needs
-
-shared-slice-read-near-inside : tie.Need-shared-slice-read-near-inside
-shared-slice-read-near-inside c = search needs
-
-near-inside-requires : tie.Need-near-inside-requires
-near-inside-requires c κs = search needs
-
 returns : tie.Need-returns
 unfolding withPlace
 returns c = rw (lt-ltb _ _ (c .before .before .if1 .taken)) (c .near-inside .ensures)
@@ -25,4 +16,4 @@ returns-2 c = rw (le-ltb _ _ (c .if1 .left))
 pub near-place-spec : {M : Type 1} → statement M
 near-place-spec =
     tie.close
-    (tie.spec mul-near-inside shared-slice-read-near-inside near-inside-requires returns returns-2)
+    (tie.spec (λ c. search needs) (λ c. search needs) (λ c κs. search needs) returns returns-2)

@@ -5,15 +5,6 @@ use borrow.Author.Needs.{needs}
 use Rattle.window.proofs.nearest.near_sample.Statement.{statement}
 use Rattle.window.proofs.nearest.near_sample.Tie as tie
 
-mul-near-inverse : tie.Need-mul-near-inverse
-mul-near-inverse c = search needs
-
-shared-slice-read-near-inverse : tie.Need-shared-slice-read-near-inverse
-shared-slice-read-near-inverse c = search needs
-
-near-inverse-requires : tie.Need-near-inverse-requires
-near-inverse-requires c κs = search needs
-
 returns : tie.Need-returns
 returns c =
     let a = c .before .before .before .before .args in
@@ -28,8 +19,8 @@ pub near-sample-spec : {M : Type 1} → statement M
 near-sample-spec =
     tie.close
     (tie.spec
-    mul-near-inverse
-    shared-slice-read-near-inverse
-    near-inverse-requires
+    (λ c. search needs)
+    (λ c. search needs)
+    (λ c κs. search needs)
     returns
     returns-2)

@@ -13,16 +13,10 @@ use borrow.Author.Needs.{needs}
 use Rattle.window.proofs.nearest.near_times.Statement.{statement}
 use Rattle.window.proofs.nearest.near_times.Tie as tie
 
-near-place-requires : tie.Need-near-place-requires
-near-place-requires c κs = search needs
-
 add-near-place : tie.Need-add-near-place
 add-near-place c =
     let s = c .before .before in
     omega (arith, s .pre .1 .1 .1, last-small (now (s .args .xs)) (s .pre .0) (s .args .t) (s .pre .1 .0 .fitting))
-
-near-place-requires-2 : tie.Need-near-place-requires-2
-near-place-requires-2 c κs = search needs
 
 returns : tie.Need-returns
 returns c =
@@ -34,4 +28,4 @@ returns c =
 
 pub near-times-spec : {M : Type 1} → statement M
 near-times-spec =
-    tie.close (tie.spec near-place-requires add-near-place near-place-requires-2 returns)
+    tie.close (tie.spec (λ c κs. search needs) add-near-place (λ c κs. search needs) returns)

@@ -5,17 +5,11 @@ use borrow.Author.Needs.{needs}
 use Rattle.window.proofs.search.is_past.Statement.{statement}
 use Rattle.window.proofs.search.is_past.Tie as tie
 
-enum-known-lower : tie.Need-enum-known-lower
-enum-known-lower c = search needs
-
 returns : tie.Need-returns
 returns c = let g = c .before .lower .given in let a = c .before .before .before .args in λ h. past-all (a .lower) (g .0 .0) (a .top) (g .1) h
-
-enum-told : tie.Need-enum-told
-enum-told c = search needs
 
 returns-2 : tie.Need-returns-2
 returns-2 c = λ h. absurd (false≢true h)
 
 pub is-past-spec : {M : Type 1} → statement M
-is-past-spec = tie.close (tie.spec enum-known-lower returns enum-told returns-2)
+is-past-spec = tie.close (tie.spec (λ c. search needs) returns (λ c. search needs) returns-2)

@@ -5,12 +5,6 @@ use borrow.Author.Needs.{needs}
 use Rattle.window.proofs.search.near_around.Statement.{statement}
 use Rattle.window.proofs.search.near_around.Tie as tie
 
-next-place-requires : tie.Need-next-place-requires
-next-place-requires c κs = search needs
-
-near-before-requires : tie.Need-near-before-requires
-near-before-requires c κs = search needs
-
 returns : tie.Need-returns
 returns c =
     let s = c .before .before .before .before .before .before in
@@ -21,4 +15,4 @@ returns c =
     (c .near-before .ensures)
 
 pub near-around-spec : {M : Type 1} → statement M
-near-around-spec = tie.close (tie.spec next-place-requires near-before-requires returns)
+near-around-spec = tie.close (tie.spec (λ c κs. search needs) (λ c κs. search needs) returns)

@@ -27,9 +27,6 @@ latest-before-requires c κs =
     let s = entry (c .before .before) in
     (s .pre .0 .paired, (s .pre .0 .segments, (s .pre .1 .0, (omega (arith, s .pre .1 .1 .1 .1), omega arith))))
 
-is-past-requires : tie.Need-is-past-requires Inv-loop μ-loop
-is-past-requires c κs = search needs
-
 returns : tie.Need-returns Inv-loop μ-loop
 returns c =
     let u = c .before .before in
@@ -73,7 +70,7 @@ near-before-spec =
     μ-loop
     loop-holds
     latest-before-requires
-    is-past-requires
+    (λ c κs. search needs)
     returns
     sub-j
     near-segment-requires

@@ -19,9 +19,6 @@ entry c = c .before .before .before .before
 segment-at-requires : tie.Need-segment-at-requires
 segment-at-requires c κs = let s = c .before .before .before in (s .pre .0 .paired, s .pre .1)
 
-crossing-requires : tie.Need-crossing-requires
-crossing-requires c κs = search needs
-
 near-crossing-requires : tie.Need-near-crossing-requires
 near-crossing-requires c κs =
     let m = c .before in
@@ -36,4 +33,4 @@ returns c =
     subst (λ (q : Segment). Searched (a .t) (keep (inside (a .w)) (onSegment (now (a .cs)) (q .a, q .b))) (boundsOf (a .known)) (c .near-crossing .result)) (m .segment-at .ensures) (c .near-crossing .ensures)
 
 pub near-segment-spec : {M : Type 1} → statement M
-near-segment-spec = tie.close (tie.spec segment-at-requires crossing-requires near-crossing-requires returns)
+near-segment-spec = tie.close (tie.spec segment-at-requires (λ c κs. search needs) near-crossing-requires returns)

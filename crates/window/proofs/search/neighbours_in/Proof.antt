@@ -16,12 +16,6 @@ low s = search needs
 high : (s : tie.Start) → T (fits binary64 (s .args .w .max))
 high s = search needs
 
-near-starts-requires : tie.Need-near-starts-requires
-near-starts-requires c κs = search needs
-
-last-at-most-near-requires : tie.Need-last-at-most-near-requires
-last-at-most-near-requires c κs = search needs
-
 near-times-requires : tie.Need-near-times-requires
 near-times-requires c κs =
     let s = c .before .before .before .before .before .before .before in
@@ -33,9 +27,6 @@ returns c =
     let s = c .before .before .before .before .before .before .before .before in
     let a = s .args in
     near-plain (now (a .xs)) (now (a .ys)) (now (a .latest)) (now (a .cs)) (a .w) (a .t) (s .pre) (low s) (high s) (c .before .before .if1 .taken) (c .before .before .before .near-starts .ensures) (c .near-times .ensures)
-
-last-at-most-near-requires-2 : tie.Need-last-at-most-near-requires-2
-last-at-most-near-requires-2 c κs = search needs
 
 near-times-requires-2 : tie.Need-near-times-requires-2
 near-times-requires-2 c κs =
@@ -61,11 +52,11 @@ pub neighbours-in-spec : {M : Type 1} → statement M
 neighbours-in-spec =
     tie.close
     (tie.spec
-    near-starts-requires
-    last-at-most-near-requires
+    (λ c κs. search needs)
+    (λ c κs. search needs)
     near-times-requires
     returns
-    last-at-most-near-requires-2
+    (λ c κs. search needs)
     near-times-requires-2
     near-around-requires
     returns-2)

@@ -12,11 +12,8 @@ returns c = let a = c .before .before .before .args in unlike-marks (entryIs (a 
 returns-2 : tie.Need-returns-2
 returns-2 c = let a = c .before .before .before .before .before .args in like-marks (entryIs (a .a)) (entryIs (a .b)) (c .before .before .if1 .left) (c .if2 .taken)
 
-same-bits-requires : tie.Need-same-bits-requires
-same-bits-requires c κs = search needs
-
 returns-3 : tie.Need-returns-3
 returns-3 c = let a = c .before .before .before .before .before .before .args in c .same-bits .ensures ∙ like-bits (entryIs (a .a)) (entryIs (a .b)) (c .before .before .before .if1 .left) (c .before .if2 .left)
 
 pub alike-spec : {M : Type 1} → statement M
-alike-spec = tie.close (tie.spec returns returns-2 same-bits-requires returns-3)
+alike-spec = tie.close (tie.spec returns returns-2 (λ c κs. search needs) returns-3)

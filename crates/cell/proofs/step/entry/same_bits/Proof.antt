@@ -18,9 +18,6 @@ float-to-bits-result c = not-nan (c .before .before .args .x) (c .before .if1 .l
 float-to-bits-result-2 : tie.Need-float-to-bits-result-2
 float-to-bits-result-2 c = not-nan (c .before .before .args .y) (c .if2 .left)
 
-returns-3 : tie.Need-returns-3
-returns-3 c = search needs
-
 pub same-bits-spec : {M : Type 1} → statement M
 same-bits-spec =
-    tie.close (tie.spec returns returns-2 float-to-bits-result float-to-bits-result-2 returns-3)
+    tie.close (tie.spec returns returns-2 float-to-bits-result float-to-bits-result-2 (λ c. search needs))

@@ -27,35 +27,11 @@ next c =
 returns : tie.Need-returns
 returns c = let a = c .before .before .before in sym (line-plain (a .args .xs .now) (a .args .ys .now) (a .pre .0) (a .args .t) (c .if1 .taken))
 
-shared-slice-read-if2 : tie.Need-shared-slice-read-if2
-shared-slice-read-if2 c = search needs
-
-shared-slice-read-t11 : tie.Need-shared-slice-read-t11
-shared-slice-read-t11 c = search needs
-
 returns-2 : tie.Need-returns-2
 returns-2 c = let a = c .before .before .before .before .before .before in sym (line-below (a .args .xs .now) (a .args .ys .now) (a .pre .0) (a .args .t) (omega arith) (c .before .if2 .taken))
 
-sub-last : tie.Need-sub-last
-sub-last c = search needs
-
-mul-if3 : tie.Need-mul-if3
-mul-if3 c = search needs
-
-shared-slice-read-if3 : tie.Need-shared-slice-read-if3
-shared-slice-read-if3 c = search needs
-
-mul-t14 : tie.Need-mul-t14
-mul-t14 c = search needs
-
-shared-slice-read-t16 : tie.Need-shared-slice-read-t16
-shared-slice-read-t16 c = search needs
-
 returns-3 : tie.Need-returns-3
 returns-3 c = let a = c .before .before .before .before .before .before .before .before in sym (line-last (a .args .xs .now) (a .args .ys .now) (a .pre .0) (a .args .t) (omega arith) (c .before .before .before .if2 .left) (c .before .if3 .taken))
-
-last-at-most-requires : tie.Need-last-at-most-requires
-last-at-most-requires c κs = search needs
 
 segment-at-requires : tie.Need-segment-at-requires
 segment-at-requires c κs = let h = next c in search needs
@@ -73,15 +49,15 @@ line-of-spec =
     tie.close
     (tie.spec
     returns
-    shared-slice-read-if2
-    shared-slice-read-t11
+    (λ c. search needs)
+    (λ c. search needs)
     returns-2
-    sub-last
-    mul-if3
-    shared-slice-read-if3
-    mul-t14
-    shared-slice-read-t16
+    (λ c. search needs)
+    (λ c. search needs)
+    (λ c. search needs)
+    (λ c. search needs)
+    (λ c. search needs)
     returns-3
-    last-at-most-requires
+    (λ c κs. search needs)
     segment-at-requires
     returns-4)

@@ -7,15 +7,6 @@ use Rattle.cell.specs.step.Lines.{lineIs, placeOn}
 use Rattle.cell.proofs.step.line.place_on.Statement.{statement}
 use Rattle.cell.proofs.step.line.place_on.Tie as tie
 
-of-key-requires : tie.Need-of-key-requires
-of-key-requires c κs = search needs
-
-along-requires : tie.Need-along-requires
-along-requires c κs = search needs
-
-last-at-most-requires : tie.Need-last-at-most-requires
-last-at-most-requires c κs = search needs
-
 returns : tie.Need-returns
 unfolding placeOn
 returns c =
@@ -24,4 +15,4 @@ returns c =
     ∙ ap (lastAtMost (a .times .now)) (c .before .along .ensures ∙ ap (Knots.along (lineIs (a .line))) (c .before .before .of-key .ensures))
 
 pub place-on-spec : {M : Type 1} → statement M
-place-on-spec = tie.close (tie.spec of-key-requires along-requires last-at-most-requires returns)
+place-on-spec = tie.close (tie.spec (λ c κs. search needs) (λ c κs. search needs) (λ c κs. search needs) returns)

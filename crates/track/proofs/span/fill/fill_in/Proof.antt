@@ -54,9 +54,6 @@ passing e =
     recut (a .times .now) (a .values .now) (a .marks .now) (a .ends .now) (clip t) (e .before .clip-begin .result) (e .clip-end .result) (e .before .clip-begin .ensures) (e .clip-end .ensures)
     (λ (ts vs : List Float) (ms : List ℕ). Passing ts vs ms (pair t) (floor t) (entryIs (a .s .here)) (a .k) (a .s .hi)) (run t .passing)
 
-enum-known-way : tie.Need-enum-known-way
-enum-known-way c = search needs
-
 fill-cell-requires : tie.Need-fill-cell-requires
 fill-cell-requires c κs =
     let t = c .before .before .before in
@@ -64,9 +61,6 @@ fill-cell-requires c κs =
     let a = s .args in
     let g = t .before .way .given in
     (s .pre .0, (subst (λ (d : ReadBy). SpanIs (a .times .now) (a .values .now) (a .marks .now) (a .ends .now) d (entryIs (a .s .here)) (a .k) (a .s .hi)) (g .1) (s .pre .1 .0), s .pre .1 .1))
-
-enum-known-way-2 : tie.Need-enum-known-way-2
-enum-known-way-2 c = search needs
 
 clip-begin-requires : tie.Need-clip-begin-requires
 clip-begin-requires c κs = run c .clip
@@ -116,15 +110,6 @@ fill-run-requires c κs =
       entry t .pre .1 .1,
     )
 
-same-length : tie.Need-same-length
-same-length c = search needs
-
-same-length-2 : tie.Need-same-length-2
-same-length-2 c = search needs
-
-same-length-3 : tie.Need-same-length-3
-same-length-3 c = search needs
-
 returns : tie.Need-returns
 returns c =
     let f = c .before .before .before .before .before .before in
@@ -133,15 +118,6 @@ returns c =
     let o = f .fill-cell .last .1 .1 .1 .1 .1 .1 .1 .1 .1 .1 in
     subst (λ (d : ReadBy). Walked (entryBy (a .times .now) (a .values .now) (a .marks .now) (a .ends .now) d (entryIs (a .s .here))) (a .k) (a .s .hi) (a .room) (a .n) (outputs (a .outtimes .now) (a .outvalues .now) (a .outmarks .now)) (outputs (o .0) (o .1 .0) (o .1 .1 .0)) (f .fill-cell .result))
     (sym (t .before .way .given .1)) (f .fill-cell .ensures)
-
-same-length-4 : tie.Need-same-length-4
-same-length-4 c = search needs
-
-same-length-5 : tie.Need-same-length-5
-same-length-5 c = search needs
-
-same-length-6 : tie.Need-same-length-6
-same-length-6 c = search needs
 
 returns-2 : tie.Need-returns-2
 returns-2 c =
@@ -163,9 +139,9 @@ pub fill-in-spec : {M : Type 1} → statement M
 fill-in-spec =
     tie.close
     (tie.spec
-    enum-known-way
+    (λ c. search needs)
     fill-cell-requires
-    enum-known-way-2
+    (λ c. search needs)
     clip-begin-requires
     clip-end-requires
     mul-fill-run
@@ -180,11 +156,11 @@ fill-in-spec =
     part-fill-run-start-3
     part-fill-run-end-3
     fill-run-requires
-    same-length
-    same-length-2
-    same-length-3
+    (λ c. search needs)
+    (λ c. search needs)
+    (λ c. search needs)
     returns
-    same-length-4
-    same-length-5
-    same-length-6
+    (λ c. search needs)
+    (λ c. search needs)
+    (λ c. search needs)
     returns-2)

@@ -6,19 +6,13 @@ use borrow.Author.Needs.{needs}
 use Rattle.window.proofs.nearest.candidate.with_near.Statement.{statement}
 use Rattle.window.proofs.nearest.candidate.with_near.Tie as tie
 
-greater-requires : tie.Need-greater-requires
-greater-requires c κs = search needs
-
 returns : tie.Need-returns
 unfolding withNear
 returns c = rw (c .before .if1 .taken) (ap (withLower (c .before .before .args .known)) (c .greater .ensures))
-
-lesser-requires : tie.Need-lesser-requires
-lesser-requires c κs = search needs
 
 returns-2 : tie.Need-returns-2
 unfolding withNear
 returns-2 c = rw (c .before .if1 .left) (ap (withUpper (c .before .before .args .known)) (c .lesser .ensures))
 
 pub with-near-spec : {M : Type 1} → statement M
-with-near-spec = tie.close (tie.spec greater-requires returns lesser-requires returns-2)
+with-near-spec = tie.close (tie.spec (λ c κs. search needs) returns (λ c κs. search needs) returns-2)

@@ -10,9 +10,6 @@ use Rattle.window.proofs.search.latest.later_inverse.Tie as tie
 returns : tie.Need-returns
 returns c = let s = c .before .before in let a = s .args in top-flat (a .s .a, a .s .b) (s .pre .0) (a .top) (s .pre .1) (c .if1 .taken)
 
-stage-time-requires : tie.Need-stage-time-requires
-stage-time-requires c κs = search needs
-
 returns-2 : tie.Need-returns-2
 returns-2 c =
     let s = c .before .before .before .before in
@@ -27,4 +24,4 @@ returns-3 c =
     top-lower (a .s .a, a .s .b) (s .pre .0) (a .top) (s .pre .1) (c .before .before .if1 .left) (ap (lt (a .top)) (sym (c .before .stage-time .ensures)) ∙ c .if2 .left)
 
 pub later-inverse-spec : {M : Type 1} → statement M
-later-inverse-spec = tie.close (tie.spec returns stage-time-requires returns-2 returns-3)
+later-inverse-spec = tie.close (tie.spec returns (λ c κs. search needs) returns-2 returns-3)

@@ -22,9 +22,6 @@ abbrev μ-loop : tie.MeasureT-loop
 abbrev entry : tie.At-loop Inv-loop μ-loop → tie.Start Inv-loop μ-loop
 entry k = k .before .before .before .before
 
-some-times-requires : tie.Need-some-times-requires Inv-loop μ-loop
-some-times-requires c κs = search needs
-
 loop-holds : tie.Need-loop-holds Inv-loop μ-loop
 unfolding ofBits neg div fits isNan
 loop-holds c = (latest-none _ _ _ _ (c .some-times .ensures) (tt, tt), omega arith)
@@ -40,9 +37,6 @@ later-inverse-requires c κs =
     let k = c .before .before in
     let s = entry k in
     (subst (λ (q : Segment). SoundSegment (q .a, q .b)) (sym (c .segment-at .ensures)) (segment-here (now (s .args .xs)) (now (s .args .ys)) (s .pre .0) (s .pre .1 .1) (k .loop .i) (omega arith)), k .loop .inv .0 .here .number)
-
-mul-items : tie.Need-mul-items Inv-loop μ-loop
-mul-items c = search needs
 
 array-write-items : tie.Need-array-write-items Inv-loop μ-loop
 array-write-items c = let k = c .before .before .before in omega (arith, k .loop .inv .0 .long, entry k .pre .1 .0)
@@ -73,12 +67,12 @@ latest-inverses-spec =
     (tie.spec
     Inv-loop
     μ-loop
-    some-times-requires
+    (λ c κs. search needs)
     loop-holds
     add-loop
     segment-at-requires
     later-inverse-requires
-    mul-items
+    (λ c. search needs)
     array-write-items
     add-i
     loop-less
