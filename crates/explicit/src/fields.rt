@@ -1,6 +1,11 @@
 // An explicit set's fields: the numbers that they alone give.
 use clip::storing;
 use definitions::Missing;
+use definitions::limits::BLOCKS;
+use definitions::limits::CLIPS;
+use definitions::limits::KNOTS;
+use definitions::limits::STARTS;
+use definitions::refusal;
 ghost use mathlib.Core.Path.{_≡_};
 ghost use Rattle.definitions.specs.Moments.{was};
 ghost use Rattle.explicit.specs.Parsing.{explicitFields, misshapen, anyNotClip, fieldsNumber};
@@ -16,22 +21,22 @@ fn is_misshapen(
 ) -> bool
     ensures { λ r. ⌜ r ≡ misshapen clips starts numbers xs ys blocks ⌝ }
 {
-    if 256 < clips {
+    if CLIPS as u64 < clips {
         return true;
     }
-    if 256 < starts {
+    if STARTS < starts {
         return true;
     }
-    if 256 < numbers {
+    if STARTS < numbers {
         return true;
     }
-    if 512 < xs {
+    if KNOTS < xs {
         return true;
     }
-    if 512 < ys {
+    if KNOTS < ys {
         return true;
     }
-    if 256 < blocks {
+    if BLOCKS < blocks {
         return true;
     }
     if starts != numbers {
@@ -74,25 +79,25 @@ pub fn fields_number(
         ys.len(),
         blocks.len(),
     ) {
-        return 1;
+        return refusal::MISSHAPEN;
     }
     if lists::any_unstorable(starts) {
-        return 2;
+        return refusal::UNSTORABLE;
     }
     if lists::any_unstorable(xs) {
-        return 2;
+        return refusal::UNSTORABLE;
     }
     if lists::any_unstorable(ys) {
-        return 2;
+        return refusal::UNSTORABLE;
     }
     if lists::any_unstorable(blocks) {
-        return 2;
+        return refusal::UNSTORABLE;
     }
     if storing::is_nan_default(manifest.default) {
-        return 2;
+        return refusal::UNSTORABLE;
     }
     if any_not_clip(numbers, clips) {
-        return 3;
+        return refusal::NO_CLIP_NUMBER;
     }
     0
 }

@@ -40,12 +40,6 @@ between c d o q i =
       };
     }
 
-direct-cell-requires : tie.Need-direct-cell-requires
-direct-cell-requires c κs = search needs
-
-first-above-requires : tie.Need-first-above-requires
-first-above-requires c κs = search needs
-
 returns : tie.Need-returns
 returns c = record { few = λ h. record { is = c .before .direct-cell .ensures; ends = c .first-above .ensures }; many = λ h. let s = c .before .before .if1 .taken in absurd (omega arith) }
 
@@ -64,23 +58,8 @@ part-neighbours-in-end c = let L = lent c in let o = L .order in let u = L .upto
 neighbours-in-requires : tie.Need-neighbours-in-requires
 neighbours-in-requires c κs = entry (c .before) .pre .nears (several (c .before))
 
-held-from-requires : tie.Need-held-from-requires
-held-from-requires c κs = search needs
-
-enum-known-l : tie.Need-enum-known-l
-enum-known-l c = search needs
-
-enum-told : tie.Need-enum-told
-enum-told c = search needs
-
-direct-cell-requires-2 : tie.Need-direct-cell-requires-2
-direct-cell-requires-2 c κs = search needs
-
 returns-2 : tie.Need-returns-2
 returns-2 c = between (c .before .before .before) _ _ (c .before .enum-told .given .1) (c .direct-cell2 .ensures)
-
-place-before-requires : tie.Need-place-before-requires
-place-before-requires c κs = search needs
 
 source-in-requires : tie.Need-source-in-requires
 source-in-requires c κs =
@@ -95,19 +74,19 @@ pub cell-at-spec : {M : Type 1} → statement M
 cell-at-spec =
     tie.close
     (tie.spec
-    direct-cell-requires
-    first-above-requires
+    (λ c κs. search needs)
+    (λ c κs. search needs)
     returns
     mul-neighbours-in
     sub-neighbours-in
     part-neighbours-in-start
     part-neighbours-in-end
     neighbours-in-requires
-    held-from-requires
-    enum-known-l
-    enum-told
-    direct-cell-requires-2
+    (λ c κs. search needs)
+    (λ c. search needs)
+    (λ c. search needs)
+    (λ c κs. search needs)
     returns-2
-    place-before-requires
+    (λ c κs. search needs)
     source-in-requires
     returns-3)

@@ -28,23 +28,8 @@ by-class (fin s m e) = any (eqb m 0) (isWhole (fin s m e))
     any false true = refl
     any false false = refl
 
-classify-requires : tie.Need-classify-requires
-classify-requires c κs = search needs
-
 told : (c : tie.After-classify) (k : Class) → c .classify .result ≡ k → finiteClass k ≡ finite (c .before .args .x)
 told c k e = sym (by-class (c .before .args .x) ∙ ap finiteClass (sym (c .classify .ensures) ∙ e))
-
-enum-told : tie.Need-enum-told
-enum-told c = search needs
-
-enum-told-2 : tie.Need-enum-told-2
-enum-told-2 c = search needs
-
-enum-told-3 : tie.Need-enum-told-3
-enum-told-3 c = search needs
-
-enum-told-4 : tie.Need-enum-told-4
-enum-told-4 c = search needs
 
 returns : tie.Need-returns
 returns c = told (c .before .before) Zero (c .enum-told .given .1)
@@ -62,11 +47,11 @@ pub is-finite-spec : {M : Type 1} → statement M
 is-finite-spec =
     tie.close
     (tie.spec
-    classify-requires
-    enum-told
-    enum-told-2
-    enum-told-3
-    enum-told-4
+    (λ c κs. search needs)
+    (λ c. search needs)
+    (λ c. search needs)
+    (λ c. search needs)
+    (λ c. search needs)
     returns
     returns-2
     returns-3

@@ -118,12 +118,6 @@ next-step-requires c κs =
     let l = c .loop .inv .2 .from in
     (reads a .ascending, (omega arith, (record { low = omega (arith, K .low, l); order = c .loop .inv .0; high = K .high }, (turns-once (c .loop .at) l (a .pre .1 .1 .0), sym e))))
 
-enum-known-step : tie.Need-enum-known-step Inv-loop μ-loop
-enum-known-step c = search needs
-
-enum-told : tie.Need-enum-told Inv-loop μ-loop
-enum-told c = search needs
-
 same-length : tie.Need-same-length Inv-loop μ-loop
 same-length c = long-end c .times
 
@@ -200,8 +194,8 @@ fill-changes-spec =
     entry-of-sample-requires
     loop-holds
     next-step-requires
-    enum-known-step
-    enum-told
+    (λ c. search needs)
+    (λ c. search needs)
     same-length
     same-length-2
     same-length-3

@@ -1,6 +1,7 @@
 // How far the inverse times of the segments reach.
 
 use definitions::Segment;
+use definitions::limits::KNOTS;
 use lists::segment::segment_at;
 use lists::segment::stage_time;
 ghost use mathlib.Core.Path.{_≡_};
@@ -17,14 +18,14 @@ ghost use Rattle.window.specs.neighbours.Latest.{NewTop, ReachOf, Latest
 
 // For each segment a time that no inverse time of it or of a segment before it is above.
 pub struct LatestInverses {
-    pub items: [f64; 512],
+    pub items: [f64; KNOTS],
 }
 
 // An array whose contents do not matter yet.
-fn some_times() -> [f64; 512]
+fn some_times() -> [f64; KNOTS]
     ensures { λ r. ⌜ length r ≡ maxKnots ⌝ }
 {
-    [0.0; 512]
+    [0.0; KNOTS]
 }
 
 // The greater of `top` and the last inverse time of a segment, which is that of its second clip time; with equal clip times it has none.

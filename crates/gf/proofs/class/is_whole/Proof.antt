@@ -32,21 +32,6 @@ by-class (fin s (suc m) e) = rw (eqb·suc-zero m) (either (eqb (suc m * up e % d
 told : (c : tie.After-classify) (k : Class) → c .classify .result ≡ k → wholeClass k ≡ isWhole (c .before .args .x)
 told c k e = sym (by-class (c .before .args .x) ∙ ap wholeClass (sym (c .classify .ensures) ∙ e))
 
-classify-requires : tie.Need-classify-requires
-classify-requires c κs = search needs
-
-enum-told : tie.Need-enum-told
-enum-told c = search needs
-
-enum-told-2 : tie.Need-enum-told-2
-enum-told-2 c = search needs
-
-enum-told-3 : tie.Need-enum-told-3
-enum-told-3 c = search needs
-
-enum-told-4 : tie.Need-enum-told-4
-enum-told-4 c = search needs
-
 returns : tie.Need-returns
 returns c = told (c .before .before) Zero (c .enum-told .given .1)
 
@@ -63,11 +48,11 @@ pub is-whole-spec : {M : Type 1} → statement M
 is-whole-spec =
     tie.close
     (tie.spec
-    classify-requires
-    enum-told
-    enum-told-2
-    enum-told-3
-    enum-told-4
+    (λ c κs. search needs)
+    (λ c. search needs)
+    (λ c. search needs)
+    (λ c. search needs)
+    (λ c. search needs)
     returns
     returns-2
     returns-3

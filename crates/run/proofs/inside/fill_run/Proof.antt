@@ -123,12 +123,6 @@ loop-holds c =
 next-in-run-requires : tie.Need-next-in-run-requires Inv-loop μ-loop
 next-in-run-requires c κs = let R = asked (entry c) in (R .segment, (R .reads .ascending, record { key = c .loop .at; here = c .loop .inv .1 }))
 
-enum-known-m : tie.Need-enum-known-m Inv-loop μ-loop
-enum-known-m c = search needs
-
-enum-told : tie.Need-enum-told Inv-loop μ-loop
-enum-told c = search needs
-
 same-length : tie.Need-same-length Inv-loop μ-loop
 same-length c = long-end c .times
 
@@ -201,8 +195,8 @@ fill-run-spec =
     crossing-requires
     loop-holds
     next-in-run-requires
-    enum-known-m
-    enum-told
+    (λ c. search needs)
+    (λ c. search needs)
     same-length
     same-length-2
     same-length-3

@@ -14,9 +14,6 @@ use Rattle.stage.proofs.mark.supplied_at.Tie as tie
 abbrev entry : tie.After-shared-slice-known8 → tie.Start
 entry k = k .before .before .before .before .before .before .before .before
 
-gap-mark-requires : tie.Need-gap-mark-requires
-gap-mark-requires c κs = search needs
-
 returns : tie.Need-returns
 returns c = let s = entry (c .before .before) in c .gap-mark .ensures ∙ mark-none (s .pre) (s .args .t) (c .before .if1 .taken)
 
@@ -39,12 +36,6 @@ read-clip-requires c κs =
     let R = entry (k .before .before) .pre in
     (ready-readable R, (ready-clip R (k .last-at-most .result) (active k), (R .accepted .values, R .accepted .marks)))
 
-enum-known-own : tie.Need-enum-known-own
-enum-known-own c = search needs
-
-sample-mark-requires : tie.Need-sample-mark-requires
-sample-mark-requires c κs = search needs
-
 returns-2 : tie.Need-returns-2
 returns-2 c =
     let o = c .before .before in
@@ -53,12 +44,6 @@ returns-2 c =
     let s = entry (k .before .before) in
     c .sample-mark .ensures
     ∙ mark-read (s .pre) (s .args .t) (k .last-at-most .result) (k .last-at-most .ensures) (active k) (o .own .given .0 .0) (o .own .given .0 .1 .0) (sym (ap heldIs (o .own .given .1)) ∙ r .read-clip .ensures)
-
-enum-told : tie.Need-enum-told
-enum-told c = search needs
-
-gap-mark-requires-2 : tie.Need-gap-mark-requires-2
-gap-mark-requires-2 c κs = search needs
 
 returns-3 : tie.Need-returns-3
 returns-3 c =
@@ -73,15 +58,15 @@ pub supplied-at-spec : {M : Type 1} → statement M
 supplied-at-spec =
     tie.close
     (tie.spec
-    gap-mark-requires
+    (λ c κs. search needs)
     returns
     last-at-most-requires
     mul-read-clip
     shared-slice-read-read-clip
     read-clip-requires
-    enum-known-own
-    sample-mark-requires
+    (λ c. search needs)
+    (λ c κs. search needs)
     returns-2
-    enum-told
-    gap-mark-requires-2
+    (λ c. search needs)
+    (λ c κs. search needs)
     returns-3)

@@ -45,12 +45,6 @@ next-is k b e = rw e at (k .next-time .ensures)
 next-time-requires : tie.Need-next-time-requires Inv-loop μ-loop
 next-time-requires c κs = (entry c .pre .0, (entry c .pre .1, c .loop .inv .0 .finitely))
 
-enum-known-time : tie.Need-enum-known-time Inv-loop μ-loop
-enum-known-time c = search needs
-
-enum-told : tie.Need-enum-told Inv-loop μ-loop
-enum-told c = search needs
-
 returns : tie.Need-returns Inv-loop μ-loop
 returns c =
     let k = c .before .before in
@@ -85,8 +79,8 @@ fits-spec =
     μ-loop
     loop-holds
     next-time-requires
-    enum-known-time
-    enum-told
+    (λ c. search needs)
+    (λ c. search needs)
     returns
     returns-2
     add-count

@@ -40,12 +40,6 @@ next-is k b e = rw e at (k .next-time .ensures)
 next-time-requires : tie.Need-next-time-requires Inv-loop μ-loop
 next-time-requires c κs = (entry c .pre .0, (entry c .pre .1 .0, c .loop .inv .0 .finitely))
 
-enum-known-time : tie.Need-enum-known-time Inv-loop μ-loop
-enum-known-time c = search needs
-
-enum-told : tie.Need-enum-told Inv-loop μ-loop
-enum-told c = search needs
-
 same-length : tie.Need-same-length Inv-loop μ-loop
 same-length c = c .before .before .before .loop .inv .1 .long
 
@@ -95,8 +89,8 @@ write-times-spec =
     μ-loop
     loop-holds
     next-time-requires
-    enum-known-time
-    enum-told
+    (λ c. search needs)
+    (λ c. search needs)
     same-length
     returns
     mul-out

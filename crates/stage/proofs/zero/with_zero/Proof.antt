@@ -6,12 +6,6 @@ use borrow.Author.Needs.{needs}
 use Rattle.stage.proofs.zero.with_zero.Statement.{statement}
 use Rattle.stage.proofs.zero.with_zero.Tie as tie
 
-enum-known-time : tie.Need-enum-known-time
-enum-known-time c = search needs
-
-is-minus-requires : tie.Need-is-minus-requires
-is-minus-requires c κs = search needs
-
 returns : tie.Need-returns
 unfolding ofBits neg
 returns c =
@@ -26,9 +20,6 @@ returns-2 c =
     let g = m .before .before .before in
     rw (sym (m .is-minus .ensures) ∙ c .if2 .left) (zero-taken _ _ (g .time .given .0 .0) (g .time .given .1) (m .before .if1 .taken))
 
-enum-told : tie.Need-enum-told
-enum-told c = search needs
-
 returns-3 : tie.Need-returns-3
 unfolding ofBits
 returns-3 c = let g = c .before .before in other-kept _ _ (g .time .given .0 .0) (g .time .given .1) (c .if1 .left)
@@ -39,4 +30,4 @@ returns-4 c = rw (c .enum-told .given .1)
 pub with-zero-spec : {M : Type 1} → statement M
 with-zero-spec =
     tie.close
-    (tie.spec enum-known-time is-minus-requires returns returns-2 enum-told returns-3 returns-4)
+    (tie.spec (λ c. search needs) (λ c κs. search needs) returns returns-2 (λ c. search needs) returns-3 returns-4)

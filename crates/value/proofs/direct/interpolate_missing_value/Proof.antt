@@ -31,9 +31,6 @@ nearest-before-requires c κs =
     let s = entry (searching c) in
     (search-asks (s .pre .0), omega arith)
 
-enum-known-back : tie.Need-enum-known-back
-enum-known-back c = search needs
-
 returns-3 : tie.Need-returns-3
 returns-3 c =
     let k = c .before .before .before .before in
@@ -41,19 +38,10 @@ returns-3 c =
     let g = c .before .back .given in
     stands-before (s .pre .0) (s .args .p) (k .before .before .if1 .left) (not-false (s .args .m .interpolate) (k .if2 .left)) (sample (g .0 .0) (g .0 .1 .0)) (sym (ap readingIs (g .1)) ∙ c .before .before .before .nearest-before .ensures ∙ first-is (s .pre .0) _)
 
-enum-told : tie.Need-enum-told
-enum-told c = search needs
-
-add-next : tie.Need-add-next
-add-next c = search needs
-
 nearest-from-requires : tie.Need-nearest-from-requires
 nearest-from-requires c κs =
     let s = entry (searching (c .before .before .before)) in
     (search-asks (s .pre .0), omega arith)
-
-enum-known-on : tie.Need-enum-known-on
-enum-known-on c = search needs
 
 returns-4 : tie.Need-returns-4
 returns-4 c =
@@ -64,9 +52,6 @@ returns-4 c =
     let g = c .before .on .given in
     stands-after (s .pre .0) (s .args .p) (k .before .before .if1 .left) (not-false (s .args .m .interpolate) (k .if2 .left)) (sample (g .0 .0) (g .0 .1 .0))
     (sym (ap readingIs (b .enum-told .given .1)) ∙ b .before .before .nearest-before .ensures ∙ first-is (s .pre .0) _) (sym (ap readingIs (g .1)) ∙ n .nearest-from .ensures ∙ first-is (s .pre .0) _)
-
-enum-told-2 : tie.Need-enum-told-2
-enum-told-2 c = search needs
 
 returns-5 : tie.Need-returns-5
 returns-5 c =
@@ -84,12 +69,12 @@ interpolate-missing-value-spec =
     returns
     returns-2
     nearest-before-requires
-    enum-known-back
+    (λ c. search needs)
     returns-3
-    enum-told
-    add-next
+    (λ c. search needs)
+    (λ c. search needs)
     nearest-from-requires
-    enum-known-on
+    (λ c. search needs)
     returns-4
-    enum-told-2
+    (λ c. search needs)
     returns-5)

@@ -30,17 +30,11 @@ sub-left c = omega arith
 read-start-requires : tie.Need-read-start-requires Inv-loop μ-loop
 read-start-requires c κs = (entry (c .before) .pre .0, omega arith)
 
-enum-known-found : tie.Need-enum-known-found Inv-loop μ-loop
-enum-known-found c = search needs
-
 returns : tie.Need-returns Inv-loop μ-loop
 returns c =
     let g = c .before .found .given in
     let k = c .before .before .before .before .before in
     sym (k .loop .inv .1 ∙ let a = entry k .args in back-found (a .blocks .now) (a .xs .now) (a .ys .now) (a .times .now) (a .ends .now) (a .starts .now) (a .clips .now) (entry k .pre .0 .paired) (k .loop .left) (omega arith) (omega arith) (sample (g .0 .0) (g .0 .1 .0)) (sym (ap readingIs (g .1)) ∙ c .before .before .before .read-start .ensures))
-
-enum-told : tie.Need-enum-told Inv-loop μ-loop
-enum-told c = search needs
 
 loop-less : tie.Need-loop-less Inv-loop μ-loop
 loop-less c = omega arith
@@ -64,9 +58,9 @@ nearest-before-spec =
     loop-holds
     sub-left
     read-start-requires
-    enum-known-found
+    (λ c. search needs)
     returns
-    enum-told
+    (λ c. search needs)
     loop-less
     loop-again
     returns-2)

@@ -11,9 +11,6 @@ use borrow.Author.Needs.{needs}
 use Rattle.value.proofs.value.answer_of.Statement.{statement}
 use Rattle.value.proofs.value.answer_of.Tie as tie
 
-enum-known-source : tie.Need-enum-known-source
-enum-known-source c = search needs
-
 abbrev entry : tie.After-shared-slice-known4 → tie.Start
 entry k = k .before .before .before .before
 
@@ -34,15 +31,6 @@ answer-in-requires c κs =
     let s = entry (k .before .before) in
     let h = inside k .1 in
     record { value = omega (arith, b .clip-begin .ensures); mark = omega (arith, b .clip-begin .ensures, s .pre .1) }
-
-enum-told : tie.Need-enum-told
-enum-told c = search needs
-
-enum-told-2 : tie.Need-enum-told-2
-enum-told-2 c = search needs
-
-enum-told-3 : tie.Need-enum-told-3
-enum-told-3 c = search needs
 
 returns : tie.Need-returns
 returns c =
@@ -65,13 +53,13 @@ pub answer-of-spec : {M : Type 1} → statement M
 answer-of-spec =
     tie.close
     (tie.spec
-    enum-known-source
+    (λ c. search needs)
     clip-begin-requires
     clip-end-requires
     answer-in-requires
-    enum-told
-    enum-told-2
-    enum-told-3
+    (λ c. search needs)
+    (λ c. search needs)
+    (λ c. search needs)
     returns
     returns-2
     returns-3

@@ -6,15 +6,6 @@ use borrow.Author.Needs.{needs}
 use Rattle.cell.proofs.step.entry.entry_of.Statement.{statement}
 use Rattle.cell.proofs.step.entry.entry_of.Tie as tie
 
-enum-known-a : tie.Need-enum-known-a
-enum-known-a c = search needs
-
-enum-told : tie.Need-enum-told
-enum-told c = search needs
-
-enum-told-2 : tie.Need-enum-told-2
-enum-told-2 c = search needs
-
 returns : tie.Need-returns
 unfolding entryOf ofBits
 returns c = sym (ap entryOf (c .before .a .given .1))
@@ -28,4 +19,4 @@ unfolding entryOf ofBits
 returns-3 c = sym (ap entryOf (c .enum-told2 .given .1))
 
 pub entry-of-spec : {M : Type 1} → statement M
-entry-of-spec = tie.close (tie.spec enum-known-a enum-told enum-told-2 returns returns-2 returns-3)
+entry-of-spec = tie.close (tie.spec (λ c. search needs) (λ c. search needs) (λ c. search needs) returns returns-2 returns-3)

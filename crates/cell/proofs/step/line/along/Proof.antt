@@ -5,18 +5,6 @@ use Rattle.cell.proofs.step.Lines.{along-plain, along-flat, along-segme
 use Rattle.cell.proofs.step.line.along.Statement.{statement}
 use Rattle.cell.proofs.step.line.along.Tie as tie
 
-enum-told : tie.Need-enum-told
-enum-told c = search needs
-
-enum-known-line : tie.Need-enum-known-line
-enum-known-line c = search needs
-
-enum-known-line-2 : tie.Need-enum-known-line-2
-enum-known-line-2 c = search needs
-
-clip-time-requires : tie.Need-clip-time-requires
-clip-time-requires c κs = search needs
-
 returns : tie.Need-returns
 returns c = let a = c .before .before .args in sym (along-plain (a .line) (a .t) (c .enum-told .given .1))
 
@@ -30,4 +18,4 @@ returns-3 c =
     c .clip-time .ensures ∙ sym (along-segment (a .line) (a .t) (g .0 .0) (g .1))
 
 pub along-spec : {M : Type 1} → statement M
-along-spec = tie.close (tie.spec enum-told enum-known-line enum-known-line-2 clip-time-requires returns returns-2 returns-3)
+along-spec = tie.close (tie.spec (λ c. search needs) (λ c. search needs) (λ c. search needs) (λ c κs. search needs) returns returns-2 returns-3)

@@ -34,12 +34,6 @@ inside c =
     let a = entry t .args in
     cut-inside (a .times .now) (a .values .now) (a .marks .now) (a .ends .now) (t .before .cell .given .0 .0) (c .before .clip-begin .result) (c .clip-end .result) (c .before .clip-begin .ensures) (c .clip-end .ensures) (t .before .cell .given .0 .1 .0) (a .k) (a .hi) (run t)
 
-enum-known-cell : tie.Need-enum-known-cell
-enum-known-cell c = search needs
-
-enum-told : tie.Need-enum-told
-enum-told c = search needs
-
 returns : tie.Need-returns
 returns c =
     let b = c .before .before .before .before .before .before .before .before .before in
@@ -104,15 +98,6 @@ fill-changes-requires c κs =
       ),
     )
 
-same-length : tie.Need-same-length
-same-length c = search needs
-
-same-length-2 : tie.Need-same-length-2
-same-length-2 c = search needs
-
-same-length-3 : tie.Need-same-length-3
-same-length-3 c = search needs
-
 returns-2 : tie.Need-returns-2
 returns-2 c =
     let f = c .before .before .before .before .before .before in
@@ -134,8 +119,8 @@ pub fill-cell-spec : {M : Type 1} → statement M
 fill-cell-spec =
     tie.close
     (tie.spec
-    enum-known-cell
-    enum-told
+    (λ c. search needs)
+    (λ c. search needs)
     returns
     clip-begin-requires
     clip-end-requires
@@ -151,7 +136,7 @@ fill-cell-spec =
     part-fill-changes-start-3
     part-fill-changes-end-3
     fill-changes-requires
-    same-length
-    same-length-2
-    same-length-3
+    (λ c. search needs)
+    (λ c. search needs)
+    (λ c. search needs)
     returns-2)

@@ -4,14 +4,8 @@ use borrow.Author.Needs.{needs}
 use Rattle.window.proofs.nearest.candidate.lesser.Statement.{statement}
 use Rattle.window.proofs.nearest.candidate.lesser.Tie as tie
 
-enum-known-known : tie.Need-enum-known-known
-enum-known-known c = search needs
-
 returns : tie.Need-returns
 returns c = let g = c .before .before .known .given in let a = c .before .before .before .before .args in lesser-keeps (a .known) (a .x) (g .0 .0) (g .1) (c .if1 .taken)
-
-enum-told : tie.Need-enum-told
-enum-told c = search needs
 
 returns-2 : tie.Need-returns-2
 returns-2 c = let g = c .before .before .known .given in let a = c .before .before .before .before .args in lesser-takes (a .known) (a .x) (g .0 .0) (g .1) (c .if1 .left)
@@ -20,4 +14,4 @@ returns-3 : tie.Need-returns-3
 returns-3 c = let a = c .before .before .args in lesser-first (a .known) (a .x) (c .enum-told .given .1)
 
 pub lesser-spec : {M : Type 1} → statement M
-lesser-spec = tie.close (tie.spec enum-known-known returns enum-told returns-2 returns-3)
+lesser-spec = tie.close (tie.spec (λ c. search needs) returns (λ c. search needs) returns-2 returns-3)
