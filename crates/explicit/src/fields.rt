@@ -21,7 +21,7 @@ fn is_misshapen(
 ) -> bool
     ensures { λ r. ⌜ r ≡ misshapen clips starts numbers xs ys blocks ⌝ }
 {
-    if CLIPS as u64 < clips {
+    if (CLIPS as u64) < clips {
         return true;
     }
     if STARTS < starts {
