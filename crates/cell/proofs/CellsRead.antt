@@ -1,14 +1,16 @@
--- One law for each way out of `direct_cell` and of `piece_at`: the cell is the one that the laws of cells name. Assumes nothing.
+-- The cell that is found in the window of a time is the one that the laws of cells name. Assumes nothing.
 use mathlib.Core.Path.{_≡_, refl, sym, ap, _∙_, subst}
 use mathlib.Core.Bool.{Bool, true, false, not, _&&_, cond}
 use mathlib.Core.List.{List, [], _∷_}
 use mathlib.Core.Option.{none, some}
 use Prim.Native.Nat.{ℕ, _-_, _≤_, _<_}
 use native.Mathlib.Omega.{arith}
+use native.Mathlib.Decide.{decLe}
+use lib.Dec.{eqb, ltb}
 use lib.ListN.{length, getD, getElem?, drop, length-drop}
 use lib.Seq.{length-take-le}
 use lib.Ieee.{Float, nan, eq}
-use borrow.Author.Tests.{lt-ltb, le-ltb}
+use borrow.Author.Tests.{lt-ltb, le-ltb, ltb-true, ltb-false, eqb-true, eqb-false}
 use Rattle.definitions.specs.declared.Start.{Start}
 use Rattle.definitions.specs.declared.Missing.{Missing}
 use Rattle.definitions.specs.declared.Source.{Source}
@@ -32,19 +34,44 @@ use Rattle.window.specs.declared.Neighbours.{Neighbours}
 use Rattle.window.specs.declared.Bound.the-variants.{At, Nothing}
 use Rattle.window.specs.Bounds.{LowerIs, UpperIs, NeighboursAre}
 use Rattle.window.specs.Parts.{partOf}
-use Rattle.window.proofs.Parts.{ready-clip}
+use Rattle.window.proofs.Parts.{ready-clip, ready-readable}
 use Rattle.window.specs.Windows.{ifOwn}
 use Rattle.cell.specs.declared.step.line.Line.{Line}
 use Rattle.cell.specs.step.Lines.{lineIs}
 use Rattle.window.specs.declared.search.Window.{Window}
-use Rattle.window.specs.declared.search.NeighboursAndHints.{NeighboursAndHints}
-use Rattle.window.specs.neighbours.Windowed.{samplesIn, windowTimes, windowSource, boundsOf}
+use Rattle.window.specs.neighbours.Latest.{LatestOf}
+use Rattle.window.specs.neighbours.Windowed.{samplesIn, windowTimes, windowSource}
+use Rattle.value.specs.Jumps.{jumpIn}
+use Rattle.value.proofs.Jumps.{jump-by-x}
 use Rattle.value.specs.WindowOf.{WindowIs}
-use Rattle.value.proofs.WindowOf.{window-gathered, window-held}
+use Rattle.value.proofs.WindowOf.{window-gathered, window-lent, window-nears, window-held}
 use Rattle.cell.specs.declared.Cell.{Cell}
 use Rattle.cell.specs.declared.Cell.the-variants.{Constant, Reading}
-use Rattle.cell.specs.CellAndEnd.{heldOf, DirectIs, CellAndEndIs}
-use Rattle.cell.proofs.Lent.{sound, samples, several, position, start-at}
+use Rattle.cell.specs.CellAndEnd.{cellIs, heldOf, directIn, cellBy, CellAsks, CellBetween, CellIn}
+use Rattle.cell.specs.WindowPlaces.{PlaceAt}
+use Rattle.cell.proofs.Lent.{sound, samples, several, position, start-at, place-window}
+
+-- ---- a cell of the set
+
+-- the clip that is read is one of the set's, and it has samples
+abbrev pub Sampled : ClipSet → Samples → Cell → Type 0
+Sampled set s (Constant r) = Unit {0}
+Sampled set s (Reading c line) = (c < set .clips) × (0 < length (clipTimes s c))
+
+-- the cell of the direct reading at t
+pub record DirectIs (set : ClipSet) (s : Samples) (t : Float) (c : Cell) : Type 0 where
+  pub is : cellIs c ≡ Cells.directCell set s (stage t)
+  pub clip : Sampled set s c
+
+-- the cell of t, and its end
+pub record CellAndEndIs (set : ClipSet) (s : Samples) (t : Float) (c : Cell) (e : Bound) : Type 0 where
+  pub is : cellIs c ≡ Cells.cellOf set s (stage t)
+  pub clip : Sampled set s c
+  pub ends : UpperIs (boundaries set s (stage t)) t e
+
+constant-is : (c : Cell) (r : Source) → cellIs c ≡ Cells.constant r → Constant r ≡ c
+constant-is (Constant q) r e = let z : q ≡ r = cc in ap Constant (sym z)
+constant-is (Reading k line) r e = let z : _≡_ {A = ℕ} 0 1 = cc in absurd (omega arith)
 
 -- ---- the cell of the direct reading
 
@@ -73,9 +100,9 @@ module _ {starts : List Float} {clips : List ℕ} {xs ys blocks : List Float} {m
   abbrev lent : Samples
   lent = samplesOf times values marks ends
 
-  -- ---- the ways out of `direct_cell`
+  -- ---- directly
 
-  pub direct-absent : length starts ≡ 0 → DirectIs (setOf (length ends) starts clips xs ys blocks m) (samplesOf times values marks ends) t (Constant Absent)
+  direct-absent : length starts ≡ 0 → DirectIs (setOf (length ends) starts clips xs ys blocks m) (samplesOf times values marks ends) t (Constant Absent)
   direct-absent h = record { is = sym (no-start ready lent t (lastAtMost starts t) (position R t) (none-at starts clips h)); clip = tt }
     where
       none-at : (l : List Float) (k : List ℕ) → length l ≡ 0 → getElem? (setOf (length ends) l k xs ys blocks m .active) (lastAtMost starts t) ≡ none
@@ -105,7 +132,7 @@ module _ {starts : List Float} {clips : List ℕ} {xs ys blocks : List Float} {m
     its-length : length (samplesIn times w) ≡ w .end - w .begin
     its-length = let u = W .upto in length-take-le (w .end - w .begin) (drop (w .begin) times) (rw (length-drop (w .begin) times) (omega arith))
 
-    pub direct-reads : (line : Line) → lineIs line ≡ lineOf (knotsOf xs ys) t → w .begin < w .end
+    direct-reads : (line : Line) → lineIs line ≡ lineOf (knotsOf xs ys) t → w .begin < w .end
         → DirectIs (setOf (length ends) starts clips xs ys blocks m) (samplesOf times values marks ends) t (Reading (w .clip) line)
     direct-reads line l h = subst (λ (c : ℕ). DirectIs ready lent t (Reading c line)) (sym (W .clip)) (go test refl)
       where
@@ -153,12 +180,23 @@ module _ {starts : List Float} {clips : List ℕ} {xs ys blocks : List Float} {m
           read : Cells-laws.readCell lent (Cells.directCell ready lent (stage t)) t ≡ rest
           read = ap (λ (c : Cells.Cell). Cells-laws.readCell lent c t) gap-cell
 
-      pub direct-gap : DirectIs (setOf (length ends) starts clips xs ys blocks m) (samplesOf times values marks ends) t (Constant (w .gap))
+      direct-gap : DirectIs (setOf (length ends) starts clips xs ys blocks m) (samplesOf times values marks ends) t (Constant (w .gap))
       direct-gap = record { is = ap Cells.constant gap-stands ∙ sym gap-cell; clip = tt }
 
-  -- ---- the ways out of `piece_at`
+    direct-window : (c : Cell) → cellIs c ≡ cond (ltb (w .begin) (w .end)) (Cells.reading (w .clip) (lineOf (knotsOf xs ys) t)) (Cells.constant (w .gap)) → DirectIs ready lent t c
+    direct-window c e = go (ltb (w .begin) (w .end)) refl c e
+      where
+        go : (b : Bool) → ltb (w .begin) (w .end) ≡ b → (c : Cell) → cellIs c ≡ cond b (Cells.reading (w .clip) (lineOf (knotsOf xs ys) t)) (Cells.constant (w .gap)) → DirectIs ready lent t c
+        go true h (Constant r) q = let z : _≡_ {A = ℕ} 0 1 = cc in absurd (omega arith)
+        go true h (Reading k line) q =
+            let z : w .clip ≡ k = cc in
+            let l : lineIs line ≡ lineOf (knotsOf xs ys) t = cc in
+            subst (λ (d : ℕ). DirectIs ready lent t (Reading d line)) z (direct-reads line l (ltb-true (w .begin) (w .end) h))
+        go false h d q = subst (DirectIs ready lent t) (constant-is d (w .gap) q) (direct-gap (let l = ltb-false (w .begin) (w .end) h in omega arith))
 
-  pub piece-few : (c : Cell) (e : Bound) → length starts < 2 → DirectIs (setOf (length ends) starts clips xs ys blocks m) (samplesOf times values marks ends) t c → UpperIs xs t e
+  -- ---- up to its end
+
+  piece-few : (c : Cell) (e : Bound) → length starts < 2 → DirectIs (setOf (length ends) starts clips xs ys blocks m) (samplesOf times values marks ends) t c → UpperIs xs t e
       → CellAndEndIs (setOf (length ends) starts clips xs ys blocks m) (samplesOf times values marks ends) t c e
   piece-few c e h d u = record { is = d .is ∙ sym (cell-few ready lent one t); clip = d .clip; ends = subst (λ (l : List Float). UpperIs l t e) (sym knots-only) u }
     where
@@ -214,12 +252,12 @@ module _ {starts : List Float} {clips : List ℕ} {xs ys blocks : List Float} {m
         U : IsUpper (gathered ready lent (activePosition (ready .active) (stage t))) t h
         U = subst (λ (k : List Float). IsUpper k t h) window u
 
-        jumping : (b : Bool) → jump (knotsOf xs ys) l h ≡ b → jump (ready .knots) l h ≡ b
+        jumping : (b : Bool) → jumpIn xs l h ≡ b → jump (ready .knots) l h ≡ b
         unfolding setOf
-        jumping b e = e
+        jumping b e = jump-by-x l h xs ys (R .knots-paired) ∙ e
 
         piece-jump : (c : Cell) → DirectIs (setOf (length ends) starts clips xs ys blocks m) (samplesOf times values marks ends) t c
-            → jump (knotsOf xs ys) l h ≡ true
+            → jumpIn xs l h ≡ true
             → CellAndEndIs (setOf (length ends) starts clips xs ys blocks m) (samplesOf times values marks ends) t c (At h)
         piece-jump c d j = record {
           is = d .is ∙ sym (cell-jump ready lent (sound R) (samples R) two t (ft .fitting) l h L U (jumping true j));
@@ -228,7 +266,7 @@ module _ {starts : List Float} {clips : List ℕ} {xs ys blocks : List Float} {m
         }
 
         piece-held : (r : Source) → r ≡ directSource (setOf (length ends) starts clips xs ys blocks m) (samplesOf times values marks ends) (stage l)
-            → jump (knotsOf xs ys) l h ≡ false
+            → jumpIn xs l h ≡ false
             → CellAndEndIs (setOf (length ends) starts clips xs ys blocks m) (samplesOf times values marks ends) t (Constant r) (At h)
         piece-held r e j = record {
           is = ap Cells.constant e ∙ sym (cell-held ready lent (sound R) (samples R) two t (ft .fitting) l h L U (jumping false j));
@@ -239,31 +277,31 @@ module _ {starts : List Float} {clips : List ℕ} {xs ys blocks : List Float} {m
     -- by the neighbours
 
     module _ (n : Neighbours) (N : NeighboursAre (gathered (setOf (length ends) starts clips xs ys blocks m) (samplesOf times values marks ends) p) t n) where
-      pub piece-direct : (c : Cell) → heldOf (knotsOf xs ys) (n .lower) (n .upper) ≡ Nothing → DirectIs (setOf (length ends) starts clips xs ys blocks m) (samplesOf times values marks ends) t c
+      piece-direct : (c : Cell) → heldOf xs (n .lower) (n .upper) ≡ Nothing → DirectIs (setOf (length ends) starts clips xs ys blocks m) (samplesOf times values marks ends) t c
           → CellAndEndIs (setOf (length ends) starts clips xs ys blocks m) (samplesOf times values marks ends) t c (n .upper)
       piece-direct c e d = go (n .lower) (n .upper) (N .lower) (N .upper) e
         where
-          go : (l h : Bound) → LowerIs (gathered ready lent p) t l → UpperIs (gathered ready lent p) t h → heldOf (knotsOf xs ys) l h ≡ Nothing → CellAndEndIs ready lent t c h
+          go : (l h : Bound) → LowerIs (gathered ready lent p) t l → UpperIs (gathered ready lent p) t h → heldOf xs l h ≡ Nothing → CellAndEndIs ready lent t c h
           go Nothing Nothing w u q = piece-last c d u
           go Nothing (At h) w u q = piece-below h u c d w
           go (At l) Nothing w u q = piece-last c d u
-          go (At l) (At h) w u q = piece-jump h u l w c d (jumped (jump (knotsOf xs ys) l h) q)
+          go (At l) (At h) w u q = piece-jump h u l w c d (jumped (jumpIn xs l h) q)
             where
               jumped : (b : Bool) → cond b Nothing (At l) ≡ Nothing → b ≡ true
               jumped true q = refl
               jumped false q = let z : _≡_ {A = ℕ} 0 1 = cc in absurd (omega arith)
 
-      pub piece-constant : (f : Float) (r : Source) → heldOf (knotsOf xs ys) (n .lower) (n .upper) ≡ At f → r ≡ directSource (setOf (length ends) starts clips xs ys blocks m) (samplesOf times values marks ends) (stage f)
+      pub piece-constant : (f : Float) (r : Source) → heldOf xs (n .lower) (n .upper) ≡ At f → r ≡ directSource (setOf (length ends) starts clips xs ys blocks m) (samplesOf times values marks ends) (stage f)
           → CellAndEndIs (setOf (length ends) starts clips xs ys blocks m) (samplesOf times values marks ends) t (Constant r) (n .upper)
       piece-constant f r e d = go (n .lower) (n .upper) (N .lower) (N .upper) e
         where
           none-held : Nothing ≡ At f → ⊥
           none-held q = let z : _≡_ {A = ℕ} 0 1 = cc in absurd (omega arith)
 
-          go : (l h : Bound) → LowerIs (gathered ready lent p) t l → UpperIs (gathered ready lent p) t h → heldOf (knotsOf xs ys) l h ≡ At f → CellAndEndIs ready lent t (Constant r) h
+          go : (l h : Bound) → LowerIs (gathered ready lent p) t l → UpperIs (gathered ready lent p) t h → heldOf xs l h ≡ At f → CellAndEndIs ready lent t (Constant r) h
           go Nothing h w u q = absurd (none-held q)
           go (At l) Nothing w u q = absurd (none-held q)
-          go (At l) (At h) w u q = let k = held (jump (knotsOf xs ys) l h) q in piece-held h u l w r (d ∙ ap (λ (x : Float). directSource ready lent (stage x)) (sym (k .1))) (k .0)
+          go (At l) (At h) w u q = let k = held (jumpIn xs l h) q in piece-held h u l w r (d ∙ ap (λ (x : Float). directSource ready lent (stage x)) (sym (k .1))) (k .0)
             where
               held : (b : Bool) → cond b Nothing (At l) ≡ At f → (b ≡ false) × (l ≡ f)
               held true q = absurd (none-held q)
@@ -271,17 +309,17 @@ module _ {starts : List Float} {clips : List ℕ} {xs ys blocks : List Float} {m
 
     -- by the neighbours in the window
 
-    module _ (w : Window) (W : WindowIs starts clips xs ys blocks m times values marks ends p w) (n : NeighboursAndHints) (N : NeighboursAre (windowTimes xs ys (samplesIn times w) w) t (boundsOf n)) where
-      among : NeighboursAre (gathered ready lent p) t (boundsOf n)
-      among = subst (λ (l : List Float). NeighboursAre l t (boundsOf n)) (sym (window-gathered R p w W)) N
+    module _ (w : Window) (W : WindowIs starts clips xs ys blocks m times values marks ends p w) (n : Neighbours) (N : NeighboursAre (windowTimes xs ys (samplesIn times w) w) t n) where
+      among : NeighboursAre (gathered ready lent p) t n
+      among = subst (λ (l : List Float). NeighboursAre l t n) (sym (window-gathered R p w W)) N
 
-      pub near-direct : (c : Cell) → heldOf (knotsOf xs ys) (n .lower) (n .upper) ≡ Nothing → DirectIs (setOf (length ends) starts clips xs ys blocks m) (samplesOf times values marks ends) t c
+      near-direct : (c : Cell) → heldOf xs (n .lower) (n .upper) ≡ Nothing → DirectIs (setOf (length ends) starts clips xs ys blocks m) (samplesOf times values marks ends) t c
           → CellAndEndIs (setOf (length ends) starts clips xs ys blocks m) (samplesOf times values marks ends) t c (n .upper)
-      near-direct c e d = piece-direct (boundsOf n) among c e d
+      near-direct c e d = piece-direct n among c e d
 
-      pub near-held : (f : Float) (r : Source) → heldOf (knotsOf xs ys) (n .lower) (n .upper) ≡ At f → r ≡ windowSource xs ys times w f
+      near-held : (f : Float) (r : Source) → heldOf xs (n .lower) (n .upper) ≡ At f → r ≡ windowSource xs ys times w f
           → CellAndEndIs (setOf (length ends) starts clips xs ys blocks m) (samplesOf times values marks ends) t (Constant r) (n .upper)
-      near-held f r e q = piece-constant (boundsOf n) among f r e (q ∙ sym (window-held R p w W t at (ft .fitting) f (lower (n .lower) (n .upper) e (among .lower))))
+      near-held f r e q = piece-constant n among f r e (q ∙ sym (window-held R p w W t at (ft .fitting) f (lower (n .lower) (n .upper) e (among .lower))))
         where
           differ : {B : Type 0} → Nothing ≡ At f → B
           differ z = let y : _≡_ {A = ℕ} 0 1 = cc in absurd (omega arith)
@@ -290,7 +328,60 @@ module _ {starts : List Float} {clips : List ℕ} {xs ys blocks : List Float} {m
           picked true l z = differ z
           picked false l z = cc
 
-          lower : (l h : Bound) → heldOf (knotsOf xs ys) l h ≡ At f → LowerIs (gathered ready lent p) t l → IsLower (gathered ready lent p) t f
+          lower : (l h : Bound) → heldOf xs l h ≡ At f → LowerIs (gathered ready lent p) t l → IsLower (gathered ready lent p) t f
           lower Nothing h z L = differ z
           lower (At l) Nothing z L = differ z
-          lower (At l) (At h) z L = subst (IsLower (gathered ready lent p) t) (picked (jump (knotsOf xs ys) l h) l z) L
+          lower (At l) (At h) z L = subst (IsLower (gathered ready lent p) t) (picked (jumpIn xs l h) l z) L
+
+-- ---- in the window of t
+
+module _ {starts : List Float} {clips : List ℕ} {xs ys blocks : List Float} {m : Missing} {times values : List Float} {marks ends : List ℕ} (R : AcceptedLists starts clips xs ys blocks m times values marks ends) (t : Float) (ft : FiniteDouble t) (p : ℕ) (w : Window) (A : PlaceAt starts clips xs ys blocks m times values marks ends t p w) where
+  abbrev whole : ClipSet
+  whole = setOf (length ends) starts clips xs ys blocks m
+
+  abbrev all : Samples
+  all = samplesOf times values marks ends
+
+  its-window : 0 < length starts → WindowIs starts clips xs ys blocks m times values marks ends p w
+  its-window h = place-window R t ft p w A h
+
+  -- the search may begin
+  pub cell-asks : (latest : List Float) → LatestOf xs ys latest → CellAsks starts xs ys times latest w t
+  cell-asks latest L = record {
+    knots = ready-readable R .knots;
+    paired = R .knots-paired;
+    time = ft;
+    lent = λ h. window-lent R p w (its-window (omega arith));
+    nears = λ h. window-nears R p w (its-window (omega arith)) t (A .place (omega arith)) ft latest L;
+  }
+
+  direct-is : (c : Cell) → cellIs c ≡ directIn starts xs ys w t → DirectIs whole all t c
+  direct-is c e = go (eqb (length starts) 0) refl e
+    where
+      go : (b : Bool) → eqb (length starts) 0 ≡ b
+          → cellIs c ≡ cond b (Cells.constant Absent) (cond (ltb (w .begin) (w .end)) (Cells.reading (w .clip) (lineOf (knotsOf xs ys) t)) (Cells.constant (w .gap)))
+          → DirectIs whole all t c
+      go true h q = subst (DirectIs whole all t) (constant-is c Absent q) (direct-absent R t (eqb-true (length starts) 0 h))
+      go false h q = let n : 0 < length starts = (let z = eqb-false (length starts) 0 h in omega arith) in direct-window R t p w (its-window n) (A .place n) c q
+
+  -- what it finds is the cell of t
+  pub cell-is : (c : Cell) (e : Bound) → CellIn starts xs ys times w t c e → CellAndEndIs (setOf (length ends) starts clips xs ys blocks m) (samplesOf times values marks ends) t c e
+  cell-is c e N = elim (decLe 2 (length starts)) [
+    | yes h ↦ between h (N .many h)
+    | no h ↦ let D = N .few (omega arith) in piece-few R t c e (omega arith) (direct-is c (D .is)) (D .ends)
+  ]
+    where
+      between : 1 < length starts → CellBetween starts xs ys times w t c e → CellAndEndIs whole all t c e
+      between h B = subst (CellAndEndIs whole all t c) (sym (B .ends)) (go (heldOf xs (B .bounds .lower) (B .bounds .upper)) refl (B .is))
+        where
+          W : WindowIs starts clips xs ys blocks m times values marks ends p w
+          W = its-window (omega arith)
+
+          at : p ≡ lastAtMost starts t
+          at = A .place (omega arith)
+
+          go : (o : Bound) → heldOf xs (B .bounds .lower) (B .bounds .upper) ≡ o → cellIs c ≡ cellBy starts xs ys times w t o → CellAndEndIs whole all t c (B .bounds .upper)
+          go Nothing q i = near-direct R t ft h p at w W (B .bounds) (B .near) c q (direct-is c i)
+          go (At f) q i =
+              subst (λ (d : Cell). CellAndEndIs whole all t d (B .bounds .upper)) (constant-is c (windowSource xs ys times w f) i)
+              (near-held R t ft h p at w W (B .bounds) (B .near) f (windowSource xs ys times w f) q refl)

@@ -21,8 +21,8 @@ use Rattle.laws.specs.cell.Lent.{AcceptedLists, setOf, samplesOf, start, active
 use Rattle.window.specs.Parts.{partOf}
 use Rattle.window.proofs.Parts.{ready-clip, ready-readable}
 use Rattle.window.specs.Windows.{minOf, maxOf, ifOwn}
-use Rattle.value.specs.direct.Reads.{readStart}
-use Rattle.value.proofs.direct.ReadsLaws.{read-none, start-blocked, start-read, from-on, back-on}
+use Rattle.value.specs.direct.Reads.{readStart, firstRead}
+use Rattle.value.proofs.direct.ReadsLaws.{read-none, start-blocked, start-read, from-on, back-on, first-is}
 use Rattle.value.specs.direct.Sources.{standIn}
 use Rattle.window.specs.declared.search.Window.{Window}
 use Rattle.window.specs.neighbours.Windowed.{samplesIn}
@@ -47,7 +47,7 @@ module _ {starts : List Float} {clips : List ℕ} {xs ys blocks : List Float} {m
   sampled i = ltb (clipBegin ends (getD clips i 0)) (clipEnd ends (getD clips i 0))
 
   -- with the flag on, a start that does not contribute samples has no reading
-  unread : (i : ℕ) → i < length starts → m .interpolate ≡ true → (own i && sampled i) ≡ false → none ≡ readStart set s (start (getD starts i nan) (getD clips i 0))
+  unread : (i : ℕ) → i < length starts → m .interpolate ≡ true → (own i && sampled i) ≡ false → none ≡ readStart blocks xs ys times ends (start (getD starts i nan) (getD clips i 0))
   unread i h f e = go (stopped i) refl
     where
       samples-none : (a b c : Bool) → a ≡ true → b ≡ false → (not (a && b) && c) ≡ false → c ≡ false
@@ -55,12 +55,12 @@ module _ {starts : List Float} {clips : List ℕ} {xs ys blocks : List Float} {m
       samples-none true false c p q r = r
       samples-none false b c p q r = absurd (false≢true p)
 
-      go : (b : Bool) → stopped i ≡ b → none ≡ readStart set s (start (getD starts i nan) (getD clips i 0))
-      go true q = start-blocked R i q
+      go : (b : Bool) → stopped i ≡ b → none ≡ readStart blocks xs ys times ends (start (getD starts i nan) (getD clips i 0))
+      go true q = start-blocked blocks xs ys times ends starts clips (R .starts-paired) i q
       go false q =
           let n = ltb-false (clipBegin ends (getD clips i 0)) (clipEnd ends (getD clips i 0)) (samples-none (m .interpolate) (stopped i) (sampled i) f q e) in
           let l = ready-readable R .from (getD clips i 0) (ready-clip R i h) in
-          read-none xs ys times ends (getD clips i 0) (stage (getD starts i nan)) (omega arith) ∙ start-read R i q
+          read-none xs ys times ends (getD clips i 0) (stage (getD starts i nan)) (omega arith) ∙ start-read blocks xs ys times ends starts clips (R .starts-paired) i q
 
   -- a window that has none
   unsampled : (p : ℕ) (w : Window) → WindowIs starts clips xs ys blocks m times values marks ends p w → w .end ≤ w .begin → (own p && sampled p) ≡ false
@@ -89,11 +89,13 @@ module _ {starts : List Float} {clips : List ℕ} {xs ys blocks : List Float} {m
     before : m .interpolate ≡ true → firstReading set s (reverse (take (q + 1) (activeOf starts clips))) ≡ firstReading set s (reverse (take q (activeOf starts clips)))
     before i =
         let z : q + 1 - 1 ≡ q = omega arith in
-        subst (λ (j : ℕ). none ≡ readStart set s (start (getD starts j nan) (getD clips j 0)) → firstReading set s (reverse (take (q + 1) (activeOf starts clips))) ≡ firstReading set s (reverse (take j (activeOf starts clips)))) z
-        (back-on R (q + 1) (omega arith) (omega arith)) (unread q (omega arith) i e)
+        sym (first-is R (reverse (take (q + 1) (activeOf starts clips))))
+        ∙ subst (λ (j : ℕ). none ≡ readStart blocks xs ys times ends (start (getD starts j nan) (getD clips j 0)) → firstRead blocks xs ys times ends (reverse (take (q + 1) (activeOf starts clips))) ≡ firstRead blocks xs ys times ends (reverse (take j (activeOf starts clips)))) z
+        (back-on blocks xs ys times ends starts clips (R .starts-paired) (q + 1) (omega arith) (omega arith)) (unread q (omega arith) i e)
+        ∙ first-is R (reverse (take q (activeOf starts clips)))
 
     after : m .interpolate ≡ true → firstReading set s (drop (q + 1) (activeOf starts clips)) ≡ firstReading set s (drop (q + 1 + 1) (activeOf starts clips))
-    after i = from-on R (q + 1) h (unread (q + 1) h i f)
+    after i = sym (first-is R (drop (q + 1) (activeOf starts clips))) ∙ from-on blocks xs ys times ends starts clips (R .starts-paired) (q + 1) h (unread (q + 1) h i f) ∙ first-is R (drop (q + 1 + 1) (activeOf starts clips))
 
     pub stands-on : standIn set s q ≡ standIn set s (q + 1)
     unfolding setOf interpolateMissingValue

@@ -8,7 +8,6 @@ pub mod step;
 
 use crate::step::line::Line;
 use crate::step::line::line_of;
-use definitions::Missing;
 use definitions::Source;
 use definitions::StageTime;
 use place::WindowPlace;
@@ -16,6 +15,7 @@ use value::jump::is_jump;
 use value::windowed::source_in;
 use window::Bound;
 use window::search::NeighboursAndHints;
+use window::search::Window;
 use window::search::neighbours_in;
 ghost use mathlib.Core.Path.{_≡_};
 ghost use Prim.Native.Nat.{_-_};
@@ -23,11 +23,8 @@ ghost use lib.ListN.{length};
 ghost use Rattle.definitions.specs.Doubles.{FiniteDouble};
 ghost use Rattle.definitions.specs.Moments.{was};
 ghost use Rattle.laws.specs.list.Places.{Ascending};
-ghost use Rattle.laws.specs.cell.Lent.{knotsOf, setOf, samplesOf, AcceptedLists};
 ghost use Rattle.window.specs.Bounds.{UpperIs};
-ghost use Rattle.window.specs.neighbours.Latest.{LatestOf};
-ghost use Rattle.cell.specs.CellAndEnd.{heldOf, DirectIs, CellAndEndIs};
-ghost use Rattle.cell.specs.WindowPlaces.{PlaceAt};
+ghost use Rattle.cell.specs.CellAndEnd.{cellIs, heldOf, directIn, CellAsks, CellIn};
 
 // What is read from a stage time on: one source, or a clip's samples held along a line.
 pub enum Cell {
@@ -64,29 +61,14 @@ fn first_above(xs: &[f64], t: f64) -> Bound
 }
 
 // The cell of the direct reading at t, by its window.
-fn direct_cell(
-    starts: &[f64],
-    clips: &[u64],
-    xs: &[f64],
-    ys: &[f64],
-    blocks: &[f64],
-    m: Missing,
-    times: &[f64],
-    values: &[f64],
-    marks: &[u8],
-    ends: &[u64],
-    place: WindowPlace,
-    t: f64,
-) -> Cell
-    requires { ⌜ AcceptedLists (now starts) (now clips) (now xs) (now ys) (now blocks) m (now times) (now values) (now marks) (now ends) ⌝ }
-    requires { ⌜ PlaceAt (now starts) (now clips) (now xs) (now ys) (now blocks) m (now times) (now values) (now marks) (now ends) t (place .start) (place .window) ⌝ }
+fn direct_cell(starts: &[f64], xs: &[f64], ys: &[f64], w: Window, t: f64) -> Cell
+    requires { ⌜ Ascending (now xs) ⌝ ∗ ⌜ length (now xs) ≡ length (now ys) ⌝ }
     requires { ⌜ FiniteDouble t ⌝ }
-    ensures { λ r. ⌜ DirectIs (setOf (length (was ends)) (was starts) (was clips) (was xs) (was ys) (was blocks) m) (samplesOf (was times) (was values) (was marks) (was ends)) t r ⌝ }
+    ensures { λ r. ⌜ cellIs r ≡ directIn (was starts) (was xs) (was ys) w t ⌝ }
 {
     if starts.len() == 0 {
         return Cell::Constant(Source::Absent);
     }
-    let w = place.window;
     if w.begin < w.end {
         return Cell::Reading(w.clip, line_of(xs, ys, t));
     }
@@ -96,10 +78,9 @@ fn direct_cell(
 
 // The time whose direct value is held between two neighbours: the lower one, unless one of them is
 // missing or two knots share an x between them.
-fn held_from(xs: &[f64], ys: &[f64], near: NeighboursAndHints) -> Bound
+fn held_from(xs: &[f64], near: NeighboursAndHints) -> Bound
     requires { ⌜ Ascending (now xs) ⌝ }
-    requires { ⌜ length (now xs) ≡ length (now ys) ⌝ }
-    ensures { λ r. ⌜ r ≡ heldOf (knotsOf (was xs) (was ys)) (near .lower) (near .upper) ⌝ }
+    ensures { λ r. ⌜ r ≡ heldOf (was xs) (near .lower) (near .upper) ⌝ }
 {
     let lower = near.lower;
     let upper = near.upper;
@@ -109,7 +90,7 @@ fn held_from(xs: &[f64], ys: &[f64], near: NeighboursAndHints) -> Bound
     let Bound::At(h) = upper else {
         return Bound::Nothing;
     };
-    if is_jump(xs, ys, l, h, near.knot) {
+    if is_jump(xs, l, h, near.knot) {
         return Bound::Nothing;
     }
     Bound::At(l)
@@ -129,48 +110,25 @@ fn place_before(n: usize) -> usize
 // neighbour or direct, up to the upper one.
 pub fn cell_at(
     starts: &[f64],
-    clips: &[u64],
     xs: &[f64],
     ys: &[f64],
-    blocks: &[f64],
-    m: Missing,
     times: &[f64],
-    values: &[f64],
-    marks: &[u8],
-    ends: &[u64],
     latest: &[f64],
     place: WindowPlace,
     t: f64,
 ) -> CellAndEnd
-    requires { ⌜ AcceptedLists (now starts) (now clips) (now xs) (now ys) (now blocks) m (now times) (now values) (now marks) (now ends) ⌝ }
-    requires { ⌜ LatestOf (now xs) (now ys) (now latest) ⌝ }
-    requires { ⌜ PlaceAt (now starts) (now clips) (now xs) (now ys) (now blocks) m (now times) (now values) (now marks) (now ends) t (place .start) (place .window) ⌝ }
-    requires { ⌜ FiniteDouble t ⌝ }
-    ensures { λ r. ⌜ CellAndEndIs (setOf (length (was ends)) (was starts) (was clips) (was xs) (was ys) (was blocks) m) (samplesOf (was times) (was values) (was marks) (was ends)) t (r .cell) (r .end) ⌝ }
+    requires { ⌜ CellAsks (now starts) (now xs) (now ys) (now times) (now latest) (place .window) t ⌝ }
+    ensures { λ r. ⌜ CellIn (was starts) (was xs) (was ys) (was times) (place .window) t (r .cell) (r .end) ⌝ }
 {
+    let w = place.window;
     if starts.len() < 2 {
-        let cell = direct_cell(
-            starts,
-            clips,
-            xs,
-            ys,
-            blocks,
-            m,
-            times,
-            values,
-            marks,
-            ends,
-            place,
-            t,
-        );
         return CellAndEnd {
-            cell,
+            cell: direct_cell(starts, xs, ys, w, t),
             end: first_above(xs, t),
             knot: place.knot,
             sample: place.sample,
         };
     }
-    let w = place.window;
     let begin = w.begin;
     let end = w.end;
     let found = neighbours_in(
@@ -184,23 +142,9 @@ pub fn cell_at(
         place.sample,
     );
     let upper = found.upper;
-    let Bound::At(l) = held_from(xs, ys, found) else {
-        let cell = direct_cell(
-            starts,
-            clips,
-            xs,
-            ys,
-            blocks,
-            m,
-            times,
-            values,
-            marks,
-            ends,
-            place,
-            t,
-        );
+    let Bound::At(l) = held_from(xs, found) else {
         return CellAndEnd {
-            cell,
+            cell: direct_cell(starts, xs, ys, w, t),
             end: upper,
             knot: found.knot,
             sample: found.sample,

@@ -12,7 +12,7 @@ use Rattle.definitions.specs.declared.Knot.{Knot}
 use Rattle.definitions.specs.Lists.{keep}
 use Rattle.definitions.specs.Doubles.{FiniteDouble}
 use Rattle.definitions.specs.Value.{spans, inverse, greatest}
-use Rattle.definitions.specs.Track.{Entry}
+use Rattle.definitions.specs.Track.{Entry, Outputs}
 use Rattle.laws.specs.list.Every.{Every}
 use Rattle.laws.specs.cell.Keys.{Keys}
 use Rattle.window.specs.Inverses.{onSegment}
@@ -21,7 +21,9 @@ use Rattle.cell.specs.declared.step.line.Line.{Line}
 use Rattle.cell.specs.declared.step.line.Line.the-variants as lines
 use Rattle.run.specs.declared.inside.NextInRun.{NextInRun}
 use Rattle.run.specs.declared.inside.NextInRun.the-variants.{At, Nothing}
+use Rattle.run.specs.declared.walk.Went.{Went}
 use Rattle.run.specs.Readings.{Reads, readingAt}
+use Rattle.run.specs.Walks.{Walked}
 
 -- ---- what is read
 
@@ -46,6 +48,15 @@ pub record Passing (cs vs : List Float) (ms : List ℕ) (q : Knot × Knot) (floo
   pub under : T (le floor (ofKey k))
   pub last : e ≡ passingAt cs vs ms q floor k
 
+-- it has a floor, which need not be known
+pub record PassingOn (cs vs : List Float) (ms : List ℕ) (q : Knot × Knot) (e : Entry) (k hi : ℕ) : Type 0 where
+  pub floor : Float
+  pub passing : Passing cs vs ms q floor e k hi
+
+-- a walk over it, whichever its floor is
+abbrev pub WalkedOn : List Float → List Float → List ℕ → Knot × Knot → Entry → ℕ → ℕ → ℕ → ℕ → Outputs → Outputs → Went → Type 0
+WalkedOn cs vs ms q e k hi room n before after r = (floor : Float) → Passing cs vs ms q floor e k hi → Walked (passingAt cs vs ms q floor) k hi room n before after r
+
 -- ---- from one inverse time to the next
 
 -- the sample at a place, whether the segment spans it, and the key of its inverse time
@@ -62,6 +73,11 @@ pub record InRun (cs : List Float) (q : Knot × Knot) (n k : ℕ) : Type 0 where
       × ((i : ℕ) → n ≤ i → i < length cs → T (le (q .0 .y) (getD cs i nan)) × (spanned cs q i → k ≤ inverseKey cs q i))
   pub falling : T (lt (q .1 .y) (q .0 .y)) → ((i : ℕ) → n ≤ i → i < length cs → spanned cs q i → inverseKey cs q i ≤ k)
       × ((i : ℕ) → i < n → T (le (getD cs i nan) (q .0 .y)) × (spanned cs q i → k ≤ inverseKey cs q i))
+
+-- n is the place of some key
+pub record PlaceInRun (cs : List Float) (q : Knot × Knot) (n : ℕ) : Type 0 where
+  pub key : ℕ
+  pub here : InRun cs q n key
 
 -- how many samples may still come
 abbrev pub left : List Float → Knot × Knot → ℕ → ℕ
@@ -87,3 +103,7 @@ pub record InRunAt (cs : List Float) (q : Knot × Knot) (n k hi m i p : ℕ) : T
 abbrev pub NextInRunIs : List Float → Knot × Knot → ℕ → ℕ → ℕ → NextInRun → Type 0
 NextInRunIs cs q n k hi (At m i p) = InRunAt cs q n k hi m i p
 NextInRunIs cs q n k hi Nothing = Every (λ (x : Float). key x ≤ hi → key x ≤ k) (onSegment cs q)
+
+-- from whichever key n is the place of
+abbrev pub NextFromPlace : List Float → Knot × Knot → ℕ → ℕ → NextInRun → Type 0
+NextFromPlace cs q n hi r = (k : ℕ) → InRun cs q n k → NextInRunIs cs q n k hi r

@@ -5,6 +5,9 @@ use mathlib.Core.List.{List, [], _∷_, _++_, map}
 use Prim.Native.Nat.{ℕ, _+_, _≤_, _<_}
 use lib.ListN.{length, take, drop}
 use lib.Ieee.{Float}
+use denote.Ref.{RefT}
+use denote.Triple.Both.{Both}
+use Rattle.definitions.specs.Moments.{was, after}
 use Rattle.definitions.specs.Track.{Entry, Change, changeTimes, alike, Outputs}
 use Rattle.laws.specs.track.Track as steps
 use Rattle.laws.specs.cell.Tracks.{entry-same, writtenChange}
@@ -15,6 +18,13 @@ use Rattle.run.specs.declared.walk.Went.{Went}
 
 abbrev pub outputs : List Float → List Float → List ℕ → Outputs
 outputs times values marks = record { times = times; values = values; marks = marks }
+
+-- as they were lent, and as they are left
+abbrev pub outputsWas : {X Y Z : Type 0} → Both (RefT (List Float)) X → Both (RefT (List Float)) Y → Both (RefT (List ℕ)) Z → Outputs
+outputsWas times values marks = outputs (was times) (was values) (was marks)
+
+abbrev pub outputsAfter : {X Y Z : Type 0} → Both X (RefT (List Float)) → Both Y (RefT (List Float)) → Both Z (RefT (List ℕ)) → Outputs
+outputsAfter times values marks = outputs (after times) (after values) (after marks)
 
 -- a list to which new is written from slot n on
 abbrev pub writtenFrom : {A : Type 0} → ℕ → List A → List A → List A

@@ -14,13 +14,13 @@ ghost use mathlib.Core.Path.{_≡_};
 ghost use Prim.Native.Nat.{_≤_, _<_};
 ghost use lib.ListN.{length};
 ghost use Rattle.gf.specs.Key as Key;
-ghost use Rattle.definitions.specs.Moments.{was, after};
+ghost use Rattle.definitions.specs.Moments.{was};
 ghost use Rattle.laws.specs.list.Places.{Ascending};
 ghost use Rattle.window.specs.SoundSegments.{SoundSegment};
 ghost use Rattle.cell.specs.step.Entries.{entryIs};
 ghost use Rattle.run.specs.Readings.{Reads, readingAt};
-ghost use Rattle.run.specs.Runs.{spanned, passingAt, Passing, InRun, SampleIs, NextInRunIs};
-ghost use Rattle.run.specs.Walks.{outputs, Room, Walked};
+ghost use Rattle.run.specs.Runs.{spanned, PassingOn, PlaceInRun, SampleIs, NextFromPlace, WalkedOn};
+ghost use Rattle.run.specs.Walks.{outputs, outputsWas, outputsAfter, Room};
 
 // The key of the next inverse time, the place of its sample, and the place behind it; or none.
 pub enum NextInRun {
@@ -51,11 +51,11 @@ fn sample_in_run(cs: &[f64], s: Segment, i: usize, p: usize, hi: u64) -> NextInR
     NextInRun::At(m, i, p)
 }
 
-// The next inverse time from the key k on, whose place among the samples is n: they are passed upwards where the segment rises, downwards where it falls.
-fn next_in_run(cs: &[f64], s: Segment, n: usize, k: u64, hi: u64) -> NextInRun
+// The next inverse time from the place n among the samples on: they are passed upwards where the segment rises, downwards where it falls.
+fn next_in_run(cs: &[f64], s: Segment, n: usize, hi: u64) -> NextInRun
     requires { ⌜ SoundSegment (s .a, s .b) ⌝ ∗ ⌜ Ascending (now cs) ⌝ }
-    requires { ⌜ InRun (now cs) (s .a, s .b) n k ⌝ }
-    ensures { λ r. ⌜ NextInRunIs (was cs) (s .a, s .b) n k hi r ⌝ }
+    requires { ⌜ PlaceInRun (now cs) (s .a, s .b) n ⌝ }
+    ensures { λ r. ⌜ NextFromPlace (was cs) (s .a, s .b) n hi r ⌝ }
 {
     let ca = s.a.y;
     let cb = s.b.y;
@@ -83,7 +83,6 @@ pub fn fill_run(
     cs: &[f64],
     vs: &[f64],
     ms: &[u8],
-    floor: f64,
     s: Segment,
     last: Entry,
     n: usize,
@@ -95,9 +94,9 @@ pub fn fill_run(
     outvalues: &mut [f64],
     outmarks: &mut [u8],
 ) -> Went
-    requires { ⌜ Passing (now cs) (now vs) (now ms) (s .a, s .b) floor (entryIs last) k hi ⌝ }
+    requires { ⌜ PassingOn (now cs) (now vs) (now ms) (s .a, s .b) (entryIs last) k hi ⌝ }
     requires { ⌜ Room room slot (outputs (now outtimes) (now outvalues) (now outmarks)) ⌝ }
-    ensures { λ r. ⌜ Walked (passingAt (was cs) (was vs) (was ms) (s .a, s .b) floor) k hi room slot (outputs (was outtimes) (was outvalues) (was outmarks)) (outputs (after outtimes) (after outvalues) (after outmarks)) r ⌝ }
+    ensures { λ r. ⌜ WalkedOn (was cs) (was vs) (was ms) (s .a, s .b) (entryIs last) k hi room slot (outputsWas outtimes outvalues outmarks) (outputsAfter outtimes outvalues outmarks) r ⌝ }
 {
     let line = Line::Segment(s);
     let mut at = k;
@@ -105,7 +104,7 @@ pub fn fill_run(
     let mut held = last;
     let mut count = slot;
     loop {
-        let NextInRun::At(m, i, next) = next_in_run(cs, s, place, at, hi) else {
+        let NextInRun::At(m, i, next) = next_in_run(cs, s, place, hi) else {
             return Went {
                 key: hi,
                 last: held,

@@ -22,13 +22,13 @@ ghost use mathlib.Core.Path.{_≡_};
 ghost use Prim.Native.Nat.{_≤_, _<_};
 ghost use lib.ListN.{length};
 ghost use Rattle.gf.specs.Key as Key;
-ghost use Rattle.definitions.specs.Moments.{was, after};
+ghost use Rattle.definitions.specs.Moments.{was};
 ghost use Rattle.laws.specs.list.Places.{Ascending};
 ghost use Rattle.laws.specs.cell.Keys.{Keys};
 ghost use Rattle.cell.specs.step.Lines.{placeOn};
 ghost use Rattle.cell.specs.step.Entries.{entryIs};
 ghost use Rattle.run.specs.Readings.{Reads, LeftOnce, entryAt, readingAt};
-ghost use Rattle.run.specs.Walks.{outputs, Room, Walked};
+ghost use Rattle.run.specs.Walks.{outputs, outputsWas, outputsAfter, Room, Walked};
 
 // The entry of the sample at a place.
 pub fn entry_of_sample(vs: &[f64], ms: &[u8], place: usize) -> Entry
@@ -69,7 +69,7 @@ pub fn fill_changes(
     requires { ⌜ Keys k hi ⌝ }
     requires { ⌜ LeftOnce (placeOn (now ts) line) k hi ⌝ }
     requires { ⌜ Room room n (outputs (now outtimes) (now outvalues) (now outmarks)) ⌝ }
-    ensures { λ r. ⌜ Walked (readingAt (was ts) (was vs) (was ms) line) k hi room n (outputs (was outtimes) (was outvalues) (was outmarks)) (outputs (after outtimes) (after outvalues) (after outmarks)) r ⌝ }
+    ensures { λ r. ⌜ Walked (readingAt (was ts) (was vs) (was ms) line) k hi room n (outputsWas outtimes outvalues outmarks) (outputsAfter outtimes outvalues outmarks) r ⌝ }
 {
     let mut at = k;
     let mut place = place_on(ts, line, k);

@@ -3,9 +3,9 @@ use cell::step::entry::Entry;
 use cell::step::entry::alike;
 ghost use Prim.Native.Nat.{_≤_};
 ghost use Rattle.gf.specs.Key as Key;
-ghost use Rattle.definitions.specs.Moments.{was, after};
+ghost use Rattle.definitions.specs.Moments.{after};
 ghost use Rattle.cell.specs.step.Entries.{entryIs};
-ghost use Rattle.run.specs.Walks.{outputs, Room, Offered};
+ghost use Rattle.run.specs.Walks.{outputs, outputsWas, outputsAfter, Room, Offered};
 
 // The key that is reached, the entry there, the slot behind the changes up to there, and whether the keys were all passed; else
 // the slots are full, and there is a further change.
@@ -30,7 +30,7 @@ pub fn offer(
 ) -> usize
     requires { ⌜ (Key.least ≤ k) × (k ≤ Key.most) ⌝ }
     requires { ⌜ Room room n (outputs (now outtimes) (now outvalues) (now outmarks)) ⌝ }
-    ensures { λ r. ⌜ Offered (entryIs last) (entryIs here) k room n (outputs (was outtimes) (was outvalues) (was outmarks)) (outputs (after outtimes) (after outvalues) (after outmarks)) r ⌝ }
+    ensures { λ r. ⌜ Offered (entryIs last) (entryIs here) k room n (outputsWas outtimes outvalues outmarks) (outputsAfter outtimes outvalues outmarks) r ⌝ }
 {
     if alike(here, last) {
         return n;

@@ -106,20 +106,7 @@ pub fn untimed<'a>(
     ensures { λ r. ⌜ stateIs r ≡ untimedAnswer (setWas counts starts numbers xs ys blocks m ends) (samplesWere times values marks ends) ⌝ }
 {
     let n = counts.starts;
-    let k = counts.knots;
-    let b = counts.blocks;
-    value::untimed::untimed_answer_in_set(
-        &starts[..n],
-        &numbers[..n],
-        &xs[..k],
-        &ys[..k],
-        &blocks[..b],
-        m,
-        times,
-        values,
-        marks,
-        ends,
-    )
+    value::untimed::untimed_answer_in_set(&numbers[..n], m, ends)
 }
 
 // The track, written to the lent lists.

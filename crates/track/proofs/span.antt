@@ -3,3 +3,4 @@ pub mod Spans
 pub mod Cuts
 pub mod RunsFrom
 pub mod KnotlessLaws
+pub mod Steps

@@ -28,17 +28,15 @@ use sdf::part::clip_begin;
 use sdf::part::clip_end;
 use value::value::answer_of;
 ghost use mathlib.Core.Path.{_≡_};
-ghost use Prim.Native.Nat.{_<_};
-ghost use lib.ListN.{length};
-ghost use Rattle.gf.specs.Key.{ofKey};
 ghost use Rattle.definitions.specs.Moments.{was};
 ghost use Rattle.laws.specs.cell.Keys.{Keys};
 ghost use Rattle.laws.specs.cell.Lent.{AcceptedLists};
 ghost use Rattle.window.specs.neighbours.Latest.{LatestOf};
-ghost use Rattle.window.specs.neighbours.Windowed.{samplesIn};
-ghost use Rattle.value.specs.RunsFrom as RunsFrom;
-ghost use Rattle.cell.specs.WindowPlaces.{PlaceIs, PlaceAt};
-ghost use Rattle.track.specs.span.Runs.{Runs, readOn, StepIs};
+ghost use Rattle.window.specs.declared.Bound.the-variants.{At};
+ghost use Rattle.cell.specs.WindowPlaces.{PlaceIs};
+ghost use Rattle.track.specs.span.Runs.{readOn, StepIs};
+ghost use Rattle.track.specs.span.Knotless.{plainCell};
+ghost use Rattle.track.specs.span.Steps.{Readable, ReadsAt, CellStep, CellStepAsks, FoundStep, RunAsks, RunStep};
 
 // How the value goes on: within a cell, or past the samples of a clip from the lower neighbour on where the run begins, in
 // one segment and near a sample's place.
@@ -61,17 +59,9 @@ pub struct Step {
 }
 
 // What the cell reads at the key k.
-fn read_on(
-    times: &[f64],
-    values: &[f64],
-    marks: &[u8],
-    ends: &[u64],
-    cell: Cell,
-    k: u64,
-    hi: u64,
-) -> Source
-    requires { ⌜ Keys k hi ⌝ }
-    requires { ⌜ Runs (now times) (now values) (now marks) (now ends) cell k hi ⌝ }
+fn read_on(times: &[f64], ends: &[u64], cell: Cell, k: u64) -> Source
+    requires { ⌜ Keys k k ⌝ }
+    requires { ⌜ Readable (now times) (now ends) cell ⌝ }
     ensures { λ r. ⌜ r ≡ readOn (was times) (was ends) cell k ⌝ }
 {
     match cell {
@@ -87,10 +77,8 @@ fn read_on(
 // The span from the key k on in its cell. The place is that of k.
 fn cell_step(
     starts: &[f64],
-    clips: &[u64],
     xs: &[f64],
     ys: &[f64],
-    blocks: &[f64],
     m: Missing,
     times: &[f64],
     values: &[f64],
@@ -101,33 +89,15 @@ fn cell_step(
     k: u64,
     top: u64,
 ) -> Step
-    requires { ⌜ AcceptedLists (now starts) (now clips) (now xs) (now ys) (now blocks) m (now times) (now values) (now marks) (now ends) ⌝ }
-    requires { ⌜ LatestOf (now xs) (now ys) (now latest) ⌝ }
-    requires { ⌜ PlaceAt (now starts) (now clips) (now xs) (now ys) (now blocks) m (now times) (now values) (now marks) (now ends) (ofKey k) (at .start) (at .window) ⌝ }
-    requires { ⌜ Keys k top ⌝ }
-    ensures { λ r. ⌜ StepIs (was starts) (was clips) (was xs) (was ys) (was blocks) m (was times) (was values) (was marks) (was ends) k top r ⌝ }
+    requires { ⌜ CellStepAsks (now starts) (now xs) (now ys) (now times) (now values) (now latest) (now marks) (now ends) (at .window) k ⌝ }
+    ensures { λ r. ⌜ FoundStep (was starts) (was xs) (was ys) m (was times) (was values) (was marks) (was ends) at k top r ⌝ }
 {
-    let t = gf::of_key(k);
-    let piece = cell_at(
-        starts,
-        clips,
-        xs,
-        ys,
-        blocks,
-        m,
-        times,
-        values,
-        marks,
-        ends,
-        latest,
-        at,
-        t,
-    );
+    let piece = cell_at(starts, xs, ys, times, latest, at, gf::of_key(k));
     let cell = piece.cell;
     let end = piece.end;
     let e = end_key(end);
     let hi = lesser(top, e - 1);
-    let source = read_on(times, values, marks, ends, cell, k, hi);
+    let source = read_on(times, ends, cell, k);
     let here = entry_of(answer_of(m, times, values, marks, ends, source));
     let way = ReadBy::ByCell(cell);
     let span = Span { way, here, hi };
@@ -146,11 +116,6 @@ fn cell_step(
 
 // The span from the key k on in a window of a set without knots: to the next start.
 fn knotless_step(
-    starts: &[f64],
-    clips: &[u64],
-    xs: &[f64],
-    ys: &[f64],
-    blocks: &[f64],
     m: Missing,
     times: &[f64],
     values: &[f64],
@@ -160,52 +125,38 @@ fn knotless_step(
     k: u64,
     top: u64,
 ) -> Step
-    requires { ⌜ AcceptedLists (now starts) (now clips) (now xs) (now ys) (now blocks) m (now times) (now values) (now marks) (now ends) ⌝ }
-    requires { ⌜ PlaceAt (now starts) (now clips) (now xs) (now ys) (now blocks) m (now times) (now values) (now marks) (now ends) (ofKey k) (at .start) (at .window) ⌝ }
-    requires { ⌜ Keys k top ⌝ }
-    requires { ⌜ length (now xs) ≡ 0 ⌝ }
-    requires { ⌜ 1 < length (now starts) ⌝ }
-    ensures { λ r. ⌜ StepIs (was starts) (was clips) (was xs) (was ys) (was blocks) m (was times) (was values) (was marks) (was ends) k top r ⌝ }
+    requires { ⌜ ReadsAt (now times) (now values) (now marks) (now ends) (plainCell (at .window)) (At (at .window .max)) k ⌝ }
+    ensures { λ r. ⌜ CellStep m (was times) (was values) (was marks) (was ends) (plainCell (at .window)) (At (at .window .max)) at k top r ⌝ }
 {
     let w = at.window;
     let cell = knotless_cell(w);
     let next = gf::key(w.max);
     let hi = lesser(top, next - 1);
-    let read = read_on(times, values, marks, ends, cell, k, hi);
+    let read = read_on(times, ends, cell, k);
     let here = entry_of(answer_of(m, times, values, marks, ends, read));
     let way = ReadBy::ByCell(cell);
     let span = Span { way, here, hi };
     Step { span, place: at }
 }
 
-// The span from the key k on past the samples of the segment from the knot at i on, up to the inverse time h. The lower
-// neighbour is l, and n is near the first sample.
+// The span past the samples of the segment from the knot at i on, up to the inverse time h. The lower neighbour is l, and
+// n is near the first sample.
 fn run_step(
-    starts: &[f64],
-    clips: &[u64],
     xs: &[f64],
     ys: &[f64],
-    blocks: &[f64],
-    m: Missing,
     times: &[f64],
     values: &[f64],
     marks: &[u8],
     ends: &[u64],
-    latest: &[f64],
     at: WindowPlace,
     i: usize,
     l: f64,
     h: f64,
     n: usize,
-    k: u64,
     top: u64,
 ) -> Step
-    requires { ⌜ AcceptedLists (now starts) (now clips) (now xs) (now ys) (now blocks) m (now times) (now values) (now marks) (now ends) ⌝ }
-    requires { ⌜ PlaceAt (now starts) (now clips) (now xs) (now ys) (now blocks) m (now times) (now values) (now marks) (now ends) (ofKey k) (at .start) (at .window) ⌝ }
-    requires { ⌜ 1 < length (now starts) ⌝ }
-    requires { ⌜ at .window .begin < at .window .end ⌝ ∗ ⌜ RunsFrom.RunFrom (now xs) (now ys) (now latest) (samplesIn (now times) (at .window)) (at .window) (ofKey k) i l h ⌝ }
-    requires { ⌜ Keys k top ⌝ }
-    ensures { λ r. ⌜ StepIs (was starts) (was clips) (was xs) (was ys) (was blocks) m (was times) (was values) (was marks) (was ends) k top r ⌝ }
+    requires { ⌜ RunAsks (now xs) (now ys) (now times) (now values) (now marks) (now ends) (at .window .clip) i l h ⌝ }
+    ensures { λ r. ⌜ RunStep (was xs) (was ys) (was times) (was values) (was marks) (was ends) at i l h n top r ⌝ }
 {
     let w = at.window;
     let s = segment_at(xs, ys, i);
@@ -269,54 +220,19 @@ pub fn span_at(
         t,
     );
     if is_knotless(starts, xs) {
-        return knotless_step(
-            starts,
-            clips,
-            xs,
-            ys,
-            blocks,
-            m,
-            times,
-            values,
-            marks,
-            ends,
-            at,
-            k,
-            top,
-        );
+        return knotless_step(m, times, values, marks, ends, at, k, top);
     }
     if 1 < starts.len() {
         let w = at.window;
         let found = run_begin(xs, ys, latest, times, w, t, at.knot, at.sample);
         if let RunBegin::At(i, l, h, n) = found {
-            return run_step(
-                starts,
-                clips,
-                xs,
-                ys,
-                blocks,
-                m,
-                times,
-                values,
-                marks,
-                ends,
-                latest,
-                at,
-                i,
-                l,
-                h,
-                n,
-                k,
-                top,
-            );
+            return run_step(xs, ys, times, values, marks, ends, at, i, l, h, n, top);
         }
     }
     cell_step(
         starts,
-        clips,
         xs,
         ys,
-        blocks,
         m,
         times,
         values,

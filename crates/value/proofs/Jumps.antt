@@ -1,4 +1,4 @@
--- The jump test in ascending knots, from the last one that is at most the upper neighbour down. Assumes nothing.
+-- The jump test: by the x of the knots alone, and in ascending knots from the last one that is at most the upper neighbour down. Assumes nothing.
 use mathlib.Core.Path.{_≡_, refl, sym, ap, _∙_, subst}
 use mathlib.Core.Bool.{Bool, true, false, _&&_, _||_}
 use mathlib.Core.List.{List, [], _∷_}
@@ -9,16 +9,35 @@ use lib.Dec.{T}
 use lib.ListN.{length, getD}
 use lib.Ieee.{Float, nan, eq, lt, le}
 use Rattle.gf.proofs.KeyLaws.{eq→key, key→le, le-trans, lt-le-trans}
+use Rattle.definitions.specs.declared.Knot.{Knot}
 use Rattle.definitions.specs.Lists.{any, pairs, pairsFrom}
+use Rattle.definitions.specs.Explicit.{knot}
 use Rattle.definitions.specs.Timing.{lastAtMost}
+use Rattle.definitions.specs.Value.{jump}
 use Rattle.laws.proofs.list.Tests.{is-true, is-false, holds}
 use Rattle.laws.specs.list.Places.{Ascending}
 use Rattle.laws.proofs.list.Places.{atMost, at-most-length, at-most-is, last-is, last-later}
 use Rattle.laws.proofs.cell.Every.{both, both-l, both-r}
+use Rattle.laws.specs.cell.Lent.{knotsOf}
 use Rattle.laws.specs.cell.Places.{Fits}
 use borrow.Author.Tests.{lt-ltb}
-use Rattle.window.proofs.Pairs.{jumpsAt}
 use Rattle.window.proofs.nearest.Beside.{number-at, climb}
+use Rattle.value.specs.Jumps.{jumpsAt, jumpIn}
+
+-- ---- the x decide
+
+module _ (lower upper : Float) where
+  jump-from : (x y : Float) (xs ys : List Float) → length xs ≡ length ys
+      → any (λ (p : Knot × Knot). eq (p .0 .x) (p .1 .x) && lt lower (p .0 .x) && le (p .0 .x) upper) (pairsFrom (knot x y) (knotsOf xs ys)) ≡ any (jumpsAt lower upper) (pairsFrom x xs)
+  jump-from x y [] ys e = refl
+  jump-from x y (a ∷ xs) [] e = absurd (omega arith)
+  jump-from x y (a ∷ xs) (b ∷ ys) e = ap (λ (r : Bool). jumpsAt lower upper (x, a) || r) (jump-from a b xs ys (omega arith))
+
+  pub jump-by-x : (xs ys : List Float) → length xs ≡ length ys → jump (knotsOf xs ys) lower upper ≡ jumpIn xs lower upper
+  unfolding jump
+  jump-by-x [] ys e = refl
+  jump-by-x (x ∷ xs) [] e = absurd (omega arith)
+  jump-by-x (x ∷ xs) (y ∷ ys) e = jump-from x y xs ys (omega arith)
 
 -- ---- a test of the pairs, by places
 
@@ -98,11 +117,11 @@ module _ (xs : List Float) (a : Ascending xs) (lower upper : Float) (fl : Fits l
         none-if j (j + 1) (λ u v w. subst T (subst (λ (k : ℕ). eq (getD xs k nan) (getD xs (j + 1) nan) ≡ false) z (subst (λ (k : ℕ). eq (getD xs i nan) (getD xs k nan) ≡ false) y e)) u)
   ]
 
-  pub none-all : (n : ℕ) → lt lower (getD xs n nan) ≡ false → n < length xs → ((j : ℕ) → n ≤ j → j + 1 < length xs → jumps j (j + 1) ≡ false) → any (jumpsAt lower upper) (pairs xs) ≡ false
+  pub none-all : (n : ℕ) → lt lower (getD xs n nan) ≡ false → n < length xs → ((j : ℕ) → n ≤ j → j + 1 < length xs → jumps j (j + 1) ≡ false) → jumpIn xs lower upper ≡ false
   none-all n e b f = any-none (jumpsAt lower upper) xs (λ j h. elim (decLe n j) [ yes p ↦ f j p h | no p ↦ none-below n j e (omega arith) b ])
 
   -- two that share an x
-  pub one-here : (i n : ℕ) → suc i ≡ n → n ≤ lastAtMost xs upper → n < length xs → lt lower (getD xs n nan) ≡ true → eq (getD xs i nan) (getD xs n nan) ≡ true → any (jumpsAt lower upper) (pairs xs) ≡ true
+  pub one-here : (i n : ℕ) → suc i ≡ n → n ≤ lastAtMost xs upper → n < length xs → lt lower (getD xs n nan) ≡ true → eq (getD xs i nan) (getD xs n nan) ≡ true → jumpIn xs lower upper ≡ true
   one-here i n z l h u e =
       let x = number-at xs a i (omega arith) in
       let y = number-at xs a n h in

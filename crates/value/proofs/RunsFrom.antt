@@ -17,7 +17,7 @@ use Rattle.gf.specs.declared.interval.Interval.{Interval}
 use Rattle.definitions.specs.declared.Knot.{Knot}
 use Rattle.definitions.specs.Lists.{any, keep}
 use Rattle.definitions.specs.Timing.{lastAtMost}
-use Rattle.definitions.specs.Value.{spans, inverse, onPair, jump}
+use Rattle.definitions.specs.Value.{spans, inverse, onPair}
 use Rattle.laws.proofs.list.Tests.{is-true, is-false, holds}
 use Rattle.laws.specs.list.Every.{Every}
 use Rattle.laws.proofs.list.Every.{every-at}
@@ -33,7 +33,6 @@ use Rattle.window.specs.Bounds.{In, inside, LowerIs, UpperIs}
 use Rattle.window.proofs.BoundsLaws.{in-every, every-in, lower-there, upper-there}
 use Rattle.window.specs.Inverses.{onSegment, inversesOf}
 use Rattle.window.proofs.Inverses.{every-of, every-if}
-use Rattle.window.proofs.Pairs.{jump-by-x}
 use Rattle.window.specs.nearest.Beside.{TimeInside}
 use Rattle.window.proofs.nearest.Beside.{finite-number, number-at, climb}
 use Rattle.window.specs.declared.search.Window.{Window}
@@ -41,6 +40,7 @@ use Rattle.window.specs.neighbours.Latest.{segmentOf}
 use Rattle.window.proofs.search.Reaches.{segment-times, inverse-number, to-places, from-places}
 use Rattle.window.specs.neighbours.Windowed.{intervalOf, nextOf, windowTimes, Nearing}
 use Rattle.window.proofs.search.Windowed.{near-faces}
+use Rattle.value.specs.Jumps.{jumpIn}
 use Rattle.value.proofs.Jumps.{none-all, none-above}
 use Rattle.value.specs.ClipTimes.{OnSegment}
 use Rattle.value.proofs.ClipTimes.{found}
@@ -53,7 +53,7 @@ pub record HeldAt (xs ys cs : List Float) (w : Window) (i : ℕ) (l u : Float) :
   pub lower : IsLower (windowTimes xs ys cs w) u m
   pub upper : IsUpper (windowTimes xs ys cs w) u n
   pub run : IsLower (l ∷ onSegment cs (segmentOf xs ys i)) u m
-  pub level : jump (knotsOf xs ys) m n ≡ false
+  pub level : jumpIn xs m n ≡ false
   pub begun : key (w .start) ≤ key m
   pub from : key (getD xs i nan) ≤ key m
   pub upto : key m < key (getD xs (i + 1) nan)
@@ -328,12 +328,11 @@ module _ (xs ys latest cs : List Float) (w : Window) (t : Float) (i : ℕ) (l h 
             upto = is-true (lt n (getD xs (i + 1) nan)) (key→lt n (getD xs (i + 1) nan) (nn .0) (y .0) (nn .1) (y .1) (omega (arith, kn, kx)));
           }
 
-      no-jump : jump (knotsOf xs ys) m n ≡ false
+      no-jump : jumpIn xs m n ≡ false
       no-jump =
           let x = here-number i place in
           let f = found xs ys (A .knots) (A .paired) n (nn .0) i n-on in
-          jump-by-x m n xs ys (A .paired)
-          ∙ none-all xs (A .knots) m n (nm .0) (nn .0) i
+          none-all xs (A .knots) m n (nm .0) (nn .0) i
           (is-false (lt m (getD xs i nan)) (λ b. let k = lt→key m (getD xs i nan) (nm .0) (x .0) (nm .1) (x .1) b in absurd (omega (arith, from-low))))
           place (λ j a b. none-above xs (A .knots) m n (nm .0) (nn .0) j (omega (arith, f)) b)
 

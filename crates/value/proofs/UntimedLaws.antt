@@ -1,4 +1,4 @@
--- The answer without a time, case by case. Assumes nothing.
+-- The answer without a time: that of the set, and case by case. Assumes nothing.
 use mathlib.Core.Path.{_≡_, refl, sym, ap, ap₂, _∙_}
 use mathlib.Core.Bool.{Bool, true, false, not, _||_, cond}
 use mathlib.Core.List.{List, [], _∷_}
@@ -18,7 +18,7 @@ use Rattle.definitions.specs.StageSamples as Stage
 use Rattle.definitions.specs.StageSamples.{anySamples, untimed, untimedAnswer}
 use Rattle.laws.specs.list.Every.{Every}
 use Rattle.laws.specs.cell.Lent.{activeOf, setOf, samplesOf, AcceptedLists}
-use Rattle.value.specs.Untimed.{hasSamples}
+use Rattle.value.specs.Untimed.{hasSamples, untimedOf}
 
 some-samples : (n b e : ℕ) → n ≡ e - b → not (eqb n 0) ≡ ltb b e
 some-samples n b e q = go (ltb b e) refl
@@ -60,41 +60,36 @@ module _ {starts : List Float} {clips : List ℕ} {xs ys blocks : List Float} {m
       go (x ∷ a) [] e h = absurd (omega arith)
       go (x ∷ a) (y ∷ b) e h = ap₂ (λ (u v : Bool). u || v) (one y (h .0)) (go a b (omega arith) (h .1))
 
-  -- ---- the cases
-
-  pub untimed-absent : length starts ≡ 0 → Stage.absent ≡ untimedAnswer set s
+  -- the lists that are read tell it of the set
+  pub untimed-is : untimedOf clips m ends ≡ untimedAnswer (setOf (length ends) starts clips xs ys blocks m) (samplesOf times values marks ends)
   unfolding setOf untimedAnswer
-  untimed-absent e = go starts clips e (anySamples set s || eqb (m .default .mark) markValue)
+  untimed-is = go starts clips (R .starts-paired) (any (hasSamples ends) clips || eqb (m .default .mark) markValue) ∙ ap (λ (a : Bool). untimed (activeOf starts clips) (a || eqb (m .default .mark) markValue)) (sym any-is)
     where
-      go : (a : List Float) (b : List ℕ) → length a ≡ 0 → (v : Bool) → Stage.absent ≡ untimed (activeOf a b) v
-      go [] b e v = refl
-      go (x ∷ a) b e v = absurd (omega arith)
+      go : (a : List Float) (b : List ℕ) → length a ≡ length b → (v : Bool) → cond (eqb (length b) 0) Stage.absent (cond v Stage.present Stage.blocked) ≡ untimed (activeOf a b) v
+      go [] [] e v = refl
+      go [] (y ∷ b) e v = absurd (omega arith)
+      go (x ∷ a) [] e v = absurd (omega arith)
+      go (x ∷ a) (y ∷ b) e v = rw (ne-eqb (length (y ∷ b)) 0 (λ z. omega arith))
 
-  module _ (n : length starts ≡ 0 → ⊥) where
-    with-starts : (v : Bool) → untimed (activeOf starts clips) v ≡ cond v Stage.present Stage.blocked
-    with-starts v = go starts clips (R .starts-paired) n
+-- ---- case by case
+
+module _ (clips : List ℕ) (m : Missing) (ends : List ℕ) where
+  pub untimed-absent : length clips ≡ 0 → Stage.absent ≡ untimedOf clips m ends
+  untimed-absent e = rw (eq-eqb (length clips) 0 e)
+
+  module _ (n : length clips ≡ 0 → ⊥) where
+    answer : (b c : Bool) → any (hasSamples ends) clips ≡ b → eqb (m .default .mark) markValue ≡ c → cond (b || c) Stage.present Stage.blocked ≡ untimedOf clips m ends
+    answer b c e f = rw (ne-eqb (length clips) 0 n, e, f)
+
+    pub untimed-default : m .default .mark ≡ 0 → Stage.present ≡ untimedOf clips m ends
+    untimed-default e = go (any (hasSamples ends) clips) refl
       where
-        go : (a : List Float) (b : List ℕ) → length a ≡ length b → (length a ≡ 0 → ⊥) → untimed (activeOf a b) v ≡ cond v Stage.present Stage.blocked
-        go [] b e k = absurd (k refl)
-        go (x ∷ a) [] e k = absurd (omega arith)
-        go (x ∷ a) (y ∷ b) e k = refl
+        go : (b : Bool) → any (hasSamples ends) clips ≡ b → Stage.present ≡ untimedOf clips m ends
+        go true q = answer true true q (eq-eqb (m .default .mark) 0 e)
+        go false q = answer false true q (eq-eqb (m .default .mark) 0 e)
 
-    answer : untimedAnswer set s ≡ cond (any (hasSamples ends) clips || eqb (m .default .mark) markValue) Stage.present Stage.blocked
-    unfolding setOf untimedAnswer
-    answer = with-starts (anySamples set s || eqb (m .default .mark) markValue) ∙ ap (λ (a : Bool). cond (a || eqb (m .default .mark) markValue) Stage.present Stage.blocked) any-is
+    pub untimed-samples : any (hasSamples ends) clips ≡ true → Stage.present ≡ untimedOf clips m ends
+    untimed-samples e = answer true (eqb (m .default .mark) markValue) e refl
 
-    pub untimed-default : m .default .mark ≡ 0 → Stage.present ≡ untimedAnswer set s
-    untimed-default e = sym (answer ∙ ap (λ (b : Bool). cond (any (hasSamples ends) clips || b) Stage.present Stage.blocked) (eq-eqb (m .default .mark) 0 e) ∙ go (any (hasSamples ends) clips))
-      where
-        go : (a : Bool) → cond (a || true) Stage.present Stage.blocked ≡ Stage.present
-        go true = refl
-        go false = refl
-
-    pub untimed-samples : any (hasSamples ends) clips ≡ true → Stage.present ≡ untimedAnswer set s
-    untimed-samples e = sym (answer ∙ ap (λ (a : Bool). cond (a || eqb (m .default .mark) markValue) Stage.present Stage.blocked) e)
-
-    pub untimed-blocked : (m .default .mark ≡ 0 → ⊥) → any (hasSamples ends) clips ≡ false → Stage.blocked ≡ untimedAnswer set s
-    untimed-blocked k e =
-        sym
-        (answer ∙ ap (λ (a : Bool). cond (a || eqb (m .default .mark) markValue) Stage.present Stage.blocked) e
-        ∙ ap (λ (b : Bool). cond b Stage.present Stage.blocked) (ne-eqb (m .default .mark) 0 k))
+    pub untimed-blocked : (m .default .mark ≡ 0 → ⊥) → any (hasSamples ends) clips ≡ false → Stage.blocked ≡ untimedOf clips m ends
+    untimed-blocked k e = answer false false e (ne-eqb (m .default .mark) 0 k)

@@ -12,7 +12,6 @@ use lib.Ieee.Scale.{finite}
 use borrow.Author.Tests.{lt-ltb, le-ltb}
 use Rattle.gf.proofs.KeyLaws.{le-refl, finite-no-nan}
 use Rattle.definitions.specs.declared.Missing.{Missing}
-use Rattle.definitions.specs.declared.Knot.{Knot}
 use Rattle.definitions.specs.declared.Source.{Source}
 use Rattle.definitions.specs.Lists.{keep}
 use Rattle.definitions.specs.ClipSet.{ClipSet, stage}
@@ -41,6 +40,8 @@ use Rattle.window.proofs.Parts.{ready-active, ready-position, ready-readable}
 use Rattle.window.specs.declared.search.Window.{Window}
 use Rattle.window.specs.neighbours.Windowed.{samplesIn, windowTimes, windowSource}
 use Rattle.value.specs.WindowOf.{WindowIs}
+use Rattle.value.specs.Jumps.{jumpIn}
+use Rattle.value.proofs.Jumps.{jump-by-x}
 use Rattle.value.proofs.WindowOf.{window-gathered, window-lent, window-nears, window-held}
 use Rattle.value.specs.Values.{heldAt, Valued, ValueIn}
 
@@ -48,24 +49,21 @@ use Rattle.value.specs.Values.{heldAt, Valued, ValueIn}
 
 -- the cases of the program
 module _ (xs ys times : List Float) (w : Window) (t : Float) (n : Neighbours) (N : NeighboursAre (windowTimes xs ys (samplesIn times w) w) t n) (r : Source) where
-  abbrev knots : List Knot
-  knots = knotsOf xs ys
-
-  read-at : (x : Float) → heldAt knots t (n .lower) (n .upper) ≡ x → r ≡ windowSource xs ys times w x → ValueIn xs ys times w t r
+  read-at : (x : Float) → heldAt xs t (n .lower) (n .upper) ≡ x → r ≡ windowSource xs ys times w x → ValueIn xs ys times w t r
   read-at x e q = record { bounds = n; near = N; reads = q ∙ ap (windowSource xs ys times w) (sym e) }
 
   pub read-below : n .lower ≡ Nothing → r ≡ windowSource xs ys times w t → ValueIn xs ys times w t r
-  read-below e q = read-at t (ap (λ (b : Bound). heldAt knots t b (n .upper)) e) q
+  read-below e q = read-at t (ap (λ (b : Bound). heldAt xs t b (n .upper)) e) q
 
   module _ (l : Float) (e : n .lower ≡ At l) where
     pub read-last : n .upper ≡ Nothing → r ≡ windowSource xs ys times w t → ValueIn xs ys times w t r
-    read-last f q = read-at t (ap₂ (heldAt knots t) e f) q
+    read-last f q = read-at t (ap₂ (heldAt xs t) e f) q
 
-    pub read-jump : (h : Float) → n .upper ≡ At h → jump knots l h ≡ true → r ≡ windowSource xs ys times w t → ValueIn xs ys times w t r
-    read-jump h f j q = read-at t (ap₂ (heldAt knots t) e f ∙ ap (λ (b : Bool). cond b t l) j) q
+    pub read-jump : (h : Float) → n .upper ≡ At h → jumpIn xs l h ≡ true → r ≡ windowSource xs ys times w t → ValueIn xs ys times w t r
+    read-jump h f j q = read-at t (ap₂ (heldAt xs t) e f ∙ ap (λ (b : Bool). cond b t l) j) q
 
-    pub read-held : (h : Float) → n .upper ≡ At h → jump knots l h ≡ false → r ≡ windowSource xs ys times w l → ValueIn xs ys times w t r
-    read-held h f j q = read-at l (ap₂ (heldAt knots t) e f ∙ ap (λ (b : Bool). cond b t l) j) q
+    pub read-held : (h : Float) → n .upper ≡ At h → jumpIn xs l h ≡ false → r ≡ windowSource xs ys times w l → ValueIn xs ys times w t r
+    read-held h f j q = read-at l (ap₂ (heldAt xs t) e f ∙ ap (λ (b : Bool). cond b t l) j) q
 
 -- ---- a neighbour is a double
 
@@ -193,10 +191,10 @@ module _ {starts : List Float} {clips : List ℕ} {xs ys blocks : List Float} {m
           here : windowSource xs ys times w t ≡ directSource set s (stage t)
           here = sym (W .direct t (sym at))
 
-          go : (b d : Bound) → LowerIs (gathered set s p) t b → UpperIs (gathered set s p) t d → windowSource xs ys times w (heldAt (knotsOf xs ys) t b d) ≡ valueSource set s (stage t)
+          go : (b d : Bound) → LowerIs (gathered set s p) t b → UpperIs (gathered set s p) t d → windowSource xs ys times w (heldAt xs t b d) ≡ valueSource set s (stage t)
           go Nothing d L U = here ∙ value-below L
           go (At l) Nothing L U = here ∙ value-last U
-          go (At l) (At h) L U = by-jump (jump (knotsOf xs ys) l h) refl
+          go (At l) (At h) L U = by-jump (jumpIn xs l h) (jump-by-x l h xs ys (R .knots-paired))
             where
               by-jump : (j : Bool) → jump (knotsOf xs ys) l h ≡ j → windowSource xs ys times w (cond j t l) ≡ valueSource set s (stage t)
               by-jump true e = here ∙ value-jump l h L U e

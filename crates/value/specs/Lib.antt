@@ -1,6 +1,8 @@
 -- What contracts cite.
 -- The value by the neighbours that were found
 pub mod Values
+-- A jump by the x of the knots alone
+pub mod Jumps
 -- What a source says, and that a sample that is read lies in the lists
 pub mod Answers
 -- The answer without a time

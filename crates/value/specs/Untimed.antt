@@ -1,8 +1,12 @@
 -- The answer without a time, case by case. Assumes nothing.
-use mathlib.Core.Bool.{Bool}
+use mathlib.Core.Bool.{Bool, _||_, cond}
 use mathlib.Core.List.{List}
 use Prim.Native.Nat.{ℕ}
-use lib.Dec.{ltb}
+use lib.Dec.{eqb, ltb}
+use lib.ListN.{length}
+use Rattle.definitions.specs.declared.Missing.{Missing}
+use Rattle.definitions.specs.Lists.{any}
+use Rattle.definitions.specs.ClipSet.{markValue}
 use Rattle.definitions.specs.Samples.{clipBegin, clipEnd}
 use Rattle.definitions.specs.StageSamples as Stage
 use Rattle.value.specs.declared.untimed.ValueState.{ValueState}
@@ -15,3 +19,7 @@ stateIs Absent = Stage.absent
 
 abbrev pub hasSamples : List ℕ → ℕ → Bool
 hasSamples ends c = ltb (clipBegin ends c) (clipEnd ends c)
+
+-- "absent without starts", present where a start's clip has samples or the manifest default is a value, else blocked
+abbrev pub untimedOf : List ℕ → Missing → List ℕ → Stage.ValueState
+untimedOf clips m ends = cond (eqb (length clips) 0) Stage.absent (cond (any (hasSamples ends) clips || eqb (m .default .mark) markValue) Stage.present Stage.blocked)

@@ -4,11 +4,8 @@ use mathlib.Core.Bool.{cond}
 use mathlib.Core.List.{List}
 use lib.ListN.{length}
 use lib.Ieee.{Float}
-use Rattle.definitions.specs.declared.Knot.{Knot}
 use Rattle.definitions.specs.declared.Source.{Source}
-use Rattle.definitions.specs.Value.{jump}
 use Rattle.laws.specs.list.Places.{Ascending}
-use Rattle.laws.specs.cell.Lent.{knotsOf}
 use Rattle.window.specs.declared.Bound.{Bound}
 use Rattle.window.specs.declared.Bound.the-variants.{At, Nothing}
 use Rattle.window.specs.declared.Neighbours.{Neighbours}
@@ -16,14 +13,15 @@ use Rattle.window.specs.Bounds.{NeighboursAre}
 use Rattle.window.specs.declared.search.Window.{Window}
 use Rattle.window.specs.neighbours.Latest.{LatestOf}
 use Rattle.window.specs.neighbours.Windowed.{samplesIn, windowTimes, windowSource, Lent, Nearing}
+use Rattle.value.specs.Jumps.{jumpIn}
 
 -- ---- the value in a window
 
 -- the time whose direct value is the value at t, by its neighbours
-abbrev pub heldAt : List Knot → Float → Bound → Bound → Float
-heldAt knots t Nothing upper = t
-heldAt knots t (At l) Nothing = t
-heldAt knots t (At l) (At h) = cond (jump knots l h) t l
+abbrev pub heldAt : List Float → Float → Bound → Bound → Float
+heldAt xs t Nothing upper = t
+heldAt xs t (At l) Nothing = t
+heldAt xs t (At l) (At h) = cond (jumpIn xs l h) t l
 
 -- what a search in the window asks
 pub record Valued (xs ys times : List Float) (w : Window) (t : Float) : Type 0 where
@@ -36,4 +34,4 @@ pub record Valued (xs ys times : List Float) (w : Window) (t : Float) : Type 0 w
 pub record ValueIn (xs ys times : List Float) (w : Window) (t : Float) (r : Source) : Type 0 where
   pub bounds : Neighbours
   pub near : NeighboursAre (windowTimes xs ys (samplesIn times w) w) t bounds
-  pub reads : r ≡ windowSource xs ys times w (heldAt (knotsOf xs ys) t (bounds .lower) (bounds .upper))
+  pub reads : r ≡ windowSource xs ys times w (heldAt xs t (bounds .lower) (bounds .upper))

@@ -13,12 +13,12 @@ ghost use Prim.Native.Nat.{_<_, _≤_};
 ghost use lib.ListN.{length, getD, take, drop};
 ghost use lib.Ieee.{Float, nan, eq};
 ghost use Rattle.definitions.specs.Lists.{any};
-ghost use Rattle.definitions.specs.Value.{_orElse_, firstReading, manifestDefault, gapSource};
 ghost use Rattle.definitions.specs.Moments.{was};
 ghost use Rattle.laws.specs.cell.Lent.{start, activeOf, setOf, samplesOf, AcceptedLists};
 ghost use Rattle.window.specs.Parts.{Readable};
 ghost use Rattle.sdf.specs.look.Reads.{heldIs};
-ghost use Rattle.value.specs.direct.Reads.{readingIs, heldPart, readStart};
+ghost use Rattle.value.specs.direct.Reads.{readingIs, heldPart, readStart, firstRead, SearchAsks};
+ghost use Rattle.value.specs.direct.Sources.{standIn};
 
 // A sample that is read: its clip, and its place counted from the clip's first.
 pub enum Reading {
@@ -90,15 +90,14 @@ fn read_start(
     xs: &[f64],
     ys: &[f64],
     blocks: &[f64],
-    m: Missing,
     times: &[f64],
     values: &[f64],
     marks: &[u8],
     ends: &[u64],
     i: usize,
 ) -> Reading
-    requires { ⌜ AcceptedLists (now starts) (now clips) (now xs) (now ys) (now blocks) m (now times) (now values) (now marks) (now ends) ⌝ ∗ ⌜ i < length (now starts) ⌝ }
-    ensures { λ r. ⌜ readingIs r ≡ readStart (setOf (length (was ends)) (was starts) (was clips) (was xs) (was ys) (was blocks) m) (samplesOf (was times) (was values) (was marks) (was ends)) (start (getD (was starts) i nan) (getD (was clips) i 0)) ⌝ }
+    requires { ⌜ SearchAsks (now starts) (now clips) (now xs) (now ys) (now times) (now values) (now marks) (now ends) ⌝ ∗ ⌜ i < length (now starts) ⌝ }
+    ensures { λ r. ⌜ readingIs r ≡ readStart (was blocks) (was xs) (was ys) (was times) (was ends) (start (getD (was starts) i nan) (getD (was clips) i 0)) ⌝ }
 {
     let time = starts[i];
     if blocked_at(blocks, time) {
@@ -127,15 +126,14 @@ fn nearest_before(
     xs: &[f64],
     ys: &[f64],
     blocks: &[f64],
-    m: Missing,
     times: &[f64],
     values: &[f64],
     marks: &[u8],
     ends: &[u64],
     p: usize,
 ) -> Reading
-    requires { ⌜ AcceptedLists (now starts) (now clips) (now xs) (now ys) (now blocks) m (now times) (now values) (now marks) (now ends) ⌝ ∗ ⌜ p ≤ length (now starts) ⌝ }
-    ensures { λ r. ⌜ readingIs r ≡ firstReading (setOf (length (was ends)) (was starts) (was clips) (was xs) (was ys) (was blocks) m) (samplesOf (was times) (was values) (was marks) (was ends)) (reverse (take p (activeOf (was starts) (was clips)))) ⌝ }
+    requires { ⌜ SearchAsks (now starts) (now clips) (now xs) (now ys) (now times) (now values) (now marks) (now ends) ⌝ ∗ ⌜ p ≤ length (now starts) ⌝ }
+    ensures { λ r. ⌜ readingIs r ≡ firstRead (was blocks) (was xs) (was ys) (was times) (was ends) (reverse (take p (activeOf (was starts) (was clips)))) ⌝ }
 {
     let mut left = p;
     while left > 0 {
@@ -146,7 +144,6 @@ fn nearest_before(
             xs,
             ys,
             blocks,
-            m,
             times,
             values,
             marks,
@@ -167,31 +164,18 @@ fn nearest_from(
     xs: &[f64],
     ys: &[f64],
     blocks: &[f64],
-    m: Missing,
     times: &[f64],
     values: &[f64],
     marks: &[u8],
     ends: &[u64],
     p: usize,
 ) -> Reading
-    requires { ⌜ AcceptedLists (now starts) (now clips) (now xs) (now ys) (now blocks) m (now times) (now values) (now marks) (now ends) ⌝ ∗ ⌜ p ≤ length (now starts) ⌝ }
-    ensures { λ r. ⌜ readingIs r ≡ firstReading (setOf (length (was ends)) (was starts) (was clips) (was xs) (was ys) (was blocks) m) (samplesOf (was times) (was values) (was marks) (was ends)) (drop p (activeOf (was starts) (was clips))) ⌝ }
+    requires { ⌜ SearchAsks (now starts) (now clips) (now xs) (now ys) (now times) (now values) (now marks) (now ends) ⌝ ∗ ⌜ p ≤ length (now starts) ⌝ }
+    ensures { λ r. ⌜ readingIs r ≡ firstRead (was blocks) (was xs) (was ys) (was times) (was ends) (drop p (activeOf (was starts) (was clips))) ⌝ }
 {
     let mut i = p;
     while i < starts.len() {
-        let found = read_start(
-            starts,
-            clips,
-            xs,
-            ys,
-            blocks,
-            m,
-            times,
-            values,
-            marks,
-            ends,
-            i,
-        );
+        let found = read_start(starts, clips, xs, ys, blocks, times, values, marks, ends, i);
         if let Reading::Of(clip, place) = found {
             return Reading::Of(clip, place);
         }
@@ -215,7 +199,7 @@ pub fn interpolate_missing_value(
     p: usize,
 ) -> Source
     requires { ⌜ AcceptedLists (now starts) (now clips) (now xs) (now ys) (now blocks) m (now times) (now values) (now marks) (now ends) ⌝ ∗ ⌜ p < length (now starts) ⌝ }
-    ensures { λ r. ⌜ r ≡ (manifestDefault (setOf (length (was ends)) (was starts) (was clips) (was xs) (was ys) (was blocks) m) orElse gapSource (setOf (length (was ends)) (was starts) (was clips) (was xs) (was ys) (was blocks) m) (samplesOf (was times) (was values) (was marks) (was ends)) p) ⌝ }
+    ensures { λ r. ⌜ r ≡ standIn (setOf (length (was ends)) (was starts) (was clips) (was xs) (was ys) (was blocks) m) (samplesOf (was times) (was values) (was marks) (was ends)) p ⌝ }
 {
     let default = m.default;
     if default.mark == 0 {
@@ -224,19 +208,7 @@ pub fn interpolate_missing_value(
     if !m.interpolate {
         return Source::Blocked;
     }
-    let back = nearest_before(
-        starts,
-        clips,
-        xs,
-        ys,
-        blocks,
-        m,
-        times,
-        values,
-        marks,
-        ends,
-        p,
-    );
+    let back = nearest_before(starts, clips, xs, ys, blocks, times, values, marks, ends, p);
     if let Reading::Of(clip, place) = back {
         return Source::Sample(clip, place);
     }
@@ -247,7 +219,6 @@ pub fn interpolate_missing_value(
         xs,
         ys,
         blocks,
-        m,
         times,
         values,
         marks,

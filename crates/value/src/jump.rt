@@ -1,17 +1,15 @@
 // A jump: two neighbouring knots that share an x.
 
 ghost use mathlib.Core.Path.{_≡_};
-ghost use lib.ListN.{length};
-ghost use Rattle.definitions.specs.Value.{jump};
 ghost use Rattle.definitions.specs.Moments.{was};
 ghost use Rattle.laws.specs.list.Places.{Ascending};
-ghost use Rattle.laws.specs.cell.Lent.{knotsOf};
+ghost use Rattle.value.specs.Jumps.{jumpIn};
 
 // Whether some neighbouring knots share an x above `lower` and at most `upper`: looked for from the last knot that is at most `upper` down, near the place
 // `knot`. The knot at `upper` counts, though a window ends before it.
-pub fn is_jump(xs: &[f64], ys: &[f64], lower: f64, upper: f64, knot: usize) -> bool
-    requires { ⌜ Ascending (now xs) ⌝ ∗ ⌜ length (now xs) ≡ length (now ys) ⌝ }
-    ensures { λ r. ⌜ r ≡ jump (knotsOf (was xs) (was ys)) lower upper ⌝ }
+pub fn is_jump(xs: &[f64], lower: f64, upper: f64, knot: usize) -> bool
+    requires { ⌜ Ascending (now xs) ⌝ }
+    ensures { λ r. ⌜ r ≡ jumpIn (was xs) lower upper ⌝ }
 {
     let mut i = lists::near::last_at_most_near(xs, upper, knot);
     while i > 0 {

@@ -7,11 +7,9 @@ ghost use mathlib.Core.Path.{_≡_};
 ghost use Prim.Native.Nat.{ℕ, _<_};
 ghost use lib.ListN.{length};
 ghost use Rattle.definitions.specs.Lists.{any};
-ghost use Rattle.definitions.specs.StageSamples.{untimedAnswer};
 ghost use Rattle.definitions.specs.Moments.{was};
 ghost use Rattle.laws.specs.list.Every.{Every};
-ghost use Rattle.laws.specs.cell.Lent.{setOf, samplesOf, AcceptedLists};
-ghost use Rattle.value.specs.Untimed.{stateIs, hasSamples};
+ghost use Rattle.value.specs.Untimed.{stateIs, hasSamples, untimedOf};
 
 // Whether a set has a value at all.
 pub enum ValueState {
@@ -37,22 +35,11 @@ fn any_samples(clips: &[u64], ends: &[u64]) -> bool
 }
 
 // Absent without starts; present where a start's clip has samples or the manifest default is a value; else blocked.
-pub fn untimed_answer_in_set(
-    starts: &[f64],
-    clips: &[u64],
-    xs: &[f64],
-    ys: &[f64],
-    blocks: &[f64],
-    m: Missing,
-    times: &[f64],
-    values: &[f64],
-    marks: &[u8],
-    ends: &[u64],
-) -> ValueState
-    requires { ⌜ AcceptedLists (now starts) (now clips) (now xs) (now ys) (now blocks) m (now times) (now values) (now marks) (now ends) ⌝ }
-    ensures { λ r. ⌜ stateIs r ≡ untimedAnswer (setOf (length (was ends)) (was starts) (was clips) (was xs) (was ys) (was blocks) m) (samplesOf (was times) (was values) (was marks) (was ends)) ⌝ }
+pub fn untimed_answer_in_set(clips: &[u64], m: Missing, ends: &[u64]) -> ValueState
+    requires { ⌜ Every (λ (c : ℕ). c < length (now ends)) (now clips) ⌝ }
+    ensures { λ r. ⌜ stateIs r ≡ untimedOf (was clips) m (was ends) ⌝ }
 {
-    if starts.len() == 0 {
+    if clips.len() == 0 {
         return ValueState::Absent;
     }
     let default = m.default;

@@ -41,7 +41,7 @@ fn value_in(xs: &[f64], ys: &[f64], times: &[f64], w: Window, t: StageTime) -> S
     let Bound::At(h) = upper else {
         return source_in(xs, ys, times, w, t, knot, sample);
     };
-    if is_jump(xs, ys, l, h, knot) {
+    if is_jump(xs, l, h, knot) {
         return source_in(xs, ys, times, w, t, knot, sample);
     }
     source_in(xs, ys, times, w, StageTime(l), knot, sample)

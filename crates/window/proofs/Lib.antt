@@ -1,8 +1,6 @@
 -- What is shown of the definitions of `window`.
 -- The neighbours of a time among times in any order
 pub mod BoundsLaws
--- The jump test by the x of the knots alone
-pub mod Pairs
 -- The inverse times of a clip's samples, segment by segment
 pub mod Inverses
 -- Where the inverse times between two knots lie

@@ -1,60 +1,71 @@
--- `cell::cell_at` meets its contract: each way out has a law of cells. Assumes nothing.
-use mathlib.Core.Path.{sym, _∙_}
+-- `cell::cell_at` meets its contract: directly with few starts, else by the neighbours in the window. Assumes nothing.
+use mathlib.Core.Path.{_≡_, refl, sym, ap, _∙_}
 use Prim.Native.Nat.{_<_}
 use native.Mathlib.Omega.{arith}
 use lib.ListN.{length}
-use Rattle.window.proofs.Parts.{ready-readable}
-use Rattle.value.specs.WindowOf.{WindowIs}
-use Rattle.value.proofs.WindowOf.{window-lent, window-nears}
-use Rattle.cell.proofs.Lent.{place-window}
-use Rattle.cell.proofs.CellsRead.{piece-few, near-direct, near-held}
+use Rattle.laws.specs.cell.Cells as Cells
+use Rattle.window.specs.declared.Bound.{Bound}
+use Rattle.window.specs.neighbours.Windowed.{Lent, boundsOf}
+use Rattle.cell.specs.declared.Cell.{Cell}
+use Rattle.cell.specs.CellAndEnd.{cellIs, cellBy, CellIn}
 use borrow.Author.Needs.{needs}
 use Rattle.cell.proofs.cell_at.Statement.{statement}
 use Rattle.cell.proofs.cell_at.Tie as tie
 
 abbrev entry : tie.Else1 → tie.Start
-entry c = c .before .before .before .before .before .before .before .before .before .before .before
+entry c = c .before .before .before .before .before .before .before
 
 several : (c : tie.Else1) → 1 < length (entry c .args .starts .now)
 several c = let n = c .if1 .left in omega arith
 
--- the window of the active start
-window : (c : tie.Else1)
-    → WindowIs (entry c .args .starts .now) (entry c .args .clips .now) (entry c .args .xs .now) (entry c .args .ys .now) (entry c .args .blocks .now) (entry c .args .m) (entry c .args .times .now) (entry c .args .values .now) (entry c .args .marks .now) (entry c .args .ends .now) (entry c .args .place .start) (entry c .args .place .window)
-window c = let a = entry c in let n = several c in place-window (a .pre .0) (a .args .t) (a .pre .1 .1 .1) (a .args .place .start) (a .args .place .window) (a .pre .1 .1 .0) (omega arith)
+-- the window's samples
+lent : (c : tie.Else1) → Lent (entry c .args .times .now) (entry c .args .place .window)
+lent c = entry c .pre .lent (several c)
+
+-- the cell by the time that is held, if any
+between : (c : tie.After-held-from) (d : Cell) (o : Bound) → c .held-from .result ≡ o
+    → cellIs d ≡ cellBy (entry (c .before .before .before) .args .starts .now) (entry (c .before .before .before) .args .xs .now) (entry (c .before .before .before) .args .ys .now) (entry (c .before .before .before) .args .times .now) (entry (c .before .before .before) .args .place .window) (entry (c .before .before .before) .args .t) o
+    → CellIn (entry (c .before .before .before) .args .starts .now) (entry (c .before .before .before) .args .xs .now) (entry (c .before .before .before) .args .ys .now) (entry (c .before .before .before) .args .times .now) (entry (c .before .before .before) .args .place .window) (entry (c .before .before .before) .args .t) d (c .before .neighbours-in .result .upper)
+between c d o q i =
+    let n = c .before in
+    let e = n .before .before in
+    let a = entry e .args in
+    record {
+      few = λ h. let s = several e in absurd (omega arith);
+      many = λ h. record {
+        bounds = boundsOf (n .neighbours-in .result);
+        near = n .neighbours-in .ensures;
+        is = i ∙ ap (cellBy (a .starts .now) (a .xs .now) (a .ys .now) (a .times .now) (a .place .window) (a .t)) (sym q ∙ c .held-from .ensures);
+        ends = refl;
+      };
+    }
 
 direct-cell-requires : tie.Need-direct-cell-requires
 direct-cell-requires c κs = search needs
 
 first-above-requires : tie.Need-first-above-requires
-first-above-requires c κs = let a = c .before .before .before .before .before .before .before .before .before .before .before .before in (ready-readable (a .pre .0) .knots, a .pre .1 .1 .1)
+first-above-requires c κs = search needs
 
 returns : tie.Need-returns
-returns c =
-    let a = c .before .before .before .before .before .before .before .before .before .before .before .before .before in
-    piece-few (a .pre .0) (a .args .t) (c .before .direct-cell .result) (c .first-above .result) (c .before .before .if1 .taken) (c .before .direct-cell .ensures) (c .first-above .ensures)
+returns c = record { few = λ h. record { is = c .before .direct-cell .ensures; ends = c .first-above .ensures }; many = λ h. let s = c .before .before .if1 .taken in absurd (omega arith) }
 
 mul-neighbours-in : tie.Need-mul-neighbours-in
-mul-neighbours-in c = let W = window (c .before) in let o = W .order in let u = W .upto in omega (arith, entry (c .before) .good)
+mul-neighbours-in c = let L = lent c in let o = L .order in let u = L .upto in omega (arith, entry c .good)
 
 sub-neighbours-in : tie.Need-sub-neighbours-in
-sub-neighbours-in c = window (c .before) .order
+sub-neighbours-in c = lent c .order
 
 part-neighbours-in-start : tie.Need-part-neighbours-in-start
-part-neighbours-in-start c = window (c .before) .order
+part-neighbours-in-start c = lent c .order
 
 part-neighbours-in-end : tie.Need-part-neighbours-in-end
-part-neighbours-in-end c = let W = window (c .before) in let o = W .order in let u = W .upto in search needs
+part-neighbours-in-end c = let L = lent c in let o = L .order in let u = L .upto in search needs
 
 neighbours-in-requires : tie.Need-neighbours-in-requires
-neighbours-in-requires c κs =
-    let e = c .before .before in
-    let a = entry e in
-    let n = several e in
-    window-nears (a .pre .0) (a .args .place .start) (a .args .place .window) (window e) (a .args .t) (a .pre .1 .1 .0 .place (omega arith)) (a .pre .1 .1 .1) (a .args .latest .now) (a .pre .1 .0)
+neighbours-in-requires c κs = entry (c .before) .pre .nears (several (c .before))
 
 held-from-requires : tie.Need-held-from-requires
-held-from-requires c κs = let a = entry (c .before .before .before) in (ready-readable (a .pre .0) .knots, a .pre .0 .knots-paired)
+held-from-requires c κs = search needs
 
 enum-known-l : tie.Need-enum-known-l
 enum-known-l c = search needs
@@ -66,31 +77,19 @@ direct-cell-requires-2 : tie.Need-direct-cell-requires-2
 direct-cell-requires-2 c κs = search needs
 
 returns-2 : tie.Need-returns-2
-returns-2 c =
-    let n = c .before .before .before .before in
-    let e = n .before .before .before in
-    let a = entry e in
-    let s = several e in
-    near-direct (a .pre .0) (a .args .t) (a .pre .1 .1 .1) s (a .args .place .start) (a .pre .1 .1 .0 .place (omega arith)) (a .args .place .window) (window e) (n .neighbours-in .result) (n .neighbours-in .ensures) (c .direct-cell2 .result)
-    (sym (c .before .before .before .held-from .ensures) ∙ c .before .enum-told .given .1) (c .direct-cell2 .ensures)
+returns-2 c = between (c .before .before .before) _ _ (c .before .enum-told .given .1) (c .direct-cell2 .ensures)
 
 place-before-requires : tie.Need-place-before-requires
-place-before-requires c κs = tt
+place-before-requires c κs = search needs
 
 source-in-requires : tie.Need-source-in-requires
 source-in-requires c κs =
-    let e = c .before .before .before .before .before .before .before .before in
+    let e = c .before .before .before .before .before .before .before in
     let a = entry e in
-    (ready-readable (a .pre .0) .knots, (a .pre .0 .knots-paired, window-lent (a .pre .0) (a .args .place .start) (a .args .place .window) (window e)))
+    (a .pre .knots, (a .pre .paired, lent e))
 
 returns-3 : tie.Need-returns-3
-returns-3 c =
-    let n = c .before .before .before .before .before .before in
-    let e = n .before .before .before in
-    let a = entry e in
-    let s = several e in
-    near-held (a .pre .0) (a .args .t) (a .pre .1 .1 .1) s (a .args .place .start) (a .pre .1 .1 .0 .place (omega arith)) (a .args .place .window) (window e) (n .neighbours-in .result) (n .neighbours-in .ensures) (c .before .before .before .l .given .0 .0) (c .source-in .result)
-    (sym (c .before .before .before .before .before .held-from .ensures) ∙ c .before .before .before .l .given .1) (c .source-in .ensures)
+returns-3 c = let l = c .before .before .before in between (l .before .before) _ _ (l .l .given .1) (ap Cells.constant (c .source-in .ensures))
 
 pub cell-at-spec : {M : Type 1} → statement M
 cell-at-spec =

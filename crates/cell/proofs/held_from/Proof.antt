@@ -1,7 +1,6 @@
 -- `cell::held_from` meets its contract. Assumes nothing.
 use mathlib.Core.Path.{sym, ap, ap₂, _∙_}
 use mathlib.Core.Bool.{Bool, cond}
-use Rattle.laws.specs.cell.Lent.{knotsOf}
 use Rattle.window.specs.declared.Bound.the-variants.{At, Nothing}
 use Rattle.cell.specs.CellAndEnd.{heldOf}
 use borrow.Author.Needs.{needs}
@@ -33,18 +32,18 @@ returns-3 : tie.Need-returns-3
 returns-3 c =
     let w = c .before .before .before .before .before .before in
     let u = c .before .before .before in
-    let a = w .before .before .before .before .args in
+    let a = w .before .before .before .args in
     sym
-    (ap₂ (heldOf (knotsOf (a .xs .now) (a .ys .now))) (w .lower .given .1) (u .upper .given .1)
+    (ap₂ (heldOf (a .xs .now)) (w .lower .given .1) (u .upper .given .1)
     ∙ ap (λ (b : Bool). cond b Nothing (At (w .lower .given .0 .0))) (sym (c .before .is-jump .ensures) ∙ c .if1 .taken))
 
 returns-4 : tie.Need-returns-4
 returns-4 c =
     let w = c .before .before .before .before .before .before in
     let u = c .before .before .before in
-    let a = w .before .before .before .before .args in
+    let a = w .before .before .before .args in
     sym
-    (ap₂ (heldOf (knotsOf (a .xs .now) (a .ys .now))) (w .lower .given .1) (u .upper .given .1)
+    (ap₂ (heldOf (a .xs .now)) (w .lower .given .1) (u .upper .given .1)
     ∙ ap (λ (b : Bool). cond b Nothing (At (w .lower .given .0 .0))) (sym (c .before .is-jump .ensures) ∙ c .if1 .left))
 
 pub held-from-spec : {M : Type 1} → statement M

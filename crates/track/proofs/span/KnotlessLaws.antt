@@ -21,7 +21,7 @@ use Rattle.definitions.specs.Doubles.{FiniteDouble}
 use Rattle.definitions.specs.ClipSet.{ClipSet, stage}
 use Rattle.definitions.specs.Timing.{lastAtMost, mapTime}
 use Rattle.definitions.specs.Samples.{Samples, clipTimes}
-use Rattle.definitions.specs.Value.{jump, valueSource}
+use Rattle.definitions.specs.Value.{valueSource}
 use Rattle.laws.proofs.list.Tests.{holds}
 use Rattle.laws.specs.list.Every.{Every}
 use Rattle.laws.proofs.list.Every.{every-at}
@@ -56,10 +56,11 @@ use Rattle.window.specs.neighbours.Windowed.{intervalOf, samplesIn, nextOf, sta
 use Rattle.window.proofs.search.Windowed.{near-faces, near-plain}
 use Rattle.value.specs.WindowOf.{WindowIs}
 use Rattle.value.proofs.WindowOf.{window-lent, window-nears}
+use Rattle.value.specs.Jumps.{jumpIn}
 use Rattle.value.specs.Values.{heldAt}
 use Rattle.value.proofs.Values.{value-in}
 use Rattle.cell.specs.declared.Cell.the-variants.{Constant, Reading}
-use Rattle.cell.specs.CellAndEnd.{Sampled}
+use Rattle.cell.proofs.CellsRead.{Sampled}
 use Rattle.track.specs.span.Runs.{part, readOn}
 use Rattle.track.specs.span.Knotless.{plainCell}
 use Rattle.track.proofs.span.Spans.{TurnsOn, Told}
@@ -152,16 +153,16 @@ module _ {starts : List Float} {clips : List ℕ} {xs ys blocks : List Float} {m
         go true e = subst (λ (x : Float). T (le x l)) (sym e) (inf-below l (le-no-nan l t (L .upto) .0))
         go false e = subst (λ (x : Float). T (le x t) → T (le x l)) (W .start ∙ sym e) (L .last .0) (nears .from)
 
-    held-source : (l h : Float) → IsLower (windowTimes xs ys (samplesIn times w) w) t l → windowSource xs ys times w t ≡ windowSource xs ys times w (cond (jump (knotsOf xs ys) l h) t l)
-    unfolding windowSource mapTime jump
+    held-source : (l h : Float) → IsLower (windowTimes xs ys (samplesIn times w) w) t l → windowSource xs ys times w t ≡ windowSource xs ys times w (cond (jumpIn xs l h) t l)
+    unfolding windowSource mapTime
     held-source l h L =
-        subst (λ (k : List Float). windowSource k ys times w t ≡ windowSource k ys times w (cond (jump (knotsOf k ys) l h) t l)) (sym (empty xs none))
+        subst (λ (k : List Float). windowSource k ys times w t ≡ windowSource k ys times w (cond (jumpIn k l h) t l)) (sym (empty xs none))
         (ap (λ (i : ℕ). cond (ltb (w .begin) (w .end)) (sample (w .clip) i) (w .gap)) (sym place))
       where
         place : lastAtMost (samplesIn times w) l ≡ lastAtMost (samplesIn times w) t
         place = lower-place w (samplesIn times w) ys (window-lent R p w W .rising) t l plain-faces (nears .upto) (low l L) (subst (λ (k : List Float). IsLower (windowTimes k ys (samplesIn times w) w) t l) (empty xs none) L)
 
-    held : (b d : Bound) → LowerIs (windowTimes xs ys (samplesIn times w) w) t b → windowSource xs ys times w t ≡ windowSource xs ys times w (heldAt (knotsOf xs ys) t b d)
+    held : (b d : Bound) → LowerIs (windowTimes xs ys (samplesIn times w) w) t b → windowSource xs ys times w t ≡ windowSource xs ys times w (heldAt xs t b d)
     held Nothing d L = refl
     held (At l) Nothing L = refl
     held (At l) (At h) L = held-source l h L

@@ -35,7 +35,7 @@ use Rattle.laws.proofs.cell.Keys.{sourceAtKey}
 use Rattle.laws.specs.cell.Knots as Knots
 use Rattle.laws.proofs.cell.Window.{gathered-fit}
 use Rattle.laws.proofs.cell.Zeros.{zero-direct}
-use Rattle.laws.specs.cell.Lent.{AcceptedLists, setOf, samplesOf, knotsOf}
+use Rattle.laws.specs.cell.Lent.{AcceptedLists, setOf, samplesOf}
 use Rattle.window.specs.declared.Bound.the-variants.{At, Nothing}
 use Rattle.window.specs.Bounds.{NeighboursAre}
 use Rattle.window.specs.SoundSegments.{SoundSegment}
@@ -59,9 +59,9 @@ use Rattle.value.proofs.WindowOf.{window-gathered}
 use Rattle.value.specs.RunsFrom.{RunFrom}
 use Rattle.value.proofs.RunsFrom.{HeldAt, nh, knot-low, run-held, run-first}
 use Rattle.cell.specs.declared.Cell.the-variants.{Constant}
-use Rattle.cell.specs.CellAndEnd.{heldOf, CellAndEndIs}
+use Rattle.cell.specs.CellAndEnd.{heldOf}
 use Rattle.cell.proofs.Lent.{sound, samples}
-use Rattle.cell.proofs.CellsRead.{piece-constant}
+use Rattle.cell.proofs.CellsRead.{CellAndEndIs, piece-constant}
 use Rattle.track.specs.span.Runs.{part}
 use Rattle.track.proofs.span.Spans.{part-length, part-at, source-on}
 
@@ -250,7 +250,7 @@ module _ {starts : List Float} {clips : List ℕ} {xs ys blocks : List Float} {m
             around : NeighboursAre (gathered set s p) (ofKey j) (record { lower = At (H .m); upper = At (H .n) })
             around = subst (λ (x : List Float). NeighboursAre x (ofKey j) (record { lower = At (H .m); upper = At (H .n) })) (sym (window-gathered R p w W)) (record { lower = H .lower; upper = H .upper })
 
-            is-held : heldOf (knotsOf xs ys) (At (H .m)) (At (H .n)) ≡ At (H .m)
+            is-held : heldOf xs (At (H .m)) (At (H .n)) ≡ At (H .m)
             is-held = ap (λ (x : Bool). cond x Nothing (At (H .m))) (H .level)
 
             piece : CellAndEndIs set s (ofKey j) (Constant (directSource set s (stage (H .m)))) (At (H .n))

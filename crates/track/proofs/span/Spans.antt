@@ -40,8 +40,9 @@ use Rattle.value.specs.Answers.{answerIn, Answerable}
 use Rattle.value.proofs.Answers.{says-ready, value-in}
 use Rattle.cell.specs.declared.Cell.{Cell}
 use Rattle.cell.specs.declared.Cell.the-variants.{Constant, Reading}
-use Rattle.cell.specs.CellAndEnd.{cellIs, Sampled, CellAndEndIs}
+use Rattle.cell.specs.CellAndEnd.{cellIs}
 use Rattle.cell.specs.EndKeys.{endKey}
+use Rattle.cell.proofs.CellsRead.{Sampled, CellAndEndIs}
 use Rattle.cell.proofs.Lent.{sound, samples}
 use Rattle.cell.proofs.LastKeys.{hi-keys, hi-clear, same-place}
 use Rattle.track.specs.span.Runs.{part, Run, Runs, readOn, entryOn}
@@ -197,7 +198,7 @@ module _ {starts : List Float} {clips : List ℕ} {xs ys blocks : List Float} {m
     abbrev hi : ℕ
     hi = min top (endKey e - 1)
 
-    pub span-keys : Keys k (min top (endKey e - 1))
+    span-keys : Keys k (min top (endKey e - 1))
     span-keys = hi-keys set s (sound R) (samples R) k top K e (P .ends)
 
     clear : NonePassed k hi (boundaries set s (stage (ofKey k)))
@@ -225,18 +226,6 @@ module _ {starts : List Float} {clips : List ℕ} {xs ys blocks : List Float} {m
             (same-place set s (sound R) (samples R) k top K e (P .ends) c line (ap cellIs (sym q) ∙ P .is) (part times ends c) (unfold clipTimes in refl))
             k hi (cell-turning set s (sound R) (samples R) k hi span-keys clear)
 
-    told : Told set s k hi cell
-    told = record { keys = span-keys; reads = source-on; clip = P .clip; turns = turns-on }
-
-    pub span-sayable : Answerable (length values) ends (readOn times ends cell k)
-    span-sayable = told-sayable R k hi cell told
-
-    pub span-here : entryOf (answerIn m values marks ends (readOn times ends cell k)) ≡ entryAtKey (setOf (length ends) starts clips xs ys blocks m) (samplesOf times values marks ends) k
-    span-here = told-here R k hi cell told
-
-    pub span-runs : Runs times values marks ends cell k (min top (endKey e - 1))
-    span-runs = told-runs R k hi cell told
-
-    pub span-says : (here : Entry) → here ≡ entryAtKey (setOf (length ends) starts clips xs ys blocks m) (samplesOf times values marks ends) k
-        → Agree k (min top (endKey e - 1)) (entryAtKey (setOf (length ends) starts clips xs ys blocks m) (samplesOf times values marks ends)) (entryOn times values marks ends cell here)
-    span-says = told-says R k hi cell told
+    -- its cell reads the value up to its last key
+    pub piece-told : Told (setOf (length ends) starts clips xs ys blocks m) (samplesOf times values marks ends) k (min top (endKey e - 1)) cell
+    piece-told = record { keys = span-keys; reads = source-on; clip = P .clip; turns = turns-on }

@@ -8,10 +8,10 @@ use run::inside::fill_run;
 use run::walk::Went;
 use sdf::part::clip_begin;
 use sdf::part::clip_end;
-ghost use Rattle.definitions.specs.Moments.{was, after};
+ghost use Rattle.definitions.specs.Moments.{was};
 ghost use Rattle.laws.specs.cell.Keys.{Keys};
 ghost use Rattle.cell.specs.step.Entries.{entryIs};
-ghost use Rattle.run.specs.Walks.{outputs, Room, Walked};
+ghost use Rattle.run.specs.Walks.{outputs, outputsWas, outputsAfter, Room, Walked};
 ghost use Rattle.track.specs.span.Runs.{Runs, SpanIs, entryOn, entryBy};
 
 // Writes the changes above the key k and up to hi in a cell that says `here` at k, from slot n on.
@@ -33,7 +33,7 @@ fn fill_cell(
     requires { ⌜ Keys k hi ⌝ }
     requires { ⌜ Runs (now times) (now values) (now marks) (now ends) cell k hi ⌝ }
     requires { ⌜ Room room n (outputs (now outtimes) (now outvalues) (now outmarks)) ⌝ }
-    ensures { λ r. ⌜ Walked (entryOn (was times) (was values) (was marks) (was ends) cell (entryIs here)) k hi room n (outputs (was outtimes) (was outvalues) (was outmarks)) (outputs (after outtimes) (after outvalues) (after outmarks)) r ⌝ }
+    ensures { λ r. ⌜ Walked (entryOn (was times) (was values) (was marks) (was ends) cell (entryIs here)) k hi room n (outputsWas outtimes outvalues outmarks) (outputsAfter outtimes outvalues outmarks) r ⌝ }
 {
     let Cell::Reading(clip, line) = cell else {
         return Went {
@@ -77,7 +77,7 @@ pub fn fill_in(
     requires { ⌜ Keys k (s .hi) ⌝ }
     requires { ⌜ SpanIs (now times) (now values) (now marks) (now ends) (s .way) (entryIs (s .here)) k (s .hi) ⌝ }
     requires { ⌜ Room room n (outputs (now outtimes) (now outvalues) (now outmarks)) ⌝ }
-    ensures { λ r. ⌜ Walked (entryBy (was times) (was values) (was marks) (was ends) (s .way) (entryIs (s .here))) k (s .hi) room n (outputs (was outtimes) (was outvalues) (was outmarks)) (outputs (after outtimes) (after outvalues) (after outmarks)) r ⌝ }
+    ensures { λ r. ⌜ Walked (entryBy (was times) (was values) (was marks) (was ends) (s .way) (entryIs (s .here))) k (s .hi) room n (outputsWas outtimes outvalues outmarks) (outputsAfter outtimes outvalues outmarks) r ⌝ }
 {
     let way = s.way;
     let here = s.here;
@@ -98,14 +98,13 @@ pub fn fill_in(
             outvalues,
             outmarks,
         ),
-        ReadBy::ByRun(clip, floor, segment, near) => {
+        ReadBy::ByRun(clip, _, segment, near) => {
             let a = clip_begin(ends, clip);
             let b = clip_end(ends, clip);
             fill_run(
                 &times[a..b],
                 &values[a..b],
                 &marks[a..b],
-                floor,
                 segment,
                 here,
                 near,

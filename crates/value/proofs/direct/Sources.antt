@@ -21,7 +21,7 @@ use Rattle.definitions.specs.Value.{_orElse_, blockedAt, contributes, readClip,
 use Rattle.laws.specs.cell.Lent.{start, activeOf, setOf, samplesOf, AcceptedLists}
 use Rattle.laws.proofs.cell.Lent.{zip-here}
 use Rattle.window.proofs.Parts.{ready-active, ready-position}
-use Rattle.value.proofs.direct.ReadsLaws.{readPart}
+use Rattle.value.specs.direct.Reads.{readPart}
 use Rattle.value.specs.direct.Sources.{standIn}
 
 module _ (set : ClipSet) (s : Samples) (p : ℕ) where

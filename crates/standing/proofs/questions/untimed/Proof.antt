@@ -1,4 +1,6 @@
 -- `standing::questions::untimed` meets its contract: the lists that it lends are the set's. Assumes nothing.
+use mathlib.Core.Path.{_∙_}
+use Rattle.value.proofs.UntimedLaws.{clips-named, untimed-is}
 use borrow.Author.Needs.{needs}
 use Rattle.standing.proofs.Arrays.{front}
 use Rattle.standing.proofs.questions.untimed.Statement.{statement}
@@ -7,32 +9,11 @@ use Rattle.standing.proofs.questions.untimed.Tie as tie
 slice-aggregate-untimed-answer-in-set : tie.Need-slice-aggregate-untimed-answer-in-set
 slice-aggregate-untimed-answer-in-set c = search (needs, front)
 
-slice-aggregate-untimed-answer-in-set-2 : tie.Need-slice-aggregate-untimed-answer-in-set-2
-slice-aggregate-untimed-answer-in-set-2 c = search (needs, front)
-
-slice-aggregate-untimed-answer-in-set-3 : tie.Need-slice-aggregate-untimed-answer-in-set-3
-slice-aggregate-untimed-answer-in-set-3 c = search (needs, front)
-
-slice-aggregate-untimed-answer-in-set-4 : tie.Need-slice-aggregate-untimed-answer-in-set-4
-slice-aggregate-untimed-answer-in-set-4 c = search (needs, front)
-
-slice-aggregate-untimed-answer-in-set-5 : tie.Need-slice-aggregate-untimed-answer-in-set-5
-slice-aggregate-untimed-answer-in-set-5 c = search (needs, front)
-
 untimed-answer-in-set-requires : tie.Need-untimed-answer-in-set-requires
-untimed-answer-in-set-requires c κs = search needs
+untimed-answer-in-set-requires c κs = clips-named (c .before .before .before .before .before .before .before .before .before .before .pre .ready)
 
 returns : tie.Need-returns
-returns c = search needs
+returns c = c .untimed-answer-in-set .ensures ∙ untimed-is (c .before .before .before .before .before .before .before .before .before .before .before .pre .ready)
 
 pub untimed-spec : {M : Type 1} → statement M
-untimed-spec =
-    tie.close
-    (tie.spec
-    slice-aggregate-untimed-answer-in-set
-    slice-aggregate-untimed-answer-in-set-2
-    slice-aggregate-untimed-answer-in-set-3
-    slice-aggregate-untimed-answer-in-set-4
-    slice-aggregate-untimed-answer-in-set-5
-    untimed-answer-in-set-requires
-    returns)
+untimed-spec = tie.close (tie.spec slice-aggregate-untimed-answer-in-set untimed-answer-in-set-requires returns)

@@ -9,23 +9,22 @@ use Rattle.definitions.specs.declared.Source.the-variants.{Sample}
 use Rattle.laws.specs.list.Places.{Ascending}
 use Rattle.cell.specs.step.Lines.{placeOn}
 use Rattle.cell.specs.declared.Cell.{Cell}
-use Rattle.track.specs.span.Runs.{part, Run, Runs, readOn}
+use Rattle.track.specs.span.Runs.{part, readOn}
+use Rattle.track.specs.span.Steps.{ReadPart, Readable}
 use borrow.Author.Needs.{needs}
 use Rattle.track.proofs.span.read_on.Statement.{statement}
 use Rattle.track.proofs.span.read_on.Tie as tie
 
 abbrev entry : tie.After-known-told2 → tie.Start
-entry c = c .before .before .before .before .before .before .before
+entry c = c .before .before .before .before .before
 
 -- the clip's part can be read
-run : (c : tie.After-known-told2) → Run (entry c .args .times .now) (entry c .args .values .now) (entry c .args .marks .now) (entry c .args .ends .now) (c .before .cell2 .given .0 .0) (c .before .cell2 .given .0 .1 .0) (entry c .args .k) (entry c .args .hi)
-run c =
-    let a = entry c .args in
-    subst (λ (d : Cell). Runs (a .times .now) (a .values .now) (a .marks .now) (a .ends .now) d (a .k) (a .hi)) (c .before .cell2 .given .1) (entry c .pre .1)
+read : (c : tie.After-known-told2) → ReadPart (entry c .args .times .now) (entry c .args .ends .now) (c .before .cell2 .given .0 .0)
+read c = let a = entry c in subst (Readable (a .args .times .now) (a .args .ends .now)) (c .before .cell2 .given .1) (a .pre .1)
 
 part-inside : (c : tie.After-clip-end) → (c .before .clip-begin .result ≤ c .clip-end .result) × (c .clip-end .result ≤ length (entry (c .before .before) .args .times .now))
 part-inside c =
-    let R = run (c .before .before) in
+    let R = read (c .before .before) in
     let b = c .before .clip-begin .ensures in
     let e = c .clip-end .ensures in
     (omega (arith, R .from), omega (arith, R .inside))
@@ -40,10 +39,10 @@ enum-known-cell-2 : tie.Need-enum-known-cell-2
 enum-known-cell-2 c = search needs
 
 clip-begin-requires : tie.Need-clip-begin-requires
-clip-begin-requires c κs = run c .clip
+clip-begin-requires c κs = read c .clip
 
 clip-end-requires : tie.Need-clip-end-requires
-clip-end-requires c κs = run (c .before) .clip
+clip-end-requires c κs = read (c .before) .clip
 
 mul-place-on : tie.Need-mul-place-on
 mul-place-on c = let h = part-inside c in omega (arith, entry (c .before .before) .good)
@@ -61,7 +60,7 @@ place-on-requires : tie.Need-place-on-requires
 place-on-requires c κs =
     let a = entry (c .before .before .before) in
     let K = a .pre .0 in
-    (subst Ascending (sym (part-is (c .before))) (run (c .before .before .before) .reads .ascending), (K .low, omega (arith, K .order, K .high)))
+    (subst Ascending (sym (part-is (c .before))) (read (c .before .before .before) .rising), (K .low, K .high))
 
 returns : tie.Need-returns
 returns c = search needs

@@ -5,6 +5,7 @@ use borrow.Author.Tests.{not-true, not-false}
 use Rattle.definitions.specs.declared.Source.the-variants.{Sample as sample}
 use Rattle.value.specs.direct.Reads.{readingIs}
 use Rattle.value.proofs.direct.Sources.{stands-default, stands-off, stands-before, stands-after, stands-none}
+use Rattle.value.proofs.direct.ReadsLaws.{first-is, search-asks}
 use borrow.Author.Needs.{needs}
 use Rattle.value.proofs.direct.interpolate_missing_value.Statement.{statement}
 use Rattle.value.proofs.direct.interpolate_missing_value.Tie as tie
@@ -28,7 +29,7 @@ returns-2 c =
 nearest-before-requires : tie.Need-nearest-before-requires
 nearest-before-requires c κs =
     let s = entry (searching c) in
-    (s .pre .0, omega arith)
+    (search-asks (s .pre .0), omega arith)
 
 enum-known-back : tie.Need-enum-known-back
 enum-known-back c = search needs
@@ -38,7 +39,7 @@ returns-3 c =
     let k = c .before .before .before .before in
     let s = entry (searching k) in
     let g = c .before .back .given in
-    stands-before (s .pre .0) (s .args .p) (k .before .before .if1 .left) (not-false (s .args .m .interpolate) (k .if2 .left)) (sample (g .0 .0) (g .0 .1 .0)) (sym (ap readingIs (g .1)) ∙ c .before .before .before .nearest-before .ensures)
+    stands-before (s .pre .0) (s .args .p) (k .before .before .if1 .left) (not-false (s .args .m .interpolate) (k .if2 .left)) (sample (g .0 .0) (g .0 .1 .0)) (sym (ap readingIs (g .1)) ∙ c .before .before .before .nearest-before .ensures ∙ first-is (s .pre .0) _)
 
 enum-told : tie.Need-enum-told
 enum-told c = search needs
@@ -49,7 +50,7 @@ add-next c = search needs
 nearest-from-requires : tie.Need-nearest-from-requires
 nearest-from-requires c κs =
     let s = entry (searching (c .before .before .before)) in
-    (s .pre .0, omega arith)
+    (search-asks (s .pre .0), omega arith)
 
 enum-known-on : tie.Need-enum-known-on
 enum-known-on c = search needs
@@ -62,7 +63,7 @@ returns-4 c =
     let s = entry (searching k) in
     let g = c .before .on .given in
     stands-after (s .pre .0) (s .args .p) (k .before .before .if1 .left) (not-false (s .args .m .interpolate) (k .if2 .left)) (sample (g .0 .0) (g .0 .1 .0))
-    (sym (ap readingIs (b .enum-told .given .1)) ∙ b .before .before .nearest-before .ensures) (sym (ap readingIs (g .1)) ∙ n .nearest-from .ensures)
+    (sym (ap readingIs (b .enum-told .given .1)) ∙ b .before .before .nearest-before .ensures ∙ first-is (s .pre .0) _) (sym (ap readingIs (g .1)) ∙ n .nearest-from .ensures ∙ first-is (s .pre .0) _)
 
 enum-told-2 : tie.Need-enum-told-2
 enum-told-2 c = search needs
@@ -74,7 +75,7 @@ returns-5 c =
     let k = b .before .before .before in
     let s = entry (searching k) in
     stands-none (s .pre .0) (s .args .p) (k .before .before .if1 .left) (not-false (s .args .m .interpolate) (k .if2 .left))
-    (sym (ap readingIs (b .enum-told .given .1)) ∙ b .before .before .nearest-before .ensures) (sym (ap readingIs (c .enum-told2 .given .1)) ∙ n .nearest-from .ensures)
+    (sym (ap readingIs (b .enum-told .given .1)) ∙ b .before .before .nearest-before .ensures ∙ first-is (s .pre .0) _) (sym (ap readingIs (c .enum-told2 .given .1)) ∙ n .nearest-from .ensures ∙ first-is (s .pre .0) _)
 
 pub interpolate-missing-value-spec : {M : Type 1} → statement M
 interpolate-missing-value-spec =

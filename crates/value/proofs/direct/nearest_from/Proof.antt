@@ -4,19 +4,18 @@ use Prim.Native.Nat.{_-_, _≤_}
 use native.Mathlib.Omega.{arith}
 use lib.ListN.{length, drop}
 use Rattle.definitions.specs.declared.Source.the-variants.{Sample as sample}
-use Rattle.definitions.specs.Value.{firstReading}
-use Rattle.laws.specs.cell.Lent.{activeOf, setOf, samplesOf}
-use Rattle.value.specs.direct.Reads.{readingIs}
+use Rattle.laws.specs.cell.Lent.{activeOf}
+use Rattle.value.specs.direct.Reads.{readingIs, firstRead}
 use Rattle.value.proofs.direct.ReadsLaws.{from-found, from-on, from-end}
 use borrow.Author.Needs.{needs}
 use Rattle.value.proofs.direct.nearest_from.Statement.{statement}
 use Rattle.value.proofs.direct.nearest_from.Tie as tie
 
 abbrev Inv-loop : tie.InvT-loop
-Inv-loop starts clips xs ys blocks m times values marks ends p i₀ i = (i ≤ length starts) × (firstReading (setOf (length ends) starts clips xs ys blocks m) (samplesOf times values marks ends) (drop p (activeOf starts clips)) ≡ firstReading (setOf (length ends) starts clips xs ys blocks m) (samplesOf times values marks ends) (drop i (activeOf starts clips)))
+Inv-loop starts clips xs ys blocks times values marks ends p i₀ i = (i ≤ length starts) × (firstRead blocks xs ys times ends (drop p (activeOf starts clips)) ≡ firstRead blocks xs ys times ends (drop i (activeOf starts clips)))
 
 abbrev μ-loop : tie.MeasureT-loop
-μ-loop starts clips xs ys blocks m times values marks ends p i₀ i = length starts - i
+μ-loop starts clips xs ys blocks times values marks ends p i₀ i = length starts - i
 
 abbrev entry : tie.At-loop Inv-loop μ-loop → tie.Start Inv-loop μ-loop
 entry k = k .before .before .before .before .before .before .before .before .before .before
@@ -34,7 +33,7 @@ returns : tie.Need-returns Inv-loop μ-loop
 returns c =
     let g = c .before .found .given in
     let k = c .before .before .before .before .before in
-    sym (k .loop .inv .1 ∙ from-found (entry k .pre .0) (k .loop .i) (omega arith) (sample (g .0 .0) (g .0 .1 .0)) (sym (ap readingIs (g .1)) ∙ c .before .before .before .read-start .ensures))
+    sym (k .loop .inv .1 ∙ let a = entry k .args in from-found (a .blocks .now) (a .xs .now) (a .ys .now) (a .times .now) (a .ends .now) (a .starts .now) (a .clips .now) (entry k .pre .0 .paired) (k .loop .i) (omega arith) (sample (g .0 .0) (g .0 .1 .0)) (sym (ap readingIs (g .1)) ∙ c .before .before .before .read-start .ensures))
 
 enum-told : tie.Need-enum-told Inv-loop μ-loop
 enum-told c = search needs
@@ -48,12 +47,12 @@ loop-less c = omega arith
 loop-again : tie.Need-loop-again Inv-loop μ-loop
 loop-again c =
     let k = c .before .before .before .before in
-    (omega arith, k .loop .inv .1 ∙ from-on (entry k .pre .0) (k .loop .i) (omega arith) (sym (ap readingIs (c .enum-told .given .1)) ∙ c .before .before .read-start .ensures))
+    (omega arith, k .loop .inv .1 ∙ let a = entry k .args in from-on (a .blocks .now) (a .xs .now) (a .ys .now) (a .times .now) (a .ends .now) (a .starts .now) (a .clips .now) (entry k .pre .0 .paired) (k .loop .i) (omega arith) (sym (ap readingIs (c .enum-told .given .1)) ∙ c .before .before .read-start .ensures))
 
 returns-2 : tie.Need-returns-2 Inv-loop μ-loop
 returns-2 c =
     let k = c .before in
-    sym (k .loop .inv .1 ∙ from-end (entry k .pre .0) (k .loop .i) (omega arith))
+    sym (k .loop .inv .1 ∙ let a = entry k .args in from-end (a .blocks .now) (a .xs .now) (a .ys .now) (a .times .now) (a .ends .now) (a .starts .now) (a .clips .now) (entry k .pre .0 .paired) (k .loop .i) (omega arith))
 
 pub nearest-from-spec : {M : Type 1} → statement M
 nearest-from-spec =

@@ -1,7 +1,6 @@
 -- `value::direct::read_start` meets its contract. Assumes nothing.
 use mathlib.Core.Path.{sym, ap, _∙_}
 use denote.Ref.{now}
-use Rattle.window.proofs.Parts.{ready-clip, ready-readable}
 use Rattle.sdf.specs.look.Reads.{heldIs}
 use Rattle.value.proofs.direct.ReadsLaws.{start-blocked, start-read, part-read, part-none}
 use borrow.Author.Needs.{needs}
@@ -21,7 +20,7 @@ blocked-at-requires : tie.Need-blocked-at-requires
 blocked-at-requires c κs = search needs
 
 returns : tie.Need-returns
-returns c = let s = entry (c .before) in start-blocked (s .pre .0) (s .args .i) (sym (c .before .blocked-at .ensures) ∙ c .if1 .taken)
+returns c = let s = entry (c .before) in let a = s .args in start-blocked (now (a .blocks)) (now (a .xs)) (now (a .ys)) (now (a .times)) (now (a .ends)) (now (a .starts)) (now (a .clips)) (s .pre .0 .paired) (a .i) (sym (c .before .blocked-at .ensures) ∙ c .if1 .taken)
 
 mul-clip : tie.Need-mul-clip
 mul-clip c = search needs
@@ -33,7 +32,7 @@ read-clip-requires : tie.Need-read-clip-requires
 read-clip-requires c κs =
     let s = entry (c .before .before) in
     let R = s .pre .0 in
-    (ready-readable R, (ready-clip R (s .args .i) (s .pre .1), (R .accepted .values, R .accepted .marks)))
+    (R .readable, (R .named (s .args .i) (s .pre .1), (R .valued, R .flagged)))
 
 enum-known-place : tie.Need-enum-known-place
 enum-known-place c = search needs
@@ -48,7 +47,7 @@ returns-2 c =
     let s = entry (e .before) in
     let a = s .args in
     part-none (now (a .xs)) (now (a .ys)) (now (a .times)) (now (a .values)) (now (a .marks)) (now (a .ends)) _ _ (sym (ap heldIs (c .enum-told .given .1)) ∙ r .read-clip .ensures)
-    ∙ start-read (s .pre .0) (a .i) (sym (e .before .blocked-at .ensures) ∙ e .if1 .left)
+    ∙ start-read (now (a .blocks)) (now (a .xs)) (now (a .ys)) (now (a .times)) (now (a .ends)) (now (a .starts)) (now (a .clips)) (s .pre .0 .paired) (a .i) (sym (e .before .blocked-at .ensures) ∙ e .if1 .left)
 
 returns-3 : tie.Need-returns-3
 returns-3 c =
@@ -58,7 +57,7 @@ returns-3 c =
     let s = entry (e .before) in
     let a = s .args in
     part-read (now (a .xs)) (now (a .ys)) (now (a .times)) (now (a .values)) (now (a .marks)) (now (a .ends)) _ _ _ _ (sym (ap heldIs (p .place .given .1)) ∙ r .read-clip .ensures)
-    ∙ start-read (s .pre .0) (a .i) (sym (e .before .blocked-at .ensures) ∙ e .if1 .left)
+    ∙ start-read (now (a .blocks)) (now (a .xs)) (now (a .ys)) (now (a .times)) (now (a .ends)) (now (a .starts)) (now (a .clips)) (s .pre .0 .paired) (a .i) (sym (e .before .blocked-at .ensures) ∙ e .if1 .left)
 
 pub read-start-spec : {M : Type 1} → statement M
 read-start-spec =

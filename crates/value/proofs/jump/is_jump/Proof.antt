@@ -8,20 +8,20 @@ use lib.ListN.{length, getD}
 use lib.Ieee.{nan, binary64, fits}
 use denote.Ref.{now}
 use Rattle.definitions.specs.Timing.{lastAtMost}
-use Rattle.window.proofs.Pairs.{jumpsAt, jump-by-x}
+use Rattle.value.specs.Jumps.{jumpsAt}
 use Rattle.value.proofs.Jumps.{any-none, none-above, none-step, none-all, one-here, last-place}
 use borrow.Author.Needs.{needs}
 use Rattle.value.proofs.jump.is_jump.Statement.{statement}
 use Rattle.value.proofs.jump.is_jump.Tie as tie
 
 abbrev Inv-loop : tie.InvT-loop
-Inv-loop xs ys lower upper knot i₀ i = (i ≤ lastAtMost xs upper) × ((j : ℕ) → i ≤ j → j + 1 < length xs → jumpsAt lower upper (getD xs j nan, getD xs (j + 1) nan) ≡ false)
+Inv-loop xs lower upper knot i₀ i = (i ≤ lastAtMost xs upper) × ((j : ℕ) → i ≤ j → j + 1 < length xs → jumpsAt lower upper (getD xs j nan, getD xs (j + 1) nan) ≡ false)
 
 abbrev μ-loop : tie.MeasureT-loop
-μ-loop xs ys lower upper knot i₀ i = i
+μ-loop xs lower upper knot i₀ i = i
 
 abbrev entry : tie.At-loop Inv-loop μ-loop → tie.Start Inv-loop μ-loop
-entry k = k .before .before .before .before
+entry k = k .before .before .before
 
 -- what owning them tells: the format holds them
 fits-lower : (s : tie.Start Inv-loop μ-loop) → T (fits binary64 (s .args .lower))
@@ -32,16 +32,16 @@ fits-upper s = search needs
 
 -- a place down from the last knot at most the upper one is a knot's
 inside : (k : tie.At-loop Inv-loop μ-loop) → 0 < k .loop .i → k .loop .i < length (now (entry k .args .xs))
-inside k h = let s = entry k in let a = s .args in last-place (now (a .xs)) (s .pre .0) (a .lower) (a .upper) (fits-lower s) (fits-upper s) (k .loop .i) (k .loop .inv .0) h
+inside k h = let s = entry k in let a = s .args in last-place (now (a .xs)) (s .pre) (a .lower) (a .upper) (fits-lower s) (fits-upper s) (k .loop .i) (k .loop .inv .0) h
 
 last-at-most-near-requires : tie.Need-last-at-most-near-requires Inv-loop μ-loop
 last-at-most-near-requires c κs = search needs
 
 loop-holds : tie.Need-loop-holds Inv-loop μ-loop
 loop-holds c =
-    let s = c .before .before .before in
+    let s = c .before .before in
     let a = s .args in
-    (omega (arith, c .last-at-most-near .ensures), λ j l h. none-above (now (a .xs)) (s .pre .0) (a .lower) (a .upper) (fits-lower s) (fits-upper s) j (omega (arith, c .last-at-most-near .ensures)) h)
+    (omega (arith, c .last-at-most-near .ensures), λ j l h. none-above (now (a .xs)) (s .pre) (a .lower) (a .upper) (fits-lower s) (fits-upper s) j (omega (arith, c .last-at-most-near .ensures)) h)
 
 mul-x : tie.Need-mul-x Inv-loop μ-loop
 mul-x c = let h = inside (c .before) (omega arith) in search needs
@@ -63,8 +63,8 @@ returns c =
     let k = c .before .before .before .before .before in
     let s = entry k in
     let a = s .args in
-    sym (jump-by-x (a .lower) (a .upper) (now (a .xs)) (now (a .ys)) (s .pre .1)
-    ∙ one-here (now (a .xs)) (s .pre .0) (a .lower) (a .upper) (fits-lower s) (fits-upper s) (k .loop .i - 1) (k .loop .i) (omega arith) (k .loop .inv .0) (inside k (omega arith)) (c .before .before .if1 .taken) (c .if2 .taken))
+    sym
+    (one-here (now (a .xs)) (s .pre) (a .lower) (a .upper) (fits-lower s) (fits-upper s) (k .loop .i - 1) (k .loop .i) (omega arith) (k .loop .inv .0) (inside k (omega arith)) (c .before .before .if1 .taken) (c .if2 .taken))
 
 loop-less : tie.Need-loop-less Inv-loop μ-loop
 loop-less c = omega arith
@@ -74,21 +74,21 @@ loop-again c =
     let k = c .before .before .before .before .before in
     let s = entry k in
     let a = s .args in
-    (omega arith, none-step (now (a .xs)) (s .pre .0) (a .lower) (a .upper) (fits-lower s) (fits-upper s) (k .loop .i - 1) (k .loop .i) (omega arith) (c .if2 .left) (k .loop .inv .1))
+    (omega arith, none-step (now (a .xs)) (s .pre) (a .lower) (a .upper) (fits-lower s) (fits-upper s) (k .loop .i - 1) (k .loop .i) (omega arith) (c .if2 .left) (k .loop .inv .1))
 
 returns-2 : tie.Need-returns-2 Inv-loop μ-loop
 returns-2 c =
     let k = c .before .before .before in
     let s = entry k in
     let a = s .args in
-    sym (jump-by-x (a .lower) (a .upper) (now (a .xs)) (now (a .ys)) (s .pre .1) ∙ none-all (now (a .xs)) (s .pre .0) (a .lower) (a .upper) (fits-lower s) (fits-upper s) (k .loop .i) (c .if1 .left) (inside k (omega arith)) (k .loop .inv .1))
+    sym (none-all (now (a .xs)) (s .pre) (a .lower) (a .upper) (fits-lower s) (fits-upper s) (k .loop .i) (c .if1 .left) (inside k (omega arith)) (k .loop .inv .1))
 
 returns-3 : tie.Need-returns-3 Inv-loop μ-loop
 returns-3 c =
     let k = c .before in
     let s = entry k in
     let a = s .args in
-    sym (jump-by-x (a .lower) (a .upper) (now (a .xs)) (now (a .ys)) (s .pre .1) ∙ any-none (jumpsAt (a .lower) (a .upper)) (now (a .xs)) (λ j h. k .loop .inv .1 j (omega arith) h))
+    sym (any-none (jumpsAt (a .lower) (a .upper)) (now (a .xs)) (λ j h. k .loop .inv .1 j (omega arith) h))
 
 pub is-jump-spec : {M : Type 1} → statement M
 is-jump-spec =

@@ -11,7 +11,7 @@ use Rattle.run.specs.Walks.{outputs, Walked}
 use Rattle.run.specs.Runs.{passingAt, Passing}
 use Rattle.track.specs.declared.span.ReadBy.{ReadBy}
 use Rattle.track.specs.span.Runs.{PastRun, SpanIs, entryBy}
-use Rattle.track.proofs.span.Cuts.{uncut, recut}
+use Rattle.track.proofs.span.Cuts.{cut, uncut, recut}
 use borrow.Author.Needs.{needs}
 use Rattle.track.proofs.span.fill.fill_in.Statement.{statement}
 use Rattle.track.proofs.span.fill.fill_in.Tie as tie
@@ -44,6 +44,14 @@ inside c =
     let v = R .valued in
     let m = R .flagged in
     (omega arith, omega arith, omega arith, omega arith)
+
+-- in the slices that were cut out
+passing : (e : tie.After-clip-end) → Passing (cut (entry (e .before .before) .args .times .now) (e .before .clip-begin .result) (e .clip-end .result)) (cut (entry (e .before .before) .args .values .now) (e .before .clip-begin .result) (e .clip-end .result)) (cut (entry (e .before .before) .args .marks .now) (e .before .clip-begin .result) (e .clip-end .result)) (pair (e .before .before)) (floor (e .before .before)) (entryIs (entry (e .before .before) .args .s .here)) (entry (e .before .before) .args .k) (entry (e .before .before) .args .s .hi)
+passing e =
+    let t = e .before .before in
+    let a = entry t .args in
+    recut (a .times .now) (a .values .now) (a .marks .now) (a .ends .now) (clip t) (e .before .clip-begin .result) (e .clip-end .result) (e .before .clip-begin .ensures) (e .clip-end .ensures)
+    (λ (ts vs : List Float) (ms : List ℕ). Passing ts vs ms (pair t) (floor t) (entryIs (a .s .here)) (a .k) (a .s .hi)) (run t .passing)
 
 enum-known-way : tie.Need-enum-known-way
 enum-known-way c = search needs
@@ -103,8 +111,7 @@ fill-run-requires c κs =
     let e = c .before .before .before .before .before .before in
     let t = e .before .before in
     let a = entry t .args in (
-      recut (a .times .now) (a .values .now) (a .marks .now) (a .ends .now) (clip t) (e .before .clip-begin .result) (e .clip-end .result) (e .before .clip-begin .ensures) (e .clip-end .ensures)
-          (λ (ts vs : List Float) (ms : List ℕ). Passing ts vs ms (pair t) (floor t) (entryIs (a .s .here)) (a .k) (a .s .hi)) (run t .passing),
+      record { floor = floor t; passing = passing e },
       entry t .pre .1 .1,
     )
 
@@ -142,14 +149,14 @@ returns-2 c =
     let t = e .before .before in
     let a = entry t .args in
     let r = f .fill-run .result in
-    let o = f .fill-run .last .1 .1 .1 .1 .1 .1 .1 .1 .1 .1 .1 in
+    let o = f .fill-run .last .1 .1 .1 .1 .1 .1 .1 .1 .1 .1 in
     let p = outputs (a .outtimes .now) (a .outvalues .now) (a .outmarks .now) in
     let q = outputs (o .0) (o .1 .0) (o .1 .1 .0) in
     subst (λ (d : ReadBy). Walked (entryBy (a .times .now) (a .values .now) (a .marks .now) (a .ends .now) d (entryIs (a .s .here))) (a .k) (a .s .hi) (a .room) (a .n) p q r)
     (sym (t .before .way2 .given .1))
     (uncut (a .times .now) (a .values .now) (a .marks .now) (a .ends .now) (clip t) (e .before .clip-begin .result) (e .clip-end .result) (e .before .clip-begin .ensures) (e .clip-end .ensures)
     (λ (ts vs : List Float) (ms : List ℕ). Walked (passingAt ts vs ms (pair t) (floor t)) (a .k) (a .s .hi) (a .room) (a .n) p q r)
-    (f .fill-run .ensures))
+    (f .fill-run .ensures (floor t) (passing e)))
 
 pub fill-in-spec : {M : Type 1} → statement M
 fill-in-spec =
