@@ -243,16 +243,9 @@ impl Resolver {
             return UntimedReply::Refused(number);
         }
         UntimedReply::Answered(questions::untimed(
-            &self.set.starts,
             &self.set.numbers,
-            &self.set.xs,
-            &self.set.ys,
-            &self.set.blocks,
-            self.set.counts,
+            self.set.counts.starts,
             self.set.manifest,
-            times,
-            values,
-            marks,
             ends,
         ))
     }

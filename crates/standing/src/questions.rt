@@ -10,18 +10,20 @@ use track::bake::Baked;
 use value::untimed::ValueState;
 ghost use mathlib.Core.Path.{_≡_};
 ghost use mathlib.Core.List.{[]};
+ghost use Prim.Native.Nat.{ℕ, _<_};
 ghost use lib.Dec.{T};
-ghost use lib.ListN.{take};
+ghost use lib.ListN.{length, take};
 ghost use lib.Ieee.Scale.{finite};
 ghost use Rattle.definitions.specs.ClipSet.{maxActive, maxKnots};
-ghost use Rattle.definitions.specs.StageSamples.{stageSamples, untimedAnswer};
+ghost use Rattle.definitions.specs.StageSamples.{stageSamples};
 ghost use Rattle.definitions.specs.Timing.{activeEntry, clipOf, mapStageToClip};
 ghost use Rattle.definitions.specs.Value.{valueInSet};
 ghost use Rattle.definitions.specs.Moments.{was, after, outsWere, outsLeft};
+ghost use Rattle.laws.specs.list.Every.{Every};
 ghost use Rattle.laws.specs.list.Places.{Ascending};
 ghost use Rattle.laws.specs.cell.Lent.{activeOf, knotsOf, samplesWere, AcceptedLists};
 ghost use Rattle.clip.specs.Holding.{Room};
-ghost use Rattle.value.specs.Untimed.{stateIs};
+ghost use Rattle.value.specs.Untimed.{stateIs, untimedOf};
 ghost use Rattle.track.specs.Bakes.{BakeIs};
 ghost use Rattle.standing.specs.Lists.{countOf, ListsTimes, ListsSamples};
 ghost use Rattle.standing.specs.Standing.{Asked, TimesAsked, lentTimes, SamplesAsked, answered};
@@ -89,23 +91,10 @@ pub fn value<'a>(
 }
 
 // Whether there is a value at all.
-pub fn untimed<'a>(
-    starts: &'a [f64],
-    numbers: &'a [u64],
-    xs: &'a [f64],
-    ys: &'a [f64],
-    blocks: &'a [f64],
-    counts: Counts,
-    m: Missing,
-    times: &[f64],
-    values: &[f64],
-    marks: &[u8],
-    ends: &[u64],
-) -> ValueState
-    requires { ⌜ Asked counts (now starts) (now numbers) (now xs) (now ys) (now blocks) m (now times) (now values) (now marks) (now ends) ⌝ }
-    ensures { λ r. ⌜ stateIs r ≡ untimedAnswer (setWas counts starts numbers xs ys blocks m ends) (samplesWere times values marks ends) ⌝ }
+pub fn untimed(numbers: &[u64], n: usize, m: Missing, ends: &[u64]) -> ValueState
+    requires { ⌜ Room maxActive (now numbers) n ⌝ ∗ ⌜ Every (λ (c : ℕ). c < length (now ends)) (take n (now numbers)) ⌝ }
+    ensures { λ r. ⌜ stateIs r ≡ untimedOf (take n (was numbers)) m (was ends) ⌝ }
 {
-    let n = counts.starts;
     value::untimed::untimed_answer_in_set(&numbers[..n], m, ends)
 }
 
