@@ -6,6 +6,7 @@ use definitions::Default;
 use definitions::LayerOffset;
 use definitions::StageTime;
 use definitions::TemplateTimes;
+use definitions::refusal;
 use sdf::Counted;
 use standing::StandingSet;
 use standing::questions;
@@ -130,13 +131,13 @@ impl Resolver {
     {
         if !self.stands {
             return Accepted {
-                number: 20,
+                number: refusal::NO_SET,
                 resolver: self,
             };
         }
         if self.retimed {
             return Accepted {
-                number: 21,
+                number: refusal::ALREADY_RETIMED,
                 resolver: self,
             };
         }
@@ -160,10 +161,10 @@ impl Resolver {
         ensures { λ r. ⌜ TellsTime self t r ⌝ }
     {
         if !self.stands {
-            return TimeReply::Refused(20);
+            return TimeReply::Refused(refusal::NO_SET);
         }
         if !gf::is_finite(t.0) {
-            return TimeReply::Refused(10);
+            return TimeReply::Refused(refusal::TIME_NOT_FINITE);
         }
         let set = self.set;
         let xs = set.xs;
@@ -177,10 +178,10 @@ impl Resolver {
         ensures { λ r. ⌜ TellsClip self t r ⌝ }
     {
         if !self.stands {
-            return ClipReply::Refused(20);
+            return ClipReply::Refused(refusal::NO_SET);
         }
         if !gf::is_finite(t.0) {
-            return ClipReply::Refused(10);
+            return ClipReply::Refused(refusal::TIME_NOT_FINITE);
         }
         let set = self.set;
         let starts = set.starts;
@@ -205,14 +206,14 @@ impl Resolver {
         ensures { λ r. ⌜ TellsValue self (samplesWere times values marks ends) t r ⌝ }
     {
         if !self.stands {
-            return ValueReply::Refused(20);
+            return ValueReply::Refused(refusal::NO_SET);
         }
         let number = sdf::samples_number(self.set.clips, times, values, marks, ends);
         if number != 0 {
             return ValueReply::Refused(number);
         }
         if !gf::is_finite(t.0) {
-            return ValueReply::Refused(10);
+            return ValueReply::Refused(refusal::TIME_NOT_FINITE);
         }
         ValueReply::Answered(questions::value(
             &self.set.starts,
@@ -236,7 +237,7 @@ impl Resolver {
         ensures { λ r. ⌜ TellsUntimed self (samplesWere times values marks ends) r ⌝ }
     {
         if !self.stands {
-            return UntimedReply::Refused(20);
+            return UntimedReply::Refused(refusal::NO_SET);
         }
         let number = sdf::samples_number(self.set.clips, times, values, marks, ends);
         if number != 0 {
@@ -263,7 +264,7 @@ impl Resolver {
         ensures { λ r. ⌜ TellsTimes self (samplesWere times values marks ends) (was out) (after out) r ⌝ }
     {
         if !self.stands {
-            return refused_list(20);
+            return refused_list(refusal::NO_SET);
         }
         let number = sdf::samples_number(self.set.clips, times, values, marks, ends);
         if number != 0 {
@@ -295,7 +296,7 @@ impl Resolver {
         ensures { λ r. ⌜ TellsSamples self (samplesWere times values marks ends) (was outtimes) (after outtimes) (was outmarks) (after outmarks) r ⌝ }
     {
         if !self.stands {
-            return refused_list(20);
+            return refused_list(refusal::NO_SET);
         }
         let number = sdf::samples_number(self.set.clips, times, values, marks, ends);
         if number != 0 {
@@ -332,7 +333,7 @@ impl Resolver {
         ensures { λ r. ⌜ BakesTrack self (samplesWere times values marks ends) (outsWere outtimes outvalues outmarks) (bakedReply r) (outsLeft outtimes outvalues outmarks) ⌝ }
     {
         if !self.stands {
-            return refused_bake(20);
+            return refused_bake(refusal::NO_SET);
         }
         let number = sdf::samples_number(self.set.clips, times, values, marks, ends);
         if number != 0 {

@@ -4,6 +4,9 @@ pub mod questions;
 use clip::ClipSet;
 use clip::storage;
 use definitions::Missing;
+use definitions::limits::BLOCKS;
+use definitions::limits::KNOTS;
+use definitions::limits::STARTS;
 ghost use Rattle.definitions.specs.Moments.{was};
 ghost use Rattle.clip.specs.Holding.{ArraysWhole};
 ghost use Rattle.standing.specs.Standing.{Arrays, lentSet, Installed, Packed};
@@ -21,11 +24,11 @@ pub struct Counts {
 pub struct StandingSet {
     pub clips: u64,
     pub counts: Counts,
-    pub starts: [f64; 256],
-    pub numbers: [u64; 256],
-    pub xs: [f64; 512],
-    pub ys: [f64; 512],
-    pub blocks: [f64; 256],
+    pub starts: [f64; STARTS],
+    pub numbers: [u64; STARTS],
+    pub xs: [f64; KNOTS],
+    pub ys: [f64; KNOTS],
+    pub blocks: [f64; BLOCKS],
     pub manifest: Missing,
 }
 

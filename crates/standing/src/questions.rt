@@ -4,6 +4,7 @@ use definitions::Answer;
 use definitions::ClipTime;
 use definitions::Missing;
 use definitions::StageTime;
+use definitions::refusal;
 use sdf::Counted;
 use stage::Written;
 use track::bake::Baked;
@@ -247,7 +248,7 @@ fn counted(written: Written) -> Counted
             count: n,
         },
         Written::NoRoom => Counted {
-            number: 22,
+            number: refusal::NO_ROOM,
             count: 0,
         },
     }

@@ -7,6 +7,7 @@ use crate::fill::fill;
 use crate::fill::shortest;
 use cell::place::no_place;
 use definitions::Missing;
+use definitions::refusal;
 use gf::LEAST;
 use gf::MOST;
 use lists::writing::copy;
@@ -54,7 +55,7 @@ fn refused() -> Baked
     ensures { λ r. ⌜ r ≡ record { number = 22; mark = 0; value = 0·0; count = 0 } ⌝ }
 {
     Baked {
-        number: 22,
+        number: refusal::NO_ROOM,
         mark: 0,
         value: 0.0,
         count: 0,

@@ -6,17 +6,8 @@ use Rattle.standing.proofs.Arrays.{arrays-installed}
 use Rattle.standing.proofs.installed.Statement.{statement}
 use Rattle.standing.proofs.installed.Tie as tie
 
-blank-requires : tie.Need-blank-requires
-blank-requires c κs = search needs
-
-array-borrow-prefix-starts : tie.Need-array-borrow-prefix-starts
-array-borrow-prefix-starts c = search needs
-
 slice-aggregate-unpack-active : tie.Need-slice-aggregate-unpack-active
 slice-aggregate-unpack-active c = let s = c .before .before .before .before .before .before .before .before .before in sym (lent 256 _ _ (c .before .before .before .before .before .blank .ensures .times) (s .pre .active .few))
-
-array-borrow-prefix-numbers : tie.Need-array-borrow-prefix-numbers
-array-borrow-prefix-numbers c = search needs
 
 slice-aggregate-unpack-active-2 : tie.Need-slice-aggregate-unpack-active-2
 slice-aggregate-unpack-active-2 c = let s = c .before .before .before .before .before .before .before .before .before .before in sym (lent 256 _ _ (c .before .before .before .before .before .before .blank .ensures .numbers) (s .pre .active .few))
@@ -27,14 +18,8 @@ unpack-active-requires c κs =
     let b = c .before .before .before .before .before .before .blank .ensures in
     (h, (lent 256 _ _ (b .times) (h .few), lent 256 _ _ (b .numbers) (h .few)))
 
-array-borrow-prefix-xs : tie.Need-array-borrow-prefix-xs
-array-borrow-prefix-xs c = search needs
-
 slice-aggregate-unpack-knots : tie.Need-slice-aggregate-unpack-knots
 slice-aggregate-unpack-knots c = let s = c .before .before .before .before .before .before .before .before .before .before .before .before .before .before in sym (lent 512 _ _ (c .before .before .before .before .before .before .before .before .before .before .blank .ensures .xs) (s .pre .knots .few))
-
-array-borrow-prefix-ys : tie.Need-array-borrow-prefix-ys
-array-borrow-prefix-ys c = search needs
 
 slice-aggregate-unpack-knots-2 : tie.Need-slice-aggregate-unpack-knots-2
 slice-aggregate-unpack-knots-2 c = let s = c .before .before .before .before .before .before .before .before .before .before .before .before .before .before .before in sym (lent 512 _ _ (c .before .before .before .before .before .before .before .before .before .before .before .blank .ensures .ys) (s .pre .knots .few))
@@ -58,15 +43,15 @@ pub installed-spec : {M : Type 1} → statement M
 installed-spec =
     tie.close
     (tie.spec
-    blank-requires
-    array-borrow-prefix-starts
+    (λ c κs. search needs)
+    (λ c. search needs)
     slice-aggregate-unpack-active
-    array-borrow-prefix-numbers
+    (λ c. search needs)
     slice-aggregate-unpack-active-2
     unpack-active-requires
-    array-borrow-prefix-xs
+    (λ c. search needs)
     slice-aggregate-unpack-knots
-    array-borrow-prefix-ys
+    (λ c. search needs)
     slice-aggregate-unpack-knots-2
     unpack-knots-requires
     returns)

@@ -5,15 +5,6 @@ use Rattle.tavitrozy.specs.Codes.{clipCode}
 use Rattle.tavitrozy.proofs.clip_code.Statement.{statement}
 use Rattle.tavitrozy.proofs.clip_code.Tie as tie
 
-enum-known-r : tie.Need-enum-known-r
-enum-known-r c = search needs
-
-enum-told : tie.Need-enum-told
-enum-told c = search needs
-
-enum-known-r-2 : tie.Need-enum-known-r-2
-enum-known-r-2 c = search needs
-
 returns : tie.Need-returns
 returns c = sym (ap clipCode (c .before .r .given .1))
 
@@ -25,4 +16,4 @@ returns-3 c = sym (ap clipCode (c .before .r2 .given .1))
 
 pub clip-code-spec : {M : Type 1} → statement M
 clip-code-spec =
-    tie.close (tie.spec enum-known-r enum-told enum-known-r-2 returns returns-2 returns-3)
+    tie.close (tie.spec (λ c. search needs) (λ c. search needs) (λ c. search needs) returns returns-2 returns-3)

@@ -5,12 +5,6 @@ use Rattle.tavitrozy.specs.Codes.{nameCode}
 use Rattle.tavitrozy.proofs.name_code.Statement.{statement}
 use Rattle.tavitrozy.proofs.name_code.Tie as tie
 
-enum-known-r : tie.Need-enum-known-r
-enum-known-r c = search needs
-
-enum-known-r-2 : tie.Need-enum-known-r-2
-enum-known-r-2 c = search needs
-
 returns : tie.Need-returns
 returns c = sym (ap nameCode (c .before .r .given .1))
 
@@ -18,4 +12,4 @@ returns-2 : tie.Need-returns-2
 returns-2 c = sym (ap nameCode (c .before .r2 .given .1))
 
 pub name-code-spec : {M : Type 1} → statement M
-name-code-spec = tie.close (tie.spec enum-known-r enum-known-r-2 returns returns-2)
+name-code-spec = tie.close (tie.spec (λ c. search needs) (λ c. search needs) returns returns-2)

@@ -6,12 +6,6 @@ use Rattle.tavitrozy.specs.Codes.{timeCode}
 use Rattle.tavitrozy.proofs.time_code.Statement.{statement}
 use Rattle.tavitrozy.proofs.time_code.Tie as tie
 
-enum-known-r : tie.Need-enum-known-r
-enum-known-r c = search needs
-
-enum-known-r-2 : tie.Need-enum-known-r-2
-enum-known-r-2 c = search needs
-
 returns : tie.Need-returns
 returns c = sym (ap timeCode (c .before .r .given .1))
 
@@ -20,4 +14,4 @@ unfolding ofBits
 returns-2 c = sym (ap timeCode (c .before .r2 .given .1))
 
 pub time-code-spec : {M : Type 1} → statement M
-time-code-spec = tie.close (tie.spec enum-known-r enum-known-r-2 returns returns-2)
+time-code-spec = tie.close (tie.spec (λ c. search needs) (λ c. search needs) returns returns-2)

@@ -7,21 +7,6 @@ use Rattle.tavitrozy.specs.Codes.{untimedCode}
 use Rattle.tavitrozy.proofs.untimed_code.Statement.{statement}
 use Rattle.tavitrozy.proofs.untimed_code.Tie as tie
 
-enum-known-r : tie.Need-enum-known-r
-enum-known-r c = search needs
-
-enum-told : tie.Need-enum-told
-enum-told c = search needs
-
-enum-told-2 : tie.Need-enum-told-2
-enum-told-2 c = search needs
-
-enum-told-3 : tie.Need-enum-told-3
-enum-told-3 c = search needs
-
-enum-known-r-2 : tie.Need-enum-known-r-2
-enum-known-r-2 c = search needs
-
 returns : tie.Need-returns
 returns c = sym (ap untimedCode (c .before .before .before .r .given .1) ∙ ap (λ (x : ValueState). untimedCode (Answered x)) (c .enum-told .given .1))
 
@@ -38,11 +23,11 @@ pub untimed-code-spec : {M : Type 1} → statement M
 untimed-code-spec =
     tie.close
     (tie.spec
-    enum-known-r
-    enum-told
-    enum-told-2
-    enum-told-3
-    enum-known-r-2
+    (λ c. search needs)
+    (λ c. search needs)
+    (λ c. search needs)
+    (λ c. search needs)
+    (λ c. search needs)
     returns
     returns-2
     returns-3

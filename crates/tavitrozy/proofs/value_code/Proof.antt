@@ -8,21 +8,6 @@ use Rattle.tavitrozy.specs.Codes.{valueCode}
 use Rattle.tavitrozy.proofs.value_code.Statement.{statement}
 use Rattle.tavitrozy.proofs.value_code.Tie as tie
 
-enum-known-r : tie.Need-enum-known-r
-enum-known-r c = search needs
-
-enum-known-a : tie.Need-enum-known-a
-enum-known-a c = search needs
-
-enum-told : tie.Need-enum-told
-enum-told c = search needs
-
-enum-told-2 : tie.Need-enum-told-2
-enum-told-2 c = search needs
-
-enum-known-r-2 : tie.Need-enum-known-r-2
-enum-known-r-2 c = search needs
-
 returns : tie.Need-returns
 returns c = sym (ap valueCode (c .before .before .before .before .r .given .1) ∙ ap (λ (x : Answer). valueCode (Answered x)) (c .before .a .given .1))
 
@@ -42,11 +27,11 @@ pub value-code-spec : {M : Type 1} → statement M
 value-code-spec =
     tie.close
     (tie.spec
-    enum-known-r
-    enum-known-a
-    enum-told
-    enum-told-2
-    enum-known-r-2
+    (λ c. search needs)
+    (λ c. search needs)
+    (λ c. search needs)
+    (λ c. search needs)
+    (λ c. search needs)
     returns
     returns-2
     returns-3

@@ -4,9 +4,6 @@ use Rattle.resolver.proofs.Laws.{accepts}
 use Rattle.resolver.proofs.Resolver.accept.Statement.{statement}
 use Rattle.resolver.proofs.Resolver.accept.Tie as tie
 
-parse-set-requires : tie.Need-parse-set-requires
-parse-set-requires c κs = search needs
-
 install-requires : tie.Need-install-requires
 install-requires c κs =
     let e = c .parse-set .ensures in
@@ -16,4 +13,4 @@ returns : tie.Need-returns
 returns c = accepts _ _ _ _ (c .before .parse-set .ensures) (c .install .ensures)
 
 pub accept-spec : {M : Type 1} → statement M
-accept-spec = tie.close (tie.spec parse-set-requires install-requires returns)
+accept-spec = tie.close (tie.spec (λ c κs. search needs) install-requires returns)

@@ -4,9 +4,6 @@ use Rattle.resolver.proofs.Laws.{expands}
 use Rattle.resolver.proofs.Resolver.accept_template.Statement.{statement}
 use Rattle.resolver.proofs.Resolver.accept_template.Tie as tie
 
-expand-template-requires : tie.Need-expand-template-requires
-expand-template-requires c κs = search needs
-
 install-requires : tie.Need-install-requires
 install-requires c κs =
     let e = c .expand-template .ensures in
@@ -16,4 +13,4 @@ returns : tie.Need-returns
 returns c = expands _ _ _ _ (c .before .expand-template .ensures) (c .install .ensures)
 
 pub accept-template-spec : {M : Type 1} → statement M
-accept-template-spec = tie.close (tie.spec expand-template-requires install-requires returns)
+accept-template-spec = tie.close (tie.spec (λ c κs. search needs) install-requires returns)

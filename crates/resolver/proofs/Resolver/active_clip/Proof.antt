@@ -17,32 +17,17 @@ returns : tie.Need-returns
 unfolding askActiveClip
 returns c = asked-20 _ (c .before .before .args .self) (not-true _ (c .if1 .taken))
 
-is-finite-requires : tie.Need-is-finite-requires
-is-finite-requires c κs = search needs
-
 returns-2 : tie.Need-returns-2
 unfolding askActiveClip
 returns-2 c =
     let s = c .before .before .before .before in
     not-finite (s .args .t) _ (sym (c .before .is-finite .ensures) ∙ not-true _ (c .if2 .taken)) ∙ asked _ (s .args .self) (not-false _ (c .before .before .if1 .left))
 
-slice-aggregate-active-clip : tie.Need-slice-aggregate-active-clip
-slice-aggregate-active-clip c = search needs
-
-slice-aggregate-active-clip-2 : tie.Need-slice-aggregate-active-clip-2
-slice-aggregate-active-clip-2 c = search needs
-
 active-clip-requires : tie.Need-active-clip-requires
 active-clip-requires c κs =
     let p = c .before .before .before .before .before in
     let s = p .before .before .before .before in
     (s .pre .whole .in-starts, (s .pre .whole .in-numbers, starts-ascend (s .args .self) (s .pre) (not-false _ (p .before .before .if1 .left))))
-
-enum-known-active : tie.Need-enum-known-active
-enum-known-active c = search needs
-
-enum-told : tie.Need-enum-told
-enum-told c = search needs
 
 returns-3 : tie.Need-returns-3
 unfolding askActiveClip activeClip setOf
@@ -69,12 +54,12 @@ active-clip-spec =
     tie.close
     (tie.spec
     returns
-    is-finite-requires
+    (λ c κs. search needs)
     returns-2
-    slice-aggregate-active-clip
-    slice-aggregate-active-clip-2
+    (λ c. search needs)
+    (λ c. search needs)
     active-clip-requires
-    enum-known-active
-    enum-told
+    (λ c. search needs)
+    (λ c. search needs)
     returns-3
     returns-4)

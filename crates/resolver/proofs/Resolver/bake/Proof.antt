@@ -17,19 +17,10 @@ lent s = samplesOf (now (s .args .times)) (now (s .args .values)) (now (s .args 
 abbrev before : tie.Start → Outputs
 before s = outputs (now (s .args .outtimes)) (now (s .args .outvalues)) (now (s .args .outmarks))
 
-refused-bake-requires : tie.Need-refused-bake-requires
-refused-bake-requires c κs = search needs
-
 returns : tie.Need-returns
 returns c =
     let s = c .before .before .before .before .before .before .before .before .before .before in
     bakes-reply (reply-refused _ 20 (c .refused-bake .ensures) (λ z. omega arith)) (bakes-20 (s .args .self) (lent s) (before s) (not-true _ (c .before .if1 .taken)))
-
-samples-number-requires : tie.Need-samples-number-requires
-samples-number-requires c κs = search needs
-
-refused-bake-requires-2 : tie.Need-refused-bake-requires-2
-refused-bake-requires-2 c κs = search needs
 
 returns-2 : tie.Need-returns-2
 returns-2 c =
@@ -37,12 +28,6 @@ returns-2 c =
     let s = p .before .before .before .before .before .before .before .before .before .before .before in
     bakes-reply (reply-refused _ _ (c .refused-bake2 .ensures) (p .if2 .taken))
     (bakes-refused (s .args .self) (lent s) (before s) _ (not-false _ (p .before .before .if1 .left)) (judged-number (s .args .self) (p .before .samples-number .ensures)) (p .if2 .taken))
-
-slice-aggregate-bake-knotless : tie.Need-slice-aggregate-bake-knotless
-slice-aggregate-bake-knotless c = search needs
-
-slice-aggregate-bake-knotless-2 : tie.Need-slice-aggregate-bake-knotless-2
-slice-aggregate-bake-knotless-2 c = search needs
 
 bake-knotless-requires : tie.Need-bake-knotless-requires
 bake-knotless-requires c κs =
@@ -57,15 +42,6 @@ bake-knotless-requires c κs =
       ),
     )
 
-same-length : tie.Need-same-length
-same-length c = search needs
-
-same-length-2 : tie.Need-same-length-2
-same-length-2 c = search needs
-
-same-length-3 : tie.Need-same-length-3
-same-length-3 c = search needs
-
 returns-3 : tie.Need-returns-3
 returns-3 c =
     let w = c .before .before .before .before .before .before in
@@ -75,18 +51,6 @@ returns-3 c =
     let s = p .before .before .before .before .before .before .before .before .before .before .before in
     bakes-plain (s .args .self) (s .pre) (not-false _ (p .before .before .if1 .left)) (p .before .samples-number .ensures) (p .if2 .left) (k .if3 .taken) (b .if4 .taken) _ _ _ (w .bake-knotless .ensures)
 
-slice-aggregate-bake : tie.Need-slice-aggregate-bake
-slice-aggregate-bake c = search needs
-
-slice-aggregate-bake-2 : tie.Need-slice-aggregate-bake-2
-slice-aggregate-bake-2 c = search needs
-
-slice-aggregate-bake-3 : tie.Need-slice-aggregate-bake-3
-slice-aggregate-bake-3 c = search needs
-
-slice-aggregate-bake-4 : tie.Need-slice-aggregate-bake-4
-slice-aggregate-bake-4 c = search needs
-
 slice-aggregate-bake-5 : tie.Need-slice-aggregate-bake-5
 slice-aggregate-bake-5 c = let s = c .before .before .before .before .before .before .before .before .before .before .before .before .before .before .before .before .before .before .before .before .before .before .before .before .before .before in search (needs, s .pre .whole .in-blocks .long)
 
@@ -95,15 +59,6 @@ bake-requires c κs =
     let p = c .before .before .before .before .before .before .before .before .before .before .before .before .before .before .before .before .before .before in
     let s = p .before .before .before .before .before .before .before .before .before .before .before in
     is-asked (s .args .self) (s .pre) (not-false _ (p .before .before .if1 .left)) (p .before .samples-number .ensures) (p .if2 .left)
-
-same-length-4 : tie.Need-same-length-4
-same-length-4 c = search needs
-
-same-length-5 : tie.Need-same-length-5
-same-length-5 c = search needs
-
-same-length-6 : tie.Need-same-length-6
-same-length-6 c = search needs
 
 returns-4 : tie.Need-returns-4
 returns-4 c =
@@ -116,25 +71,25 @@ pub bake-spec : {M : Type 1} → statement M
 bake-spec =
     tie.close
     (tie.spec
-    refused-bake-requires
+    (λ c κs. search needs)
     returns
-    samples-number-requires
-    refused-bake-requires-2
+    (λ c κs. search needs)
+    (λ c κs. search needs)
     returns-2
-    slice-aggregate-bake-knotless
-    slice-aggregate-bake-knotless-2
+    (λ c. search needs)
+    (λ c. search needs)
     bake-knotless-requires
-    same-length
-    same-length-2
-    same-length-3
+    (λ c. search needs)
+    (λ c. search needs)
+    (λ c. search needs)
     returns-3
-    slice-aggregate-bake
-    slice-aggregate-bake-2
-    slice-aggregate-bake-3
-    slice-aggregate-bake-4
+    (λ c. search needs)
+    (λ c. search needs)
+    (λ c. search needs)
+    (λ c. search needs)
     slice-aggregate-bake-5
     bake-requires
-    same-length-4
-    same-length-5
-    same-length-6
+    (λ c. search needs)
+    (λ c. search needs)
+    (λ c. search needs)
     returns-4)

@@ -12,20 +12,11 @@ returns : tie.Need-returns
 unfolding askClipTime
 returns c = asked-20 _ (c .before .before .args .self) (not-true _ (c .if1 .taken))
 
-is-finite-requires : tie.Need-is-finite-requires
-is-finite-requires c κs = search needs
-
 returns-2 : tie.Need-returns-2
 unfolding askClipTime
 returns-2 c =
     let s = c .before .before .before .before in
     not-finite (s .args .t) _ (sym (c .before .is-finite .ensures) ∙ not-true _ (c .if2 .taken)) ∙ asked _ (s .args .self) (not-false _ (c .before .before .if1 .left))
-
-slice-aggregate-map-stage-to-clip : tie.Need-slice-aggregate-map-stage-to-clip
-slice-aggregate-map-stage-to-clip c = search needs
-
-slice-aggregate-map-stage-to-clip-2 : tie.Need-slice-aggregate-map-stage-to-clip-2
-slice-aggregate-map-stage-to-clip-2 c = search needs
 
 map-stage-to-clip-requires : tie.Need-map-stage-to-clip-requires
 map-stage-to-clip-requires c κs =
@@ -47,9 +38,9 @@ clip-time-spec =
     tie.close
     (tie.spec
     returns
-    is-finite-requires
+    (λ c κs. search needs)
     returns-2
-    slice-aggregate-map-stage-to-clip
-    slice-aggregate-map-stage-to-clip-2
+    (λ c. search needs)
+    (λ c. search needs)
     map-stage-to-clip-requires
     returns-3)

@@ -24,20 +24,11 @@ entry p = p .before .before .before .before .before .before .before .before
 abbrev passed : tie.After-stage-sample-times-arg10 → tie.Else2
 passed c = c .before .before .before .before .before .before .before .before .before .before .before
 
-refused-list-requires : tie.Need-refused-list-requires
-refused-list-requires c κs = search needs
-
 returns : tie.Need-returns
 unfolding askStageSampleTimes
 returns c =
     let s = c .before .before .before .before .before .before .before in
     times-refused (s .args .t1) (lent s) (now (s .args .out)) _ 20 (c .refused-list .ensures) (asked-20 _ (s .args .t1) (not-true _ (c .before .if1 .taken)))
-
-samples-number-requires : tie.Need-samples-number-requires
-samples-number-requires c κs = search needs
-
-refused-list-requires-2 : tie.Need-refused-list-requires-2
-refused-list-requires-2 c κs = search needs
 
 returns-2 : tie.Need-returns-2
 unfolding askStageSampleTimes
@@ -52,9 +43,6 @@ stage-sample-times-requires c κs =
     let p = passed c in
     let s = entry p in
     times-asked (is-asked (s .args .t1) (s .pre) (not-false _ (p .before .before .if1 .left)) (p .before .samples-number .ensures) (p .if2 .left))
-
-same-length : tie.Need-same-length
-same-length c = search needs
 
 returns-3 : tie.Need-returns-3
 unfolding askStageSampleTimes
@@ -71,4 +59,4 @@ returns-3 c =
 
 pub stage-sample-times-spec : {M : Type 1} → statement M
 stage-sample-times-spec =
-    tie.close (tie.spec refused-list-requires returns samples-number-requires refused-list-requires-2 returns-2 stage-sample-times-requires same-length returns-3)
+    tie.close (tie.spec (λ c κs. search needs) returns (λ c κs. search needs) (λ c κs. search needs) returns-2 stage-sample-times-requires (λ c. search needs) returns-3)

@@ -25,20 +25,11 @@ entry p = p .before .before .before .before .before .before .before .before .bef
 abbrev passed : tie.After-stage-samples-arg12 → tie.Else2
 passed c = c .before .before .before .before .before .before .before .before .before .before .before .before .before
 
-refused-list-requires : tie.Need-refused-list-requires
-refused-list-requires c κs = search needs
-
 returns : tie.Need-returns
 unfolding askStageSamples
 returns c =
     let s = c .before .before .before .before .before .before .before .before in
     list-refused (s .args .t1) (lent s) (now (s .args .outtimes)) (now (s .args .outmarks)) _ 20 (c .refused-list .ensures) (asked-20 _ (s .args .t1) (not-true _ (c .before .if1 .taken)))
-
-samples-number-requires : tie.Need-samples-number-requires
-samples-number-requires c κs = search needs
-
-refused-list-requires-2 : tie.Need-refused-list-requires-2
-refused-list-requires-2 c κs = search needs
 
 returns-2 : tie.Need-returns-2
 unfolding askStageSamples
@@ -53,12 +44,6 @@ stage-samples-requires c κs =
     let p = passed c in
     let s = entry p in
     samples-asked (is-asked (s .args .t1) (s .pre) (not-false _ (p .before .before .if1 .left)) (p .before .samples-number .ensures) (p .if2 .left))
-
-same-length : tie.Need-same-length
-same-length c = search needs
-
-same-length-2 : tie.Need-same-length-2
-same-length-2 c = search needs
 
 returns-3 : tie.Need-returns-3
 unfolding askStageSamples
@@ -76,4 +61,4 @@ returns-3 c =
 
 pub stage-samples-spec : {M : Type 1} → statement M
 stage-samples-spec =
-    tie.close (tie.spec refused-list-requires returns samples-number-requires refused-list-requires-2 returns-2 stage-samples-requires same-length same-length-2 returns-3)
+    tie.close (tie.spec (λ c κs. search needs) returns (λ c κs. search needs) (λ c κs. search needs) returns-2 stage-samples-requires (λ c. search needs) (λ c. search needs) returns-3)

@@ -27,9 +27,6 @@ returns : tie.Need-returns
 unfolding askUntimed
 returns c = asked-20 _ (c .before .before .before .before .before .args .t1) (not-true _ (c .if1 .taken))
 
-samples-number-requires : tie.Need-samples-number-requires
-samples-number-requires c κs = search needs
-
 returns-2 : tie.Need-returns-2
 unfolding askUntimed
 returns-2 c =
@@ -56,4 +53,4 @@ returns-3 c =
 
 pub untimed-spec : {M : Type 1} → statement M
 untimed-spec =
-    tie.close (tie.spec returns samples-number-requires returns-2 untimed-requires returns-3)
+    tie.close (tie.spec returns (λ c κs. search needs) returns-2 untimed-requires returns-3)

@@ -24,18 +24,12 @@ returns : tie.Need-returns
 unfolding askValue
 returns c = asked-20 _ (c .before .before .before .before .before .args .t1) (not-true _ (c .if1 .taken))
 
-samples-number-requires : tie.Need-samples-number-requires
-samples-number-requires c κs = search needs
-
 returns-2 : tie.Need-returns-2
 unfolding askValue
 returns-2 c =
     let s = c .before .before .before .before .before .before .before in
     samples-refused (lent s) (λ (x : ClipSet). stageTimeNumber (s .args .t)) (λ (x : ClipSet). valueInSet x (lent s) (s .args .t)) (s .args .t1) (not-false _ (c .before .before .if1 .left))
     _ (judged-number (s .args .t1) (c .before .samples-number .ensures)) (c .if2 .taken)
-
-is-finite-requires : tie.Need-is-finite-requires
-is-finite-requires c κs = search needs
 
 returns-3 : tie.Need-returns-3
 unfolding askValue
@@ -67,4 +61,4 @@ returns-4 c =
 
 pub value-spec : {M : Type 1} → statement M
 value-spec =
-    tie.close (tie.spec returns samples-number-requires returns-2 is-finite-requires returns-3 value-requires returns-4)
+    tie.close (tie.spec returns (λ c κs. search needs) returns-2 (λ c κs. search needs) returns-3 value-requires returns-4)

@@ -22,9 +22,6 @@ returns c = let s = c .before .before .before in none-active (s .args .n) (now (
 slice-aggregate-last-at-most : tie.Need-slice-aggregate-last-at-most
 slice-aggregate-last-at-most c = search (needs, front)
 
-last-at-most-requires : tie.Need-last-at-most-requires
-last-at-most-requires c κs = search needs
-
 mul-t9 : tie.Need-mul-t9
 mul-t9 c = omega (arith, inside c)
 
@@ -43,7 +40,7 @@ active-clip-spec =
     (tie.spec
     returns
     slice-aggregate-last-at-most
-    last-at-most-requires
+    (λ c κs. search needs)
     mul-t9
     shared-slice-read-t11
     returns-2)

@@ -19,21 +19,6 @@ slice-aggregate-bake-4 c = search (needs, front)
 slice-aggregate-bake-5 : tie.Need-slice-aggregate-bake-5
 slice-aggregate-bake-5 c = search (needs, front)
 
-bake-requires : tie.Need-bake-requires
-bake-requires c κs = search needs
-
-same-length : tie.Need-same-length
-same-length c = search needs
-
-same-length-2 : tie.Need-same-length-2
-same-length-2 c = search needs
-
-same-length-3 : tie.Need-same-length-3
-same-length-3 c = search needs
-
-returns : tie.Need-returns
-returns c = search needs
-
 pub bake-spec : {M : Type 1} → statement M
 bake-spec =
     tie.close
@@ -43,8 +28,8 @@ bake-spec =
     slice-aggregate-bake-3
     slice-aggregate-bake-4
     slice-aggregate-bake-5
-    bake-requires
-    same-length
-    same-length-2
-    same-length-3
-    returns)
+    (λ c κs. search needs)
+    (λ c. search needs)
+    (λ c. search needs)
+    (λ c. search needs)
+    (λ c. search needs))

@@ -5,12 +5,6 @@ use Rattle.standing.specs.Lists.{countOf}
 use Rattle.standing.proofs.questions.counted.Statement.{statement}
 use Rattle.standing.proofs.questions.counted.Tie as tie
 
-enum-known-written : tie.Need-enum-known-written
-enum-known-written c = search needs
-
-enum-told : tie.Need-enum-told
-enum-told c = search needs
-
 returns : tie.Need-returns
 returns c = sym (ap countOf (c .before .written .given .1))
 
@@ -18,4 +12,4 @@ returns-2 : tie.Need-returns-2
 returns-2 c = sym (ap countOf (c .enum-told .given .1))
 
 pub counted-spec : {M : Type 1} → statement M
-counted-spec = tie.close (tie.spec enum-known-written enum-told returns returns-2)
+counted-spec = tie.close (tie.spec (λ c. search needs) (λ c. search needs) returns returns-2)

@@ -14,10 +14,7 @@ slice-aggregate-map-time-2 c = search (needs, front)
 map-time-requires : tie.Need-map-time-requires
 map-time-requires c κs = let p = c .before .before .before .before .pre in (p .1 .1, sym (front (p .0)) ∙ front (p .1 .0))
 
-returns : tie.Need-returns
-returns c = search needs
-
 pub map-stage-to-clip-spec : {M : Type 1} → statement M
 map-stage-to-clip-spec =
     tie.close
-    (tie.spec slice-aggregate-map-time slice-aggregate-map-time-2 map-time-requires returns)
+    (tie.spec slice-aggregate-map-time slice-aggregate-map-time-2 map-time-requires (λ c. search needs))

@@ -17,15 +17,6 @@ slice-aggregate-stage-sample-times-3 c = search (needs, front)
 slice-aggregate-stage-sample-times-4 : tie.Need-slice-aggregate-stage-sample-times-4
 slice-aggregate-stage-sample-times-4 c = search (needs, front)
 
-stage-sample-times-requires : tie.Need-stage-sample-times-requires
-stage-sample-times-requires c κs = search needs
-
-counted-requires : tie.Need-counted-requires
-counted-requires c κs = search needs
-
-same-length : tie.Need-same-length
-same-length c = search needs
-
 returns : tie.Need-returns
 returns c = times-told _ _ (c .before .before .before .stage-sample-times .result) _ (c .counted .ensures) (c .before .before .before .stage-sample-times .ensures)
 
@@ -37,7 +28,7 @@ stage-sample-times-spec =
     slice-aggregate-stage-sample-times-2
     slice-aggregate-stage-sample-times-3
     slice-aggregate-stage-sample-times-4
-    stage-sample-times-requires
-    counted-requires
-    same-length
+    (λ c κs. search needs)
+    (λ c κs. search needs)
+    (λ c. search needs)
     returns)

@@ -17,18 +17,6 @@ slice-aggregate-stage-samples-3 c = search (needs, front)
 slice-aggregate-stage-samples-4 : tie.Need-slice-aggregate-stage-samples-4
 slice-aggregate-stage-samples-4 c = search (needs, front)
 
-stage-samples-requires : tie.Need-stage-samples-requires
-stage-samples-requires c κs = search needs
-
-counted-requires : tie.Need-counted-requires
-counted-requires c κs = search needs
-
-same-length : tie.Need-same-length
-same-length c = search needs
-
-same-length-2 : tie.Need-same-length-2
-same-length-2 c = search needs
-
 returns : tie.Need-returns
 returns c = samples-told _ _ _ _ _ (c .before .before .before .before .before .stage-samples .result) _ (c .counted .ensures) (c .before .before .before .before .before .stage-samples .ensures)
 
@@ -40,8 +28,8 @@ stage-samples-spec =
     slice-aggregate-stage-samples-2
     slice-aggregate-stage-samples-3
     slice-aggregate-stage-samples-4
-    stage-samples-requires
-    counted-requires
-    same-length
-    same-length-2
+    (λ c κs. search needs)
+    (λ c κs. search needs)
+    (λ c. search needs)
+    (λ c. search needs)
     returns)

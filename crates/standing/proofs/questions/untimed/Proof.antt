@@ -7,11 +7,5 @@ use Rattle.standing.proofs.questions.untimed.Tie as tie
 slice-aggregate-untimed-answer-in-set : tie.Need-slice-aggregate-untimed-answer-in-set
 slice-aggregate-untimed-answer-in-set c = search (needs, front)
 
-untimed-answer-in-set-requires : tie.Need-untimed-answer-in-set-requires
-untimed-answer-in-set-requires c κs = search needs
-
-returns : tie.Need-returns
-returns c = search needs
-
 pub untimed-spec : {M : Type 1} → statement M
-untimed-spec = tie.close (tie.spec slice-aggregate-untimed-answer-in-set untimed-answer-in-set-requires returns)
+untimed-spec = tie.close (tie.spec slice-aggregate-untimed-answer-in-set (λ c κs. search needs) (λ c. search needs))

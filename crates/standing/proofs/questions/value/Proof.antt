@@ -19,12 +19,6 @@ slice-aggregate-value-in-set-4 c = search (needs, front)
 slice-aggregate-value-in-set-5 : tie.Need-slice-aggregate-value-in-set-5
 slice-aggregate-value-in-set-5 c = search (needs, front)
 
-value-in-set-requires : tie.Need-value-in-set-requires
-value-in-set-requires c κs = search needs
-
-returns : tie.Need-returns
-returns c = search needs
-
 pub value-spec : {M : Type 1} → statement M
 value-spec =
     tie.close
@@ -34,5 +28,5 @@ value-spec =
     slice-aggregate-value-in-set-3
     slice-aggregate-value-in-set-4
     slice-aggregate-value-in-set-5
-    value-in-set-requires
-    returns)
+    (λ c κs. search needs)
+    (λ c. search needs))
