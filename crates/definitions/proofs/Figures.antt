@@ -21,12 +21,14 @@ use Rattle.definitions.specs.Retime.{movedNumber, apply, isIdentity, mov
 use Rattle.definitions.specs.Timing.{lastAtMost, activePosition, activeEntry, activeClip, onSegment, mapTime, mapStageToClip}
 use Rattle.definitions.specs.Samples.{Samples, clipBegin, clipEnd, clipTimes, heldPlace, unlikeLengths, samples1, samples2, badMarks, closes, samples9, samplesNumber}
 use Rattle.definitions.specs.Value.{says, blockedAt, contributes, readClip, firstReading, interpolateMissingValue, directSource, window, stageTimesForClipTime, windowSampleTimes, gathered, lowerNeighbour, upperNeighbour, jump, readingTime, valueSource, valueInSet}
-use Rattle.definitions.specs.StageSamples.{dropEqual, dedup, stageSampleTimes, suppliedAt, anySamples, untimedAnswer, ValueState, present, blocked, absent}
+use Rattle.definitions.specs.StageSamples.{dropEqual, dedup, stageSampleTimes, suppliedAt, anySamples, untimedAnswer}
 use Rattle.definitions.specs.Normalize.{TimeSample, timeSamples, merge, mergeEqual, normalizeTimeSamples, normalizeNumber}
 use Rattle.definitions.specs.Track.{entryOf, alike, differs, TrackOf, Outputs}
 use Rattle.definitions.specs.Questions.{Reply, refused, replied, askValue}
 use Rattle.definitions.specs.WholeList.{runFrom}
 use Rattle.definitions.specs.Calls.{explicit, retime, bake, step, after}
+use Rattle.definitions.specs.declared.ValueState.{ValueState}
+use Rattle.definitions.specs.declared.ValueState.the-variants.{Present as present, Blocked as blocked, Absent as absent}
 use Rattle.definitions.proofs.Sets.{n, frac, -n, greatest, nextHigher, bytes, holds, fails, same, sameTimes, sameBytes, sameNames, isClip, is, fields, missing, templated, numbers, clipTimeAt, valueAt, names, two, jumping, falling, falling-samples, gap, gap-samples, one, one-samples}
 use Rattle.definitions.proofs.FigureTracks.{set as gap-set, fall, gap-track, falling-track}
 

@@ -12,7 +12,6 @@ use Rattle.definitions.specs.declared.ClipTime.{ClipTime}
 use Rattle.definitions.specs.Questions.{Reply, refused, replied, askActiveClip, askClipTime, askValue, askUntimed, askStageSampleTimes, askStageSamples}
 use Rattle.definitions.specs.declared.Answer.{Answer}
 use Rattle.definitions.specs.StageSamples as Stage
-use Rattle.value.specs.Untimed.{stateIs}
 use Rattle.sdf.specs.declared.Counted.{Counted}
 use Rattle.definitions.specs.ClipSet.{noSet, standing}
 use Rattle.definitions.specs.Explicit.{ExplicitFields, explicitNumber}
@@ -22,6 +21,7 @@ use Rattle.definitions.specs.Samples.{Samples}
 use Rattle.definitions.specs.Track.{Outputs}
 use Rattle.definitions.specs.Calls as calls
 use Rattle.definitions.specs.Calls.{explicit, template, retime, step, accepted}
+use Rattle.definitions.specs.declared.ValueState.{ValueState}
 use Rattle.laws.specs.set.Sound.{Sound}
 use Rattle.clip.specs.declared.Prepared.{Prepared}
 use Rattle.clip.specs.Holding.{clipSetOf, ArraysWhole}
@@ -81,8 +81,8 @@ abbrev pub valueReply : ValueReply → Reply Answer
 valueReply (Answered a) = replied a
 valueReply (ValueRefused n) = refused n
 
-abbrev pub untimedReply : UntimedReply → Reply Stage.ValueState
-untimedReply (Told s) = replied (stateIs s)
+abbrev pub untimedReply : UntimedReply → Reply ValueState
+untimedReply (Told s) = replied s
 untimedReply (UntimedRefused n) = refused n
 
 abbrev pub TellsValue : Resolver → Samples → StageTime → ValueReply → Type 0

@@ -4,11 +4,11 @@ use definitions::Answer;
 use definitions::ClipTime;
 use definitions::Missing;
 use definitions::StageTime;
+use definitions::ValueState;
 use definitions::refusal;
 use sdf::Counted;
 use stage::Written;
 use track::bake::Baked;
-use value::untimed::ValueState;
 ghost use mathlib.Core.Path.{_≡_};
 ghost use mathlib.Core.List.{[]};
 ghost use Prim.Native.Nat.{ℕ, _<_};
@@ -24,7 +24,7 @@ ghost use Rattle.laws.specs.list.Every.{Every};
 ghost use Rattle.laws.specs.list.Places.{Ascending};
 ghost use Rattle.laws.specs.cell.Lent.{activeOf, knotsOf, samplesWere, AcceptedLists};
 ghost use Rattle.clip.specs.Holding.{Room};
-ghost use Rattle.value.specs.Untimed.{stateIs, untimedOf};
+ghost use Rattle.value.specs.Untimed.{untimedOf};
 ghost use Rattle.track.specs.Bakes.{BakeIs};
 ghost use Rattle.standing.specs.Lists.{countOf, ListsTimes, ListsSamples};
 ghost use Rattle.standing.specs.Standing.{Asked, TimesAsked, lentTimes, SamplesAsked, answered};
@@ -94,7 +94,7 @@ pub fn value<'a>(
 // Whether there is a value at all.
 pub fn untimed(numbers: &[u64], n: usize, m: Missing, ends: &[u64]) -> ValueState
     requires { ⌜ Room maxActive (now numbers) n ⌝ ∗ ⌜ Every (λ (c : ℕ). c < length (now ends)) (take n (now numbers)) ⌝ }
-    ensures { λ r. ⌜ stateIs r ≡ untimedOf (take n (was numbers)) m (was ends) ⌝ }
+    ensures { λ r. ⌜ r ≡ untimedOf (take n (was numbers)) m (was ends) ⌝ }
 {
     value::untimed::untimed_answer_in_set(&numbers[..n], m, ends)
 }

@@ -18,8 +18,8 @@ use Rattle.names.specs.declared.Named.{Named}
 use Rattle.names.specs.declared.Named.the-variants as named
 use Rattle.names.specs.Named.{Names}
 use Rattle.sdf.specs.declared.Counted.{Counted}
-use Rattle.value.specs.declared.untimed.ValueState.{ValueState}
-use Rattle.value.specs.declared.untimed.ValueState.the-variants as state
+use Rattle.definitions.specs.declared.ValueState.{ValueState}
+use Rattle.definitions.specs.declared.ValueState.the-variants as state
 use Rattle.resolver.specs.declared.Resolver.{Resolver}
 use Rattle.resolver.specs.declared.ClipReply.{ClipReply}
 use Rattle.resolver.specs.declared.ClipReply.the-variants as clip

@@ -16,6 +16,7 @@ use Rattle.definitions.specs.ClipSet.{ClipSet, markValue}
 use Rattle.definitions.specs.Samples.{Samples, clipBegin, clipEnd, clipTimes}
 use Rattle.definitions.specs.StageSamples as Stage
 use Rattle.definitions.specs.StageSamples.{anySamples, untimed, untimedAnswer}
+use Rattle.definitions.specs.declared.ValueState.the-variants.{Present, Blocked, Absent}
 use Rattle.laws.specs.list.Every.{Every}
 use Rattle.laws.specs.cell.Lent.{activeOf, setOf, samplesOf, AcceptedLists}
 use Rattle.value.specs.Untimed.{hasSamples, untimedOf}
@@ -65,7 +66,7 @@ module _ {starts : List Float} {clips : List ℕ} {xs ys blocks : List Float} {m
   unfolding setOf untimedAnswer
   untimed-is = go starts clips (R .starts-paired) (any (hasSamples ends) clips || eqb (m .default .mark) markValue) ∙ ap (λ (a : Bool). untimed (activeOf starts clips) (a || eqb (m .default .mark) markValue)) (sym any-is)
     where
-      go : (a : List Float) (b : List ℕ) → length a ≡ length b → (v : Bool) → cond (eqb (length b) 0) Stage.absent (cond v Stage.present Stage.blocked) ≡ untimed (activeOf a b) v
+      go : (a : List Float) (b : List ℕ) → length a ≡ length b → (v : Bool) → cond (eqb (length b) 0) Absent (cond v Present Blocked) ≡ untimed (activeOf a b) v
       go [] [] e v = refl
       go [] (y ∷ b) e v = absurd (omega arith)
       go (x ∷ a) [] e v = absurd (omega arith)
@@ -74,22 +75,22 @@ module _ {starts : List Float} {clips : List ℕ} {xs ys blocks : List Float} {m
 -- ---- case by case
 
 module _ (clips : List ℕ) (m : Missing) (ends : List ℕ) where
-  pub untimed-absent : length clips ≡ 0 → Stage.absent ≡ untimedOf clips m ends
+  pub untimed-absent : length clips ≡ 0 → Absent ≡ untimedOf clips m ends
   untimed-absent e = rw (eq-eqb (length clips) 0 e)
 
   module _ (n : length clips ≡ 0 → ⊥) where
-    answer : (b c : Bool) → any (hasSamples ends) clips ≡ b → eqb (m .default .mark) markValue ≡ c → cond (b || c) Stage.present Stage.blocked ≡ untimedOf clips m ends
+    answer : (b c : Bool) → any (hasSamples ends) clips ≡ b → eqb (m .default .mark) markValue ≡ c → cond (b || c) Present Blocked ≡ untimedOf clips m ends
     answer b c e f = rw (ne-eqb (length clips) 0 n, e, f)
 
-    pub untimed-default : m .default .mark ≡ 0 → Stage.present ≡ untimedOf clips m ends
+    pub untimed-default : m .default .mark ≡ 0 → Present ≡ untimedOf clips m ends
     untimed-default e = go (any (hasSamples ends) clips) refl
       where
-        go : (b : Bool) → any (hasSamples ends) clips ≡ b → Stage.present ≡ untimedOf clips m ends
+        go : (b : Bool) → any (hasSamples ends) clips ≡ b → Present ≡ untimedOf clips m ends
         go true q = answer true true q (eq-eqb (m .default .mark) 0 e)
         go false q = answer false true q (eq-eqb (m .default .mark) 0 e)
 
-    pub untimed-samples : any (hasSamples ends) clips ≡ true → Stage.present ≡ untimedOf clips m ends
+    pub untimed-samples : any (hasSamples ends) clips ≡ true → Present ≡ untimedOf clips m ends
     untimed-samples e = answer true (eqb (m .default .mark) markValue) e refl
 
-    pub untimed-blocked : (m .default .mark ≡ 0 → ⊥) → any (hasSamples ends) clips ≡ false → Stage.blocked ≡ untimedOf clips m ends
+    pub untimed-blocked : (m .default .mark ≡ 0 → ⊥) → any (hasSamples ends) clips ≡ false → Blocked ≡ untimedOf clips m ends
     untimed-blocked k e = answer false false e (ne-eqb (m .default .mark) 0 k)

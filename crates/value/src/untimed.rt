@@ -1,6 +1,7 @@
 // The answer without a time. It heeds neither the missing flag nor the manifest blocks.
 
 use definitions::Missing;
+use definitions::ValueState;
 use sdf::part::clip_begin;
 use sdf::part::clip_end;
 ghost use mathlib.Core.Path.{_≡_};
@@ -9,14 +10,7 @@ ghost use lib.ListN.{length};
 ghost use Rattle.definitions.specs.Lists.{any};
 ghost use Rattle.definitions.specs.Moments.{was};
 ghost use Rattle.laws.specs.list.Every.{Every};
-ghost use Rattle.value.specs.Untimed.{stateIs, hasSamples, untimedOf};
-
-// Whether a set has a value at all.
-pub enum ValueState {
-    Present,
-    Blocked,
-    Absent,
-}
+ghost use Rattle.value.specs.Untimed.{hasSamples, untimedOf};
 
 // One of these clips has samples, blocks among them.
 fn any_samples(clips: &[u64], ends: &[u64]) -> bool
@@ -37,7 +31,7 @@ fn any_samples(clips: &[u64], ends: &[u64]) -> bool
 // Absent without starts; present where a start's clip has samples or the manifest default is a value; else blocked.
 pub fn untimed_answer_in_set(clips: &[u64], m: Missing, ends: &[u64]) -> ValueState
     requires { ⌜ Every (λ (c : ℕ). c < length (now ends)) (now clips) ⌝ }
-    ensures { λ r. ⌜ stateIs r ≡ untimedOf (was clips) m (was ends) ⌝ }
+    ensures { λ r. ⌜ r ≡ untimedOf (was clips) m (was ends) ⌝ }
 {
     if clips.len() == 0 {
         return ValueState::Absent;

@@ -1,7 +1,7 @@
 -- `tavitrozy::untimed_code` meets its contract: each arm is given which case the reply is. Assumes nothing.
 use mathlib.Core.Path.{sym, ap, _∙_}
 use borrow.Author.Needs.{needs}
-use Rattle.value.specs.declared.untimed.ValueState.{ValueState}
+use Rattle.definitions.specs.declared.ValueState.{ValueState}
 use Rattle.resolver.specs.declared.UntimedReply.the-variants.{Answered}
 use Rattle.tavitrozy.specs.Codes.{untimedCode}
 use Rattle.tavitrozy.proofs.untimed_code.Statement.{statement}
