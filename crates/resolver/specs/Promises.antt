@@ -11,7 +11,6 @@ use Rattle.definitions.specs.declared.StageTime.{StageTime}
 use Rattle.definitions.specs.declared.ClipTime.{ClipTime}
 use Rattle.definitions.specs.Questions.{Reply, refused, replied, askActiveClip, askClipTime, askValue, askUntimed, askStageSampleTimes, askStageSamples}
 use Rattle.definitions.specs.declared.Answer.{Answer}
-use Rattle.definitions.specs.StageSamples as Stage
 use Rattle.sdf.specs.declared.Counted.{Counted}
 use Rattle.definitions.specs.ClipSet.{noSet, standing}
 use Rattle.definitions.specs.Explicit.{ExplicitFields, explicitNumber}

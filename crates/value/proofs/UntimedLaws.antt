@@ -14,7 +14,6 @@ use Rattle.definitions.specs.declared.Start.{Start}
 use Rattle.definitions.specs.Lists.{any}
 use Rattle.definitions.specs.ClipSet.{ClipSet, markValue}
 use Rattle.definitions.specs.Samples.{Samples, clipBegin, clipEnd, clipTimes}
-use Rattle.definitions.specs.StageSamples as Stage
 use Rattle.definitions.specs.StageSamples.{anySamples, untimed, untimedAnswer}
 use Rattle.definitions.specs.declared.ValueState.the-variants.{Present, Blocked, Absent}
 use Rattle.laws.specs.list.Every.{Every}

@@ -8,7 +8,6 @@ use Rattle.definitions.specs.declared.Missing.{Missing}
 use Rattle.definitions.specs.Lists.{any}
 use Rattle.definitions.specs.ClipSet.{markValue}
 use Rattle.definitions.specs.Samples.{clipBegin, clipEnd}
-use Rattle.definitions.specs.StageSamples as Stage
 use Rattle.definitions.specs.declared.ValueState.{ValueState}
 use Rattle.definitions.specs.declared.ValueState.the-variants.{Present, Blocked, Absent}
 

@@ -1,25 +1,13 @@
 -- Likeness of entries by the tests of `alike`, and of bits by those of `same_bits`. Assumes nothing.
 use mathlib.Core.Path.{_≡_, refl, sym, ap, _∙_}
-use mathlib.Core.Bool.{Bool, true, false, not, false≢true}
-use lib.Dec.{T, eqb}
-use lib.Ieee.{Float, nan, inf, fin, binary64, fits, isNan, ne, toBits}
-use lib.Ieee.Compare.{differs-from-itself}
+use mathlib.Core.Bool.{Bool, true, false, false≢true}
+use lib.Dec.{eqb}
+use lib.Ieee.{Float, nan, binary64, fits, ne, toBits}
 use borrow.Author.Tests.{eq-eqb, ne-eqb}
+use Rattle.gf.proofs.Tests.{is-nan}
 use Rattle.gf.proofs.Units.{same-bits}
 use Rattle.definitions.specs.Track.{Entry, alike}
-use Rattle.laws.proofs.list.Tests.{holds}
 use Rattle.laws.specs.list.Places.{Fits}
-
--- ---- a NaN differs from itself, and nothing else does
-
-pub is-nan : (x : Float) → ne x x ≡ true → x ≡ nan
-is-nan x e = differs-from-itself x (holds (ne x x) e)
-
-pub not-nan : (x : Float) → ne x x ≡ false → T (not (isNan x))
-unfolding ne isNan
-not-nan nan e = absurd (false≢true (sym e))
-not-nan (inf s) e = tt
-not-nan (fin s m k) e = tt
 
 nan-fits : Fits nan
 unfolding fits

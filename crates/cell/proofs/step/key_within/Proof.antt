@@ -1,6 +1,6 @@
 -- `cell::step::key_within` meets its contract. Assumes nothing.
 use borrow.Author.Needs.{needs}
-use Rattle.cell.proofs.step.Likeness.{not-nan}
+use Rattle.gf.proofs.Tests.{not-nan}
 use Rattle.cell.proofs.step.key_within.Statement.{statement}
 use Rattle.cell.proofs.step.key_within.Tie as tie
 

@@ -1,7 +1,8 @@
 -- `entry::same_bits` meets its contract. Assumes nothing.
 use mathlib.Core.Path.{sym, subst}
 use lib.Dec.{T}
-use Rattle.cell.proofs.step.Likeness.{not-nan, nan-bits, other-bits}
+use Rattle.gf.proofs.Tests.{not-nan}
+use Rattle.cell.proofs.step.Likeness.{nan-bits, other-bits}
 use borrow.Author.Needs.{needs}
 use Rattle.cell.proofs.step.entry.same_bits.Statement.{statement}
 use Rattle.cell.proofs.step.entry.same_bits.Tie as tie
