@@ -18,7 +18,7 @@ ghost use Rattle.gf.specs.Doubles as Key;
 ghost use Rattle.definitions.specs.Moments.{was};
 ghost use Rattle.laws.specs.cell.Keys.{entryAtKey};
 ghost use Rattle.laws.specs.cell.Lent.{setOf, samplesOf, AcceptedLists};
-ghost use Rattle.window.specs.neighbours.Latest.{LatestOf};
+ghost use Rattle.window.specs.search.Latest.{LatestOf};
 ghost use Rattle.cell.specs.step.Entries.{entryIs};
 ghost use Rattle.standing.specs.Standing.{Asked};
 ghost use Rattle.track.specs.Fills.{CursorIs, PageIs};

@@ -39,8 +39,8 @@ use Rattle.window.specs.Windows.{ifOwn}
 use Rattle.cell.specs.declared.step.line.Line.{Line}
 use Rattle.cell.specs.step.Lines.{lineIs}
 use Rattle.window.specs.declared.search.Window.{Window}
-use Rattle.window.specs.neighbours.Latest.{LatestOf}
-use Rattle.window.specs.neighbours.Windowed.{samplesIn, windowTimes, windowSource}
+use Rattle.window.specs.search.Latest.{LatestOf}
+use Rattle.window.specs.search.Windowed.{samplesIn, windowTimes, windowSource}
 use Rattle.value.specs.Jumps.{jumpIn}
 use Rattle.value.proofs.Jumps.{jump-by-x}
 use Rattle.value.specs.WindowOf.{WindowIs}

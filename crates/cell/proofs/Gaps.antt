@@ -25,7 +25,7 @@ use Rattle.value.specs.direct.Reads.{readStart, firstRead}
 use Rattle.value.proofs.direct.ReadsLaws.{read-none, start-blocked, start-read, from-on, back-on, first-is}
 use Rattle.value.specs.direct.Sources.{standIn}
 use Rattle.window.specs.declared.search.Window.{Window}
-use Rattle.window.specs.neighbours.Windowed.{samplesIn}
+use Rattle.window.specs.search.Windowed.{samplesIn}
 use Rattle.value.specs.WindowOf.{WindowIs}
 use Rattle.value.proofs.WindowOf.{window-gap}
 

@@ -17,7 +17,7 @@ use Rattle.window.specs.declared.Bound.the-variants.{At, Nothing}
 use Rattle.window.specs.declared.Neighbours.{Neighbours}
 use Rattle.window.specs.Bounds.{UpperIs, NeighboursAre}
 use Rattle.window.specs.declared.search.Window.{Window}
-use Rattle.window.specs.neighbours.Windowed.{samplesIn, windowTimes, windowSource, Lent, Nearing}
+use Rattle.window.specs.search.Windowed.{samplesIn, windowTimes, windowSource, Lent, Nearing}
 use Rattle.value.specs.Jumps.{jumpIn}
 use Rattle.cell.specs.step.Lines.{lineIs}
 use Rattle.cell.specs.declared.Cell.{Cell}

@@ -19,7 +19,7 @@ ghost use lib.ListN.{length};
 ghost use lib.Ieee.{inf, isNan, lt, le};
 ghost use Rattle.definitions.specs.Moments.{was};
 ghost use Rattle.laws.specs.list.Places.{Ascending};
-ghost use Rattle.window.specs.neighbours.Windowed.{samplesIn, Lent, Nearing};
+ghost use Rattle.window.specs.search.Windowed.{samplesIn, Lent, Nearing};
 ghost use Rattle.run.specs.begin.Begins.{BeforeIs, LastIs, PastLatest, RunBeginIs};
 
 // The place of the segment's first knot, the lower neighbour, the inverse time up to which the run goes,

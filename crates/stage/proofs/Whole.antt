@@ -25,8 +25,8 @@ use Rattle.window.specs.Inverses.{inversesOf}
 use Rattle.window.specs.Windows.{minOf, maxOf, windowPart}
 use Rattle.window.proofs.nearest.Beside.{finite-number, number-at, next-above, last-reached}
 use Rattle.window.specs.declared.search.Window.{Window}
-use Rattle.window.specs.neighbours.Latest.{LatestOf}
-use Rattle.window.specs.neighbours.Windowed.{samplesIn, nextOf, windowTimes, Nearing}
+use Rattle.window.specs.search.Latest.{LatestOf}
+use Rattle.window.specs.search.Windowed.{samplesIn, nextOf, windowTimes, Nearing}
 use Rattle.stage.specs.Whole.{wholeTimes, nextStart, Windows, WholeWindow}
 
 no-more : lt (inf false) (inf false) ≡ false

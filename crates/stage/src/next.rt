@@ -19,7 +19,7 @@ ghost use lib.Ieee.Scale.{finite};
 ghost use Rattle.definitions.specs.Timing.{lastAtMost};
 ghost use Rattle.definitions.specs.Moments.{was};
 ghost use Rattle.window.specs.Bounds.{UpperIs};
-ghost use Rattle.window.specs.neighbours.Latest.{LatestOf};
+ghost use Rattle.window.specs.search.Latest.{LatestOf};
 ghost use Rattle.stage.specs.Whole.{Windows, WholeWindow, wholeTimes, nextStart};
 ghost use Rattle.stage.specs.Times.{AcceptedTimes, NextTime};
 

@@ -7,7 +7,7 @@ ghost use Prim.Native.Nat.{_≤_};
 ghost use lib.Dec.{leb};
 ghost use lib.ListN.{length};
 ghost use Rattle.definitions.specs.Moments.{was, after};
-ghost use Rattle.window.specs.neighbours.Latest.{LatestOf};
+ghost use Rattle.window.specs.search.Latest.{LatestOf};
 ghost use Rattle.stage.specs.Times.{timesOf, AcceptedTimes};
 ghost use Rattle.stage.specs.Promises.{AllWritten};
 

@@ -19,7 +19,7 @@ ghost use Rattle.gf.specs.Doubles as Key;
 ghost use Rattle.definitions.specs.Track.{slots};
 ghost use Rattle.definitions.specs.Moments.{outputs, outsWere, outsLeft};
 ghost use Rattle.laws.specs.cell.Lent.{AcceptedLists, setWas, samplesWere};
-ghost use Rattle.window.specs.neighbours.Latest.{LatestOf};
+ghost use Rattle.window.specs.search.Latest.{LatestOf};
 ghost use Rattle.run.specs.Walks.{Room};
 ghost use Rattle.track.specs.Bakes.{BakeIs};
 ghost use Rattle.track.specs.Fills.{CursorIs, copied};

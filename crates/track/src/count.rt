@@ -9,7 +9,7 @@ ghost use lib.ListN.{length};
 ghost use Rattle.definitions.specs.Track.{slots};
 ghost use Rattle.definitions.specs.Moments.{outputs};
 ghost use Rattle.laws.specs.cell.Lent.{AcceptedLists, setWas, samplesWere};
-ghost use Rattle.window.specs.neighbours.Latest.{LatestOf};
+ghost use Rattle.window.specs.search.Latest.{LatestOf};
 ghost use Rattle.track.specs.span.Changes.{changesOf};
 ghost use Rattle.track.specs.Fills.{CursorIs};
 

@@ -9,7 +9,7 @@ ghost use mathlib.Core.Path.{_≡_};
 ghost use Prim.Native.Nat.{min};
 ghost use Rattle.definitions.specs.Moments.{outsWere, outsLeft};
 ghost use Rattle.laws.specs.cell.Lent.{AcceptedLists};
-ghost use Rattle.window.specs.neighbours.Latest.{LatestOf};
+ghost use Rattle.window.specs.search.Latest.{LatestOf};
 ghost use Rattle.track.specs.Fills.{CursorIs, Fills};
 
 // The key that a walk has reached, the entry there, and where its last search ended.

@@ -31,7 +31,7 @@ ghost use mathlib.Core.Path.{_≡_};
 ghost use Rattle.definitions.specs.Moments.{was};
 ghost use Rattle.laws.specs.cell.Keys.{Keys};
 ghost use Rattle.laws.specs.cell.Lent.{AcceptedLists};
-ghost use Rattle.window.specs.neighbours.Latest.{LatestOf};
+ghost use Rattle.window.specs.search.Latest.{LatestOf};
 ghost use Rattle.window.specs.declared.Bound.the-variants.{At};
 ghost use Rattle.cell.specs.WindowPlaces.{PlaceIs};
 ghost use Rattle.track.specs.span.Runs.{readOn, StepIs};

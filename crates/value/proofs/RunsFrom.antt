@@ -34,9 +34,9 @@ use Rattle.window.proofs.Inverses.{every-of, every-if}
 use Rattle.window.specs.nearest.Beside.{TimeInside}
 use Rattle.window.proofs.nearest.Beside.{finite-number, number-at, climb}
 use Rattle.window.specs.declared.search.Window.{Window}
-use Rattle.window.specs.neighbours.Latest.{segmentOf}
+use Rattle.window.specs.search.Latest.{segmentOf}
 use Rattle.window.proofs.search.Reaches.{segment-times, inverse-number, to-places, from-places}
-use Rattle.window.specs.neighbours.Windowed.{intervalOf, nextOf, windowTimes, Nearing}
+use Rattle.window.specs.search.Windowed.{intervalOf, nextOf, windowTimes, Nearing}
 use Rattle.window.proofs.search.Windowed.{near-faces}
 use Rattle.value.specs.Jumps.{jumpIn}
 use Rattle.value.proofs.Jumps.{none-all, none-above}

@@ -38,7 +38,7 @@ use Rattle.window.specs.declared.Neighbours.{Neighbours}
 use Rattle.window.specs.Bounds.{LowerIs, UpperIs, NeighboursAre}
 use Rattle.window.proofs.Parts.{ready-active, ready-position, ready-readable}
 use Rattle.window.specs.declared.search.Window.{Window}
-use Rattle.window.specs.neighbours.Windowed.{samplesIn, windowTimes, windowSource}
+use Rattle.window.specs.search.Windowed.{samplesIn, windowTimes, windowSource}
 use Rattle.value.specs.WindowOf.{WindowIs}
 use Rattle.value.specs.Jumps.{jumpIn}
 use Rattle.value.proofs.Jumps.{jump-by-x}

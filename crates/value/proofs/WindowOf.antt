@@ -38,8 +38,8 @@ use Rattle.value.proofs.direct.ReadsLaws.{read-none, read-some}
 use Rattle.value.specs.direct.Sources.{standIn}
 use Rattle.value.proofs.direct.Sources.{reads-own, reads-empty, reads-out}
 use Rattle.window.specs.declared.search.Window.{Window}
-use Rattle.window.specs.neighbours.Latest.{LatestOf}
-use Rattle.window.specs.neighbours.Windowed.{intervalOf, samplesIn, nextOf, windowTimes, windowSource, Lent, Nearing}
+use Rattle.window.specs.search.Latest.{LatestOf}
+use Rattle.window.specs.search.Windowed.{intervalOf, samplesIn, nextOf, windowTimes, windowSource, Lent, Nearing}
 use Rattle.value.specs.WindowOf.{WindowIs}
 
 no-more : lt (inf false) (inf false) ≡ false

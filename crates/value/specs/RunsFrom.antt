@@ -14,8 +14,8 @@ use Rattle.laws.specs.cell.Neighbours.{IsLower}
 use Rattle.window.specs.Bounds.{In}
 use Rattle.window.specs.Inverses.{onSegment}
 use Rattle.window.specs.declared.search.Window.{Window}
-use Rattle.window.specs.neighbours.Latest.{segmentOf}
-use Rattle.window.specs.neighbours.Windowed.{windowTimes, Nearing}
+use Rattle.window.specs.search.Latest.{segmentOf}
+use Rattle.window.specs.search.Windowed.{windowTimes, Nearing}
 use Rattle.value.specs.ClipTimes.{OnSegment}
 
 -- what is known where a run begins at t: its segment is that from the knot at i, the lower neighbour there is l, and h is the inverse time up to which it goes

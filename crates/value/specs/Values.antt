@@ -11,8 +11,8 @@ use Rattle.window.specs.declared.Bound.the-variants.{At, Nothing}
 use Rattle.window.specs.declared.Neighbours.{Neighbours}
 use Rattle.window.specs.Bounds.{NeighboursAre}
 use Rattle.window.specs.declared.search.Window.{Window}
-use Rattle.window.specs.neighbours.Latest.{LatestOf}
-use Rattle.window.specs.neighbours.Windowed.{samplesIn, windowTimes, windowSource, Lent, Nearing}
+use Rattle.window.specs.search.Latest.{LatestOf}
+use Rattle.window.specs.search.Windowed.{samplesIn, windowTimes, windowSource, Lent, Nearing}
 use Rattle.value.specs.Jumps.{jumpIn}
 
 -- ---- the value in a window

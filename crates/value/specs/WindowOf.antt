@@ -14,7 +14,7 @@ use Rattle.laws.specs.cell.Lent.{setOf, samplesOf}
 use Rattle.window.specs.Parts.{partOf}
 use Rattle.window.specs.Windows.{minOf, maxOf, ifOwn}
 use Rattle.window.specs.declared.search.Window.{Window}
-use Rattle.window.specs.neighbours.Windowed.{samplesIn, windowSource}
+use Rattle.window.specs.search.Windowed.{samplesIn, windowSource}
 
 -- the window of the start at the place p
 pub record WindowIs (starts : List Float) (clips : List ℕ) (xs ys blocks : List Float) (m : Missing) (times values : List Float) (marks ends : List ℕ) (p : ℕ) (w : Window) : Type 0 where

@@ -23,7 +23,7 @@ ghost use Rattle.definitions.specs.Timing.{mapStageToClip};
 ghost use Rattle.definitions.specs.Moments.{was};
 ghost use Rattle.laws.specs.list.Places.{Ascending};
 ghost use Rattle.laws.specs.cell.Lent.{knotsOf, AcceptedLists};
-ghost use Rattle.window.specs.neighbours.Windowed.{Lent, windowSource};
+ghost use Rattle.window.specs.search.Windowed.{Lent, windowSource};
 ghost use Rattle.value.specs.WindowOf.{WindowIs};
 ghost use Rattle.value.specs.ClipTimes.{OnSegment};
 

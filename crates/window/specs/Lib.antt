@@ -9,5 +9,5 @@ pub mod SoundSegments
 pub mod Windows
 -- A clip's part of the lent times, and what lists that are ready tell
 pub mod Parts
-pub mod neighbours
+pub mod search
 pub mod nearest

@@ -21,9 +21,9 @@ ghost use Rattle.definitions.specs.Timing.{lastAtMost};
 ghost use Rattle.definitions.specs.Moments.{was};
 ghost use Rattle.window.specs.Bounds.{nothing, NeighboursAre};
 ghost use Rattle.window.specs.nearest.Nearest.{Searched};
-ghost use Rattle.window.specs.neighbours.Latest.{LatestOf};
-ghost use Rattle.window.specs.neighbours.Reaches.{Searchable, PastAll, timesOf, Reached, Around};
-ghost use Rattle.window.specs.neighbours.Windowed.{boundsOf, startsOf, windowTimes, Nearing};
+ghost use Rattle.window.specs.search.Latest.{LatestOf};
+ghost use Rattle.window.specs.search.Reaches.{Searchable, PastAll, timesOf, Reached, Around};
+ghost use Rattle.window.specs.search.Windowed.{boundsOf, startsOf, windowTimes, Nearing};
 
 // The window of a start: its time, its ends, its clip, the clip's samples `begin..end` if they contribute, and what stands in where there are none.
 pub struct Window {

@@ -5,7 +5,7 @@ use native.Mathlib.Omega.{arith}
 use lib.ListN.{length}
 use Rattle.laws.specs.cell.Cells as Cells
 use Rattle.window.specs.declared.Bound.{Bound}
-use Rattle.window.specs.neighbours.Windowed.{Lent, boundsOf}
+use Rattle.window.specs.search.Windowed.{Lent, boundsOf}
 use Rattle.cell.specs.declared.Cell.{Cell}
 use Rattle.cell.specs.CellAndEnd.{cellIs, cellBy, CellIn}
 use borrow.Author.Needs.{needs}

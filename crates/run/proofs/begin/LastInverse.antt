@@ -23,7 +23,7 @@ use Rattle.window.specs.Bounds.{In}
 use Rattle.window.proofs.BoundsLaws.{in-every, every-in}
 use Rattle.window.specs.Inverses.{onSegment}
 use Rattle.window.proofs.Inverses.{every-each}
-use Rattle.window.specs.neighbours.Latest.{segmentOf}
+use Rattle.window.specs.search.Latest.{segmentOf}
 use Rattle.run.proofs.RunLaws.{segment-fits}
 use Rattle.run.specs.begin.Begins.{BeforeIs, LastIs}
 

@@ -10,8 +10,8 @@ use Rattle.window.specs.declared.Bound.the-variants as Bounds
 use Rattle.window.specs.Bounds.{In}
 use Rattle.window.specs.Inverses.{onSegment}
 use Rattle.window.specs.declared.search.Window.{Window}
-use Rattle.window.specs.neighbours.Latest.{segmentOf}
-use Rattle.window.specs.neighbours.Windowed.{samplesIn}
+use Rattle.window.specs.search.Latest.{segmentOf}
+use Rattle.window.specs.search.Windowed.{samplesIn}
 use Rattle.value.specs.RunsFrom as RunsFrom
 use Rattle.run.specs.declared.begin.RunBegin.{RunBegin}
 use Rattle.run.specs.declared.begin.RunBegin.the-variants.{At, Nothing}

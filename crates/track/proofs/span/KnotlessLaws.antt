@@ -50,7 +50,7 @@ use Rattle.cell.specs.declared.step.line.Line.the-variants.{Identity}
 use Rattle.cell.specs.step.Lines.{placeOn}
 use Rattle.window.specs.declared.search.Window.{Window}
 use Rattle.window.proofs.search.LatestLaws.{no-latest}
-use Rattle.window.specs.neighbours.Windowed.{intervalOf, samplesIn, nextOf, startsOf, windowTimes, windowSource, Nearing}
+use Rattle.window.specs.search.Windowed.{intervalOf, samplesIn, nextOf, startsOf, windowTimes, windowSource, Nearing}
 use Rattle.window.proofs.search.Windowed.{near-faces, near-plain}
 use Rattle.value.specs.WindowOf.{WindowIs}
 use Rattle.value.proofs.WindowOf.{window-lent, window-nears}

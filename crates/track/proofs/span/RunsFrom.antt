@@ -44,9 +44,9 @@ use Rattle.window.proofs.nearest.Beside.{finite-number}
 use Rattle.cell.specs.declared.step.line.Line.{Line}
 use Rattle.cell.specs.step.Lines.{lineIs, placeOn}
 use Rattle.window.specs.declared.search.Window.{Window}
-use Rattle.window.specs.neighbours.Latest.{segmentOf}
+use Rattle.window.specs.search.Latest.{segmentOf}
 use Rattle.window.proofs.search.LatestLaws.{segment-here}
-use Rattle.window.specs.neighbours.Windowed.{samplesIn, windowTimes, windowSource}
+use Rattle.window.specs.search.Windowed.{samplesIn, windowTimes, windowSource}
 use Rattle.run.specs.Readings.{Reads, readingAt}
 use Rattle.run.specs.Runs.{lineOn, passedBy, passingAt, Passing}
 use Rattle.run.proofs.RunLaws.{passing-lower}

@@ -21,8 +21,8 @@ use Rattle.lists.specs.Segments.{segmentAt}
 use Rattle.window.specs.declared.Bound.{Bound}
 use Rattle.window.specs.declared.Bound.the-variants.{At}
 use Rattle.window.specs.declared.search.Window.{Window}
-use Rattle.window.specs.neighbours.Latest.{LatestOf, segmentOf}
-use Rattle.window.specs.neighbours.Windowed.{samplesIn}
+use Rattle.window.specs.search.Latest.{LatestOf, segmentOf}
+use Rattle.window.specs.search.Windowed.{samplesIn}
 use Rattle.window.proofs.Parts.{ready-readable}
 use Rattle.value.specs.WindowOf.{WindowIs}
 use Rattle.value.specs.RunsFrom.{RunFrom}

@@ -16,7 +16,7 @@ use Rattle.laws.specs.cell.Keys.{Keys}
 use Rattle.lists.specs.Segments.{segmentAt}
 use Rattle.window.specs.declared.Bound.{Bound}
 use Rattle.window.specs.declared.search.Window.{Window}
-use Rattle.window.specs.neighbours.Latest.{segmentOf}
+use Rattle.window.specs.search.Latest.{segmentOf}
 use Rattle.value.specs.Answers.{answerIn, Answerable}
 use Rattle.cell.specs.declared.Cell.{Cell}
 use Rattle.cell.specs.declared.Cell.the-variants.{Constant, Reading}

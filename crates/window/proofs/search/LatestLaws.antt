@@ -27,7 +27,7 @@ use Rattle.lists.specs.Segments.{knotAt}
 use Rattle.window.proofs.Inverses.{knots-long, knots-at}
 use Rattle.window.specs.SoundSegments.{SoundSegment}
 use Rattle.window.proofs.SoundSegments.{segment-at, topOf, inverse-fits, range}
-use Rattle.window.specs.neighbours.Latest.{segmentOf, ReachOf, LatestOf, NewTop}
+use Rattle.window.specs.search.Latest.{segmentOf, LatestBefore, LatestOf, LaterInverse}
 
 pub no-latest : (xs ys latest : List Float) → length latest ≡ 0 → LatestOf xs ys latest
 no-latest xs ys latest e = record { above = λ k h. absurd (omega arith) }
@@ -61,7 +61,7 @@ module _ (q : Knot × Knot) (s : SoundSegment q) (top : Float) (nt : Number top)
             absurd (omega arith)
       ]
 
-  pub top-flat : eq (q .0 .y) (q .1 .y) ≡ true → NewTop q top top
+  pub top-flat : eq (q .0 .y) (q .1 .y) ≡ true → LaterInverse q top top
   top-flat e = record { number = nt; over = le-refl top (nt .0) (nt .1); reach = λ c h. absurd (spans-apart e c h) }
 
   module _ (e : eq (q .0 .y) (q .1 .y) ≡ false) where
@@ -82,10 +82,10 @@ module _ (q : Knot × Knot) (s : SoundSegment q) (top : Float) (nt : Number top)
     last-number : Number (topOf q)
     last-number = (inverse-fits q (q .1 .y), le-no-nan (q .0 .x) (topOf q) (range q s (q .1 .y) spans-second .0) .1)
 
-    pub top-higher : lt top (topOf q) ≡ true → NewTop q top (topOf q)
+    pub top-higher : lt top (topOf q) ≡ true → LaterInverse q top (topOf q)
     top-higher l = record { number = last-number; over = lt→le top (topOf q) (holds (lt top (topOf q)) l); reach = λ c h. range q s c h .1 }
 
-    pub top-lower : lt top (topOf q) ≡ false → NewTop q top top
+    pub top-lower : lt top (topOf q) ≡ false → LaterInverse q top top
     top-lower l =
         let n = last-number in
         let k = ltb-false (key top) (key (topOf q)) (sym (lt-is top (topOf q) (nt .0) (n .0) (nt .1) (n .1)) ∙ l) in
@@ -98,10 +98,10 @@ module _ (q : Knot × Knot) (s : SoundSegment q) (top : Float) (nt : Number top)
 -- ---- segment by segment
 
 module _ (xs ys : List Float) where
-  pub reach-none : (top : Float) → Number top → ReachOf xs ys 0 top
+  pub reach-none : (top : Float) → Number top → LatestBefore xs ys 0 top
   reach-none top n = record { number = n; last = λ j h. absurd (omega arith) }
 
-  pub reach-next : (top r : Float) (i : ℕ) → ReachOf xs ys i top → NewTop (segmentOf xs ys i) top r → ReachOf xs ys (i + 1) r
+  pub reach-next : (top r : Float) (i : ℕ) → LatestBefore xs ys i top → LaterInverse (segmentOf xs ys i) top r → LatestBefore xs ys (i + 1) r
   reach-next top r i A N = record {
     number = N .number;
     last = λ j b c s. elim (decLe i j) [
@@ -115,21 +115,21 @@ module _ (xs ys : List Float) where
   -- the latest of the segments before i, and the last of them
   pub record TopsTo (items : List Float) (top : Float) (i : ℕ) : Type 0 where
     pub long : length items ≡ maxKnots
-    pub here : ReachOf xs ys i top
-    pub above : (k : ℕ) → k < i → ReachOf xs ys (k + 1) (getD items k nan)
+    pub here : LatestBefore xs ys i top
+    pub above : (k : ℕ) → k < i → LatestBefore xs ys (k + 1) (getD items k nan)
 
   pub latest-none : (items : List Float) (top : Float) → length items ≡ maxKnots → Number top → TopsTo items top 0
   latest-none items top e n = record { long = e; here = reach-none top n; above = λ k h. absurd (omega arith) }
 
-  pub latest-next : (items : List Float) (top r : Float) (i : ℕ) → i < length items → TopsTo items top i → NewTop (segmentOf xs ys i) top r → TopsTo (set items i r) r (i + 1)
+  pub latest-next : (items : List Float) (top r : Float) (i : ℕ) → i < length items → TopsTo items top i → LaterInverse (segmentOf xs ys i) top r → TopsTo (set items i r) r (i + 1)
   latest-next items top r i h A N = record {
     long = length-set items i r ∙ A .long;
     here = reach-next top r i (A .here) N;
     above = λ k b. elim (decLe i k) [
       | yes p ↦
           let z : i ≡ k = omega arith in
-          subst (λ (n : ℕ). ReachOf xs ys (n + 1) (getD (set items i r) n nan)) z (subst (ReachOf xs ys (i + 1)) (sym (getD-set-same items i r nan h)) (reach-next top r i (A .here) N))
-      | no p ↦ subst (ReachOf xs ys (k + 1)) (sym (getD-set-other items i k r nan (λ e. absurd (omega arith)))) (A .above k (omega arith))
+          subst (λ (n : ℕ). LatestBefore xs ys (n + 1) (getD (set items i r) n nan)) z (subst (LatestBefore xs ys (i + 1)) (sym (getD-set-same items i r nan h)) (reach-next top r i (A .here) N))
+      | no p ↦ subst (LatestBefore xs ys (k + 1)) (sym (getD-set-other items i k r nan (λ e. absurd (omega arith)))) (A .above k (omega arith))
     ];
   }
 

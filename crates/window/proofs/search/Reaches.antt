@@ -36,9 +36,9 @@ use Rattle.window.proofs.SoundSegments.{inverse-fits, range}
 use Rattle.window.specs.nearest.Nearest.{LowerMet, UpperMet, Met, LowerIn, Searched}
 use Rattle.window.specs.nearest.Beside.{TimeInside}
 use Rattle.window.proofs.nearest.Beside.{meet-above, number-at, climb, next-above}
-use Rattle.window.specs.neighbours.Latest.{segmentOf, ReachOf}
+use Rattle.window.specs.search.Latest.{segmentOf, LatestBefore}
 use Rattle.window.proofs.search.LatestLaws.{segment-here}
-use Rattle.window.specs.neighbours.Reaches.{PastAll, timesOf, Reached, Around}
+use Rattle.window.specs.search.Reaches.{PastAll, timesOf, Reached, Around}
 
 -- ---- what a search among knots and samples asks
 
@@ -102,7 +102,7 @@ module _ (t : Float) (w : Interval) (xs ys cs : List Float) where
 
     -- ---- the segments before those that were searched reach no further than the lower neighbour
 
-    pub reached-past : (to j : ℕ) → j ≤ to → to < length xs → (top : Float) → ReachOf xs ys j top → {h r : Neighbours} → PastAll (r .lower) top → Reached t w xs ys cs j to h r → Reached t w xs ys cs 0 to h r
+    pub reached-past : (to j : ℕ) → j ≤ to → to < length xs → (top : Float) → LatestBefore xs ys j top → {h r : Neighbours} → PastAll (r .lower) top → Reached t w xs ys cs j to h r → Reached t w xs ys cs 0 to h r
     reached-past to j q b′ top O {h} {r} d A = record {
       run = λ nt g N x s.
           let u = A .run nt g N (λ n y b. x n zero-le b) s in

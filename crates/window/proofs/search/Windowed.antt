@@ -22,9 +22,9 @@ use Rattle.window.proofs.nearest.Nearest.{searched-one, searched-then, 
 use Rattle.window.specs.nearest.Beside.{TimeInside}
 use Rattle.window.proofs.nearest.Beside.{facing, finite-number}
 use Rattle.window.specs.declared.search.Window.{Window}
-use Rattle.window.specs.neighbours.Reaches.{Searchable, Around}
+use Rattle.window.specs.search.Reaches.{Searchable, Around}
 use Rattle.window.proofs.search.Reaches.{around-searched, inverses-number}
-use Rattle.window.specs.neighbours.Windowed.{intervalOf, nextOf, startsOf, windowTimes, Nearing}
+use Rattle.window.specs.search.Windowed.{intervalOf, nextOf, startsOf, windowTimes, Nearing}
 
 -- ---- the starts
 

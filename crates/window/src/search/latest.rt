@@ -14,7 +14,7 @@ ghost use Rattle.laws.specs.list.Every.{Every};
 ghost use Rattle.laws.specs.list.Places.{Number};
 ghost use Rattle.laws.specs.cell.Lent.{knotsOf};
 ghost use Rattle.window.specs.SoundSegments.{SoundSegment};
-ghost use Rattle.window.specs.neighbours.Latest.{NewTop, ReachOf, LatestOf};
+ghost use Rattle.window.specs.search.Latest.{LaterInverse, LatestBefore, LatestOf};
 
 // For each segment a time that no inverse time of it or of a segment before it is above.
 pub struct LatestInverses {
@@ -31,7 +31,7 @@ fn some_times() -> [f64; KNOTS]
 // The greater of `top` and the last inverse time of a segment, which is that of its second clip time; with equal clip times it has none.
 fn later_inverse(top: f64, s: Segment) -> f64
     requires { ⌜ SoundSegment (s .a, s .b) ⌝ ∗ ⌜ Number top ⌝ }
-    ensures { λ r. ⌜ NewTop (s .a, s .b) top r ⌝ }
+    ensures { λ r. ⌜ LaterInverse (s .a, s .b) top r ⌝ }
 {
     let cb = s.b.y;
     if s.a.y == cb {
@@ -47,7 +47,7 @@ fn later_inverse(top: f64, s: Segment) -> f64
 // A time that no inverse time of the segments before the knot at `i` is above.
 fn latest_inverse(xs: &[f64], ys: &[f64], i: usize) -> f64
     requires { ⌜ length (now xs) ≡ length (now ys) ⌝ ∗ ⌜ Every SoundSegment (pairs (knotsOf (now xs) (now ys))) ⌝ ∗ ⌜ i < length (now xs) ⌝ }
-    ensures { λ r. ⌜ ReachOf (was xs) (was ys) i r ⌝ }
+    ensures { λ r. ⌜ LatestBefore (was xs) (was ys) i r ⌝ }
 {
     let mut top = -1.0 / 0.0;
     let mut k: usize = 0;
@@ -61,7 +61,7 @@ fn latest_inverse(xs: &[f64], ys: &[f64], i: usize) -> f64
 // The same, read off where the latest inverse times are at hand.
 pub fn latest_before(xs: &[f64], ys: &[f64], latest: &[f64], i: usize) -> f64
     requires { ⌜ length (now xs) ≡ length (now ys) ⌝ ∗ ⌜ Every SoundSegment (pairs (knotsOf (now xs) (now ys))) ⌝ ∗ ⌜ LatestOf (now xs) (now ys) (now latest) ⌝ ∗ ⌜ i < length (now xs) ⌝ ∗ ⌜ 0 < i ⌝ }
-    ensures { λ r. ⌜ ReachOf (was xs) (was ys) i r ⌝ }
+    ensures { λ r. ⌜ LatestBefore (was xs) (was ys) i r ⌝ }
 {
     let last = i - 1;
     if last < latest.len() {

@@ -7,7 +7,7 @@ use lib.Ieee.{binary64, fits}
 use denote.Ref.{now}
 use Rattle.gf.proofs.KeyLaws.{le-no-nan, lt→le}
 use Rattle.window.specs.Bounds.{LowerIs}
-use Rattle.window.specs.neighbours.Windowed.{samplesIn, windowTimes}
+use Rattle.window.specs.search.Windowed.{samplesIn, windowTimes}
 use Rattle.value.specs.ClipTimes.{OnSegment}
 use Rattle.run.specs.begin.Begins.{LastIs}
 use borrow.Author.Needs.{needs}

@@ -5,7 +5,7 @@ use lib.Dec.{T}
 use lib.ListN.{length}
 use denote.Ref.{now}
 use Rattle.definitions.specs.Doubles.{FiniteDouble}
-use Rattle.window.specs.neighbours.Windowed.{boundsOf}
+use Rattle.window.specs.search.Windowed.{boundsOf}
 use Rattle.stage.proofs.Whole.{whole-order, whole-upto, whole-nears, whole-found}
 use borrow.Author.Needs.{needs}
 use Rattle.stage.proofs.next.search_window.Statement.{statement}

@@ -2,7 +2,7 @@
 use mathlib.Core.List.{List, []}
 use native.Mathlib.Omega.{arith}
 use lib.Ieee.{Float}
-use Rattle.window.specs.neighbours.Latest.{LatestOf}
+use Rattle.window.specs.search.Latest.{LatestOf}
 use Rattle.window.proofs.Parts.{ready-readable}
 use Rattle.cell.proofs.Lent.{few-knots}
 use borrow.Author.Needs.{needs}

@@ -8,7 +8,7 @@ use Rattle.gf.specs.Doubles.{key}
 use Rattle.gf.proofs.KeyLaws.{finite→key, finite-no-nan}
 use Rattle.definitions.specs.declared.Segment.{Segment}
 use Rattle.lists.specs.Segments.{segmentAt}
-use Rattle.window.specs.neighbours.Latest.{segmentOf}
+use Rattle.window.specs.search.Latest.{segmentOf}
 use Rattle.cell.specs.declared.step.line.Line.the-variants as Line
 use Rattle.cell.specs.step.Entries.{entryIs}
 use Rattle.cell.specs.step.Lines.{placeOn}

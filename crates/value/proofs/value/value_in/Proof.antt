@@ -4,7 +4,7 @@ use mathlib.Core.List.{[]}
 use denote.Ref.{now}
 use borrow.Author.Needs.{needs}
 use Rattle.window.proofs.search.LatestLaws.{no-latest}
-use Rattle.window.specs.neighbours.Windowed.{boundsOf}
+use Rattle.window.specs.search.Windowed.{boundsOf}
 use Rattle.value.proofs.Values.{read-below, read-last, read-jump, read-held}
 use Rattle.value.proofs.value.value_in.Statement.{statement}
 use Rattle.value.proofs.value.value_in.Tie as tie

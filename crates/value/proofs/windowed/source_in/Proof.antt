@@ -5,7 +5,7 @@ use borrow.Author.Tests.{lt-ltb, le-ltb}
 use Rattle.definitions.specs.declared.ClipTime.{ClipTime}
 use Rattle.definitions.specs.declared.Source.the-variants.{Sample as sample}
 use Rattle.definitions.specs.Timing.{lastAtMost, mapStageToClip}
-use Rattle.window.specs.neighbours.Windowed.{samplesIn, windowSource}
+use Rattle.window.specs.search.Windowed.{samplesIn, windowSource}
 use borrow.Author.Needs.{needs}
 use Rattle.value.proofs.windowed.source_in.Statement.{statement}
 use Rattle.value.proofs.windowed.source_in.Tie as tie

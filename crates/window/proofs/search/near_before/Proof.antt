@@ -4,8 +4,8 @@ use mathlib.Core.Path.{_≡_, subst}
 use native.Mathlib.Omega.{arith}
 use denote.Ref.{now}
 use borrow.Author.Needs.{needs}
-use Rattle.window.specs.neighbours.Reaches.{Reached}
-use Rattle.window.specs.neighbours.Windowed.{boundsOf}
+use Rattle.window.specs.search.Reaches.{Reached}
+use Rattle.window.specs.search.Windowed.{boundsOf}
 use Rattle.window.proofs.search.Reaches.{reached-none, reached-one, reached-past}
 use Rattle.window.proofs.search.near_before.Statement.{statement}
 use Rattle.window.proofs.search.near_before.Tie as tie

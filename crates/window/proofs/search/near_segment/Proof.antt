@@ -7,7 +7,7 @@ use Rattle.window.specs.Bounds.{inside}
 use Rattle.window.specs.Inverses.{onSegment}
 use Rattle.window.specs.SoundSegments.{SoundSegment}
 use Rattle.window.specs.nearest.Nearest.{Searched}
-use Rattle.window.specs.neighbours.Windowed.{boundsOf}
+use Rattle.window.specs.search.Windowed.{boundsOf}
 use Rattle.window.proofs.search.LatestLaws.{segment-here}
 use borrow.Author.Needs.{needs}
 use Rattle.window.proofs.search.near_segment.Statement.{statement}

@@ -1,7 +1,7 @@
 -- `window::search::latest::later_inverse` meets its contract. Assumes nothing.
 use mathlib.Core.Path.{sym, ap, _∙_, subst}
 use lib.Ieee.{Float, lt}
-use Rattle.window.specs.neighbours.Latest.{NewTop}
+use Rattle.window.specs.search.Latest.{LaterInverse}
 use Rattle.window.proofs.search.LatestLaws.{top-flat, top-higher, top-lower}
 use borrow.Author.Needs.{needs}
 use Rattle.window.proofs.search.latest.later_inverse.Statement.{statement}
@@ -15,7 +15,7 @@ returns-2 c =
     let s = c .before .before .before .before in
     let a = s .args in
     let e = c .before .stage-time .ensures in
-    subst (λ (x : Float). NewTop (a .s .a, a .s .b) (a .top) x) (sym e) (top-higher (a .s .a, a .s .b) (s .pre .0) (a .top) (s .pre .1) (c .before .before .if1 .left) (ap (lt (a .top)) (sym e) ∙ c .if2 .taken))
+    subst (λ (x : Float). LaterInverse (a .s .a, a .s .b) (a .top) x) (sym e) (top-higher (a .s .a, a .s .b) (s .pre .0) (a .top) (s .pre .1) (c .before .before .if1 .left) (ap (lt (a .top)) (sym e) ∙ c .if2 .taken))
 
 returns-3 : tie.Need-returns-3
 returns-3 c =

@@ -6,13 +6,13 @@ use lib.Ieee.{ofBits, neg, div, fits, isNan}
 use denote.Ref.{now}
 use Rattle.definitions.specs.declared.Segment.{Segment}
 use Rattle.window.specs.SoundSegments.{SoundSegment}
-use Rattle.window.specs.neighbours.Latest.{NewTop, ReachOf}
+use Rattle.window.specs.search.Latest.{LaterInverse, LatestBefore}
 use Rattle.window.proofs.search.LatestLaws.{reach-none, reach-next, segment-here}
 use Rattle.window.proofs.search.latest.latest_inverse.Statement.{statement}
 use Rattle.window.proofs.search.latest.latest_inverse.Tie as tie
 
 abbrev Inv-loop : tie.InvT-loop
-Inv-loop xs ys i top₀ k₀ top k = (k ≤ i) × ReachOf xs ys k top
+Inv-loop xs ys i top₀ k₀ top k = (k ≤ i) × LatestBefore xs ys k top
 
 abbrev μ-loop : tie.MeasureT-loop
 μ-loop xs ys i top₀ k₀ top k = i - k
@@ -44,7 +44,7 @@ loop-again c =
     let m = c .before in
     let l = m .before .before in
     let a = entry l .args in
-    let N = subst (λ (q : Segment). NewTop (q .a, q .b) (l .loop .top) (c .later-inverse .result)) (m .segment-at .ensures) (c .later-inverse .ensures) in
+    let N = subst (λ (q : Segment). LaterInverse (q .a, q .b) (l .loop .top) (c .later-inverse .result)) (m .segment-at .ensures) (c .later-inverse .ensures) in
     (omega arith, reach-next (now (a .xs)) (now (a .ys)) (l .loop .top) (c .later-inverse .result) (l .loop .k) (l .loop .inv .1) N)
 
 returns : tie.Need-returns Inv-loop μ-loop
@@ -52,7 +52,7 @@ returns c =
     let l = c .before in
     let a = entry l .args in
     let e : l .loop .k ≡ a .i = omega arith in
-    subst (λ (n : ℕ). ReachOf (now (a .xs)) (now (a .ys)) n (l .loop .top)) e (l .loop .inv .1)
+    subst (λ (n : ℕ). LatestBefore (now (a .xs)) (now (a .ys)) n (l .loop .top)) e (l .loop .inv .1)
 
 pub latest-inverse-spec : {M : Type 1} → statement M
 latest-inverse-spec =

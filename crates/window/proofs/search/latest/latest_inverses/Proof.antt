@@ -7,7 +7,7 @@ use lib.Ieee.{ofBits, neg, div, fits, isNan}
 use denote.Ref.{now}
 use Rattle.definitions.specs.declared.Segment.{Segment}
 use Rattle.window.specs.SoundSegments.{SoundSegment}
-use Rattle.window.specs.neighbours.Latest.{NewTop}
+use Rattle.window.specs.search.Latest.{LaterInverse}
 use Rattle.window.proofs.search.LatestLaws.{TopsTo, latest-none, latest-next, latest-all, segment-here}
 use borrow.Author.Needs.{needs}
 use Rattle.window.proofs.search.latest.latest_inverses.Statement.{statement}
@@ -52,7 +52,7 @@ loop-again c =
     let m = c .before in
     let k = m .before .before in
     let s = entry k in
-    let N = subst (λ (q : Segment). NewTop (q .a, q .b) (k .loop .top) (c .later-inverse .result)) (m .segment-at .ensures) (c .later-inverse .ensures) in
+    let N = subst (λ (q : Segment). LaterInverse (q .a, q .b) (k .loop .top) (c .later-inverse .result)) (m .segment-at .ensures) (c .later-inverse .ensures) in
     (latest-next (now (s .args .xs)) (now (s .args .ys)) (k .loop .items) (k .loop .top) (c .later-inverse .result) (k .loop .i) (omega (arith, k .loop .inv .0 .long, s .pre .1 .0)) (k .loop .inv .0) N, omega arith)
 
 returns : tie.Need-returns Inv-loop μ-loop

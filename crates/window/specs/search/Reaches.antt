@@ -21,7 +21,7 @@ use Rattle.window.specs.Inverses.{onSegment, inversesOf}
 use Rattle.window.specs.SoundSegments.{SoundSegment}
 use Rattle.window.specs.nearest.Nearest.{Met, Sided, Nearer}
 use Rattle.window.specs.nearest.Beside.{TimeInside}
-use Rattle.window.specs.neighbours.Latest.{segmentOf}
+use Rattle.window.specs.search.Latest.{segmentOf}
 
 -- ---- what a search among knots and samples asks
 

@@ -15,18 +15,18 @@ abbrev pub segmentOf : List Float → List Float → ℕ → Knot × Knot
 segmentOf xs ys j = (knotAt xs ys j, knotAt xs ys (j + 1))
 
 -- r is not below any inverse time of the segments before i
-pub record ReachOf (xs ys : List Float) (i : ℕ) (r : Float) : Type 0 where
+pub record LatestBefore (xs ys : List Float) (i : ℕ) (r : Float) : Type 0 where
   pub number : Number r
   pub last : (j : ℕ) → j < i → (c : Float) → T (spans (getD ys j nan) (getD ys (j + 1) nan) c) → T (le (inverse (knotAt xs ys j) (knotAt xs ys (j + 1)) c) r)
 
 -- each top, at k, is such a one for the segments up to k. There may be none.
 pub record LatestOf (xs ys latest : List Float) : Type 0 where
-  pub above : (k : ℕ) → k < length latest → k + 1 < length xs → ReachOf xs ys (k + 1) (getD latest k nan)
+  pub above : (k : ℕ) → k < length latest → k + 1 < length xs → LatestBefore xs ys (k + 1) (getD latest k nan)
 
 -- ---- one segment more
 
 -- the top r stands for the top before it and for the segment
-pub record NewTop (q : Knot × Knot) (top r : Float) : Type 0 where
+pub record LaterInverse (q : Knot × Knot) (top r : Float) : Type 0 where
   pub number : Number r
   pub over : T (le top r)
   pub reach : (c : Float) → T (spans (q .0 .y) (q .1 .y) c) → T (le (inverse (q .0) (q .1) c) r)

@@ -21,7 +21,7 @@ use Rattle.window.specs.Inverses.{inversesOf}
 use Rattle.window.specs.SoundSegments.{SoundSegment}
 use Rattle.window.specs.declared.search.Window.{Window}
 use Rattle.window.specs.declared.search.NeighboursAndHints.{NeighboursAndHints}
-use Rattle.window.specs.neighbours.Latest.{LatestOf}
+use Rattle.window.specs.search.Latest.{LatestOf}
 
 -- ---- the window's times
 
