@@ -166,6 +166,7 @@ impl Resolver {
         if !gf::is_finite(t.0) {
             return TimeReply::Refused(refusal::TIME_NOT_FINITE);
         }
+        // each list is lent from a copy of its own: lent from `self`, all of it is copied
         let set = self.set;
         let xs = set.xs;
         let ys = set.ys;
@@ -183,6 +184,7 @@ impl Resolver {
         if !gf::is_finite(t.0) {
             return ClipReply::Refused(refusal::TIME_NOT_FINITE);
         }
+        // lent from copies, as in `clip_time`
         let set = self.set;
         let starts = set.starts;
         let numbers = set.numbers;
@@ -339,6 +341,7 @@ impl Resolver {
         if number != 0 {
             return refused_bake(number);
         }
+        // lent from copies, as in `clip_time`, so that lists without entries are not copied
         let set = self.set;
         let starts = set.starts;
         let numbers = set.numbers;
