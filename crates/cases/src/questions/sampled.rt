@@ -5,10 +5,10 @@ use crate::lines::slots::slots;
 use crate::lines::written;
 use definitions::Answer;
 use definitions::StageTime;
+use definitions::ValueState;
 use resolver::Resolver;
 use resolver::UntimedReply;
 use resolver::ValueReply;
-use value::untimed::ValueState;
 ghost use Rattle.resolver.specs.State.{Made};
 
 fn answer(a: Answer, out: &mut [u8], full: usize) -> usize {
