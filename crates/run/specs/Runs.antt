@@ -1,5 +1,4 @@
--- A run of samples that are passed in one segment of knots: the value is held from the inverse time that was passed last. What is read at each key, its changes,
--- and the walk from one inverse time to the next. Assumes nothing.
+-- A run of samples that are passed in one segment of knots: what is read at each key, and what its walk promises. Assumes nothing.
 use mathlib.Core.Path.{_≡_}
 use mathlib.Core.Bool.{cond}
 use mathlib.Core.List.{List}

@@ -1,5 +1,4 @@
--- The first of the times above t, by its number and by `total_cmp`: they differ where it is zero, which is written -0.0 if that is among the times.
--- Assumes nothing.
+-- A stage sample time as it is written: zero as -0.0 where that is among the times. Assumes nothing.
 use mathlib.Core.Bool.{Bool, cond}
 use lib.Ieee.{Float, eq}
 use Rattle.gf.specs.Doubles.{0·0}

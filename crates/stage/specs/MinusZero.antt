@@ -1,4 +1,4 @@
--- -0.0 among sums and among times: a sum is -0.0 only if its first term is, and `total_cmp` tells it from every other double. Assumes nothing.
+-- The double -0.0. Assumes nothing.
 use mathlib.Core.Bool.{true}
 use lib.IntN.{pos}
 use lib.Ieee.{Float, fin}

@@ -1,5 +1,4 @@
--- Times in the order of `total_cmp` with equals dropped, one after the other: behind a time stand those above it, and the first of them is the least.
--- Assumes nothing.
+-- What stands behind a time in the order of `total_cmp`. Assumes nothing.
 use mathlib.Core.List.{List}
 use Prim.Native.Nat.{_-_}
 use lib.Ieee.{Float, lt}

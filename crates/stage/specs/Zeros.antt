@@ -1,5 +1,4 @@
--- Whether -0.0 is among the gathered times: a start is, or a knot, or, with no knots, a sample of the clip that is active at zero. An inverse time is -0.0
--- only where the knot that it is measured from is. Assumes nothing.
+-- Whether -0.0 is among the gathered times: it is a start, or a knot's x, or, with no knots, a sample of the clip that is active at zero. Assumes nothing.
 use mathlib.Core.Path.{_≡_}
 use mathlib.Core.Bool.{Bool, _&&_, _||_}
 use mathlib.Core.List.{List}

@@ -1,4 +1,4 @@
--- What a bake promises of the changes, and that document 01's promise follows. Assumes nothing.
+-- The track of the value, and what a bake promises of it. Assumes nothing.
 use mathlib.Core.Path.{_≡_}
 use mathlib.Core.List.{List}
 use Prim.Native.Nat.{ℕ}

@@ -5,7 +5,7 @@ pub mod Values
 pub mod Answers
 -- The answer without a time
 pub mod UntimedLaws
--- The jump test from a place down
+-- The jump test by the x of the knots, from a place down
 pub mod Jumps
 -- The clip time on a segment that holds the time
 pub mod ClipTimes

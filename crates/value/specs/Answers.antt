@@ -1,4 +1,4 @@
--- What a source says by the lent lists, and that a sample that is read lies in them. Assumes nothing.
+-- What a source says by the lent lists. Assumes nothing.
 use mathlib.Core.List.{List}
 use Prim.Native.Nat.{ℕ, _+_, _-_, _<_}
 use lib.ListN.{length, getD}

@@ -1,4 +1,4 @@
--- The clip time on a segment that holds the time: it is that of the segment. Assumes nothing.
+-- A segment of the knots that holds a stage time. Assumes nothing.
 use mathlib.Core.Path.{_≡_}
 use mathlib.Core.Bool.{true}
 use mathlib.Core.List.{List}

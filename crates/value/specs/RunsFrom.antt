@@ -1,5 +1,4 @@
--- A run: from a time in a segment of the knots on, the window's times above its lower neighbour are the inverse times of that segment's samples, up to one
--- of them that lies below the next knot and the next start. So a time of the run holds its value from the lower neighbour, with no jump. Assumes nothing.
+-- A run: from a time in a segment of the knots on, the window's times above its lower neighbour are the inverse times of that segment's samples, up to one of them. Assumes nothing.
 use mathlib.Core.Path.{_≡_}
 use mathlib.Core.Logic.{_⊎_}
 use mathlib.Core.Bool.{true}

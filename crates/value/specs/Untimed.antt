@@ -14,6 +14,6 @@ use Rattle.definitions.specs.declared.ValueState.the-variants.{Present, Blocked
 abbrev pub hasSamples : List ℕ → ℕ → Bool
 hasSamples ends c = ltb (clipBegin ends c) (clipEnd ends c)
 
--- "absent without starts", present where a start's clip has samples or the manifest default is a value, else blocked
+-- by the clips that the starts name. None: absent; one with samples, or a default that is a value: present; else blocked
 abbrev pub untimedOf : List ℕ → Missing → List ℕ → ValueState
 untimedOf clips m ends = cond (eqb (length clips) 0) Absent (cond (any (hasSamples ends) clips || eqb (m .default .mark) markValue) Present Blocked)

@@ -1,4 +1,4 @@
--- The value by the neighbours that a program found, what it says, and that a sample that is read lies in its list. Assumes nothing.
+-- The value by the neighbours that a program found. Assumes nothing.
 use mathlib.Core.Path.{_≡_}
 use mathlib.Core.Bool.{cond}
 use mathlib.Core.List.{List}

@@ -1,4 +1,4 @@
--- What is handed on of a window: its times are the gathered ones, and what is read in it is the direct value. Assumes nothing.
+-- The window of a start, as a program holds it. Assumes nothing.
 use mathlib.Core.Path.{_≡_}
 use mathlib.Core.Bool.{not, _&&_}
 use mathlib.Core.List.{List}

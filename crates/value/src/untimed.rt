@@ -28,7 +28,7 @@ fn any_samples(clips: &[u64], ends: &[u64]) -> bool
     false
 }
 
-// Absent without starts; present where a start's clip has samples or the manifest default is a value; else blocked.
+// By the clips that the starts name: absent without any; present where one has samples or the manifest default is a value; else blocked.
 pub fn untimed_answer_in_set(clips: &[u64], m: Missing, ends: &[u64]) -> ValueState
     requires { ⌜ Every (λ (c : ℕ). c < length (now ends)) (now clips) ⌝ }
     ensures { λ r. ⌜ r ≡ untimedOf (was clips) m (was ends) ⌝ }

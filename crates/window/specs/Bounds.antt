@@ -1,4 +1,4 @@
--- The neighbours of a time among times in any order: what they are, and that there are some. Assumes nothing.
+-- The neighbours of a time among times in any order. Assumes nothing.
 use mathlib.Core.Path.{_≡_}
 use mathlib.Core.Logic.{_⊎_}
 use mathlib.Core.Bool.{Bool, _&&_}

@@ -1,4 +1,4 @@
--- The inverse times of a clip's samples, segment by segment: the same times as sample by sample. Assumes nothing.
+-- The inverse times of a clip's samples, segment by segment. Assumes nothing.
 use mathlib.Core.List.{List}
 use lib.Ieee.{Float}
 use Rattle.definitions.specs.declared.Knot.{Knot}

@@ -1,4 +1,4 @@
--- A clip's part of the lent times, what a reading asks of the lent lists, and what lists that are ready tell. Assumes nothing.
+-- A clip's part of the lent times, and what a reading asks of the lent lists. Assumes nothing.
 use mathlib.Core.Path.{_≡_}
 use mathlib.Core.List.{List}
 use Prim.Native.Nat.{ℕ, _-_, _≤_, _<_}

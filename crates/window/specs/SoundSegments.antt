@@ -1,4 +1,4 @@
--- Two neighbouring knots of a set: the inverse times between them lie from the first x up to the inverse time of the second clip time. Assumes nothing.
+-- Two neighbouring knots of a set. Assumes nothing.
 use lib.Dec.{T}
 use lib.Ieee.{le}
 use Rattle.definitions.specs.declared.Knot.{Knot}

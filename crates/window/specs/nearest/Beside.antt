@@ -1,4 +1,4 @@
--- The times of an ascending list on either side of a time stand for all of them. Assumes nothing.
+-- The neighbours with the time at a place of a list, and a time that lies in its interval. Assumes nothing.
 use mathlib.Core.Bool.{cond}
 use mathlib.Core.List.{List}
 use Prim.Native.Nat.{ℕ, _-_, _≤_, _<_}

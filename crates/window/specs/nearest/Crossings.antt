@@ -1,4 +1,4 @@
--- One segment: its inverse times rise or fall with the samples, so they pass t at one place, and the two samples there stand for all. Assumes nothing.
+-- The place where the inverse times of one segment pass a time. Assumes nothing.
 use mathlib.Core.Path.{_≡_}
 use mathlib.Core.Bool.{Bool, true, false, cond}
 use mathlib.Core.List.{List, []}

@@ -1,5 +1,4 @@
--- The neighbours of a time by candidates: of equal times any one will do, so plain comparisons are enough. What a search promises that looks at a few of the
--- times and knows that the others lie beyond them. The order is that of the keys. Assumes nothing.
+-- The neighbours of a time with one candidate more, and what a search promises that looks at some of the times. Assumes nothing.
 use mathlib.Core.Bool.{cond}
 use mathlib.Core.List.{List}
 use Prim.Native.Nat.{_≤_, _<_}

@@ -1,5 +1,4 @@
--- The inverse times of all segments by those of the segment of t: behind it they are not below the next knot, before it they are not above the knot of t, but
--- for rounding. Assumes nothing.
+-- The inverse times of the segments from one place to another, and what a search among them promises. Assumes nothing.
 use mathlib.Core.Path.{_≡_}
 use mathlib.Core.List.{List}
 use Prim.Native.Nat.{ℕ, _≤_, _<_}
