@@ -6,6 +6,7 @@ use definitions::Missing;
 use gf::LEAST;
 use gf::MOST;
 use standing::Counts;
+use track::bake::PAGE;
 use track::entry::entry_at;
 use track::fill::Cursor;
 use track::fill::Filled;
@@ -56,7 +57,13 @@ fn eat_change(hash: u64, time: f64, entry: Entry) -> u64 {
 }
 
 // The first n changes of a page.
-fn eat_page(hash: u64, times: &[f64; 256], values: &[f64; 256], marks: &[u8; 256], n: usize) -> u64
+fn eat_page(
+    hash: u64,
+    times: &[f64; PAGE],
+    values: &[f64; PAGE],
+    marks: &[u8; PAGE],
+    n: usize,
+) -> u64
     requires { ⌜ n ≤ 256 ⌝ }
 {
     let mut h = hash;
@@ -104,9 +111,9 @@ fn walk_page(
     requires { ⌜ CursorIs (now starts) (now clips) (now xs) (now ys) (now blocks) m (now times) (now values) (now marks) (now ends) Key.most from ⌝ }
     ensures { λ r. ⌜ PageIs (was starts) (was clips) (was xs) (was ys) (was blocks) m (was times) (was values) (was marks) (was ends) (from .key) Key.most (r .filled) ⌝ }
 {
-    let mut pagetimes: [f64; 256] = [0.0; 256];
-    let mut pagevalues: [f64; 256] = [0.0; 256];
-    let mut pagemarks: [u8; 256] = [0; 256];
+    let mut pagetimes: [f64; PAGE] = [0.0; PAGE];
+    let mut pagevalues: [f64; PAGE] = [0.0; PAGE];
+    let mut pagemarks: [u8; PAGE] = [0; PAGE];
     let filled = fill(
         starts,
         clips,

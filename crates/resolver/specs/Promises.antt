@@ -107,7 +107,7 @@ pub record TellsSamples (d : Resolver) (s : Samples) (times times′ : List Floa
 abbrev pub BakesTrack : Resolver → Samples → Outputs → Reply calls.Baked → Outputs → Type 0
 BakesTrack d s before r now = calls.Bakes (model d) s before r now
 
--- ---- within: a parsed set takes its place, or what stood still stands
+-- ---- within: a prepared set takes its place, or what stood still stands
 
 -- its arrays are whole, and if no number refuses it, it is well-formed
 pub record Installable (p : Prepared) : Type 0 where

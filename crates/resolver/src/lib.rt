@@ -86,7 +86,7 @@ impl Resolver {
         requires { ⌜ Made self ⌝ }
         ensures { λ r. ⌜ Accepts self (explicitFields clips (was starts) (was numbers) (was xs) (was ys) (was blocks) (manifest default interpolate)) r ⌝ }
     {
-        let parsed = explicit::parse_set(
+        let prepared = explicit::parse_set(
             clips,
             starts,
             numbers,
@@ -96,7 +96,7 @@ impl Resolver {
             default,
             interpolate,
         );
-        install(self, parsed, false)
+        install(self, prepared, false)
     }
 
     // The set that the template expands to takes the place of the standing one, unless a number refuses it.
@@ -113,7 +113,7 @@ impl Resolver {
         requires { ⌜ Made self ⌝ }
         ensures { λ r. ⌜ Expands self (templateFields (was template) times offset (was blocks) (manifest default interpolate)) r ⌝ }
     {
-        let parsed = template::expand_template(
+        let prepared = template::expand_template(
             template,
             times,
             offset,
@@ -121,7 +121,7 @@ impl Resolver {
             default,
             interpolate,
         );
-        install(self, parsed, false)
+        install(self, prepared, false)
     }
 
     // The standing set moved, unless a number refuses it.
@@ -386,19 +386,19 @@ impl Resolver {
     }
 }
 
-// The parsed set stands, unless its number refuses it; then what stood still stands.
-fn install(d: Resolver, parsed: Prepared, retimed: bool) -> Accepted
+// The prepared set stands, unless its number refuses it; then what stood still stands.
+fn install(d: Resolver, prepared: Prepared, retimed: bool) -> Accepted
     requires { ⌜ Made d ⌝ }
-    requires { ⌜ Installable parsed ⌝ }
-    ensures { λ r. ⌜ Installs d parsed retimed r ⌝ }
+    requires { ⌜ Installable prepared ⌝ }
+    ensures { λ r. ⌜ Installs d prepared retimed r ⌝ }
 {
-    if parsed.number != 0 {
+    if prepared.number != 0 {
         return Accepted {
-            number: parsed.number,
+            number: prepared.number,
             resolver: d,
         };
     }
-    let set = standing::installed(parsed.set);
+    let set = standing::installed(prepared.set);
     let next = Resolver {
         stands: true,
         retimed,

@@ -24,6 +24,9 @@ ghost use Rattle.run.specs.Walks.{Room};
 ghost use Rattle.track.specs.Bakes.{BakeIs};
 ghost use Rattle.track.specs.Fills.{CursorIs, copied};
 
+// How many changes a page holds.
+pub const PAGE: usize = 256;
+
 // What a bake replies: 22, or 0 with the head and the number of changes.
 #[repr(C)]
 pub struct Baked {
@@ -218,9 +221,9 @@ fn bake_from_least(
         last: head,
         place,
     };
-    let mut pagetimes: [f64; 256] = [0.0; 256];
-    let mut pagevalues: [f64; 256] = [0.0; 256];
-    let mut pagemarks: [u8; 256] = [0; 256];
+    let mut pagetimes: [f64; PAGE] = [0.0; PAGE];
+    let mut pagevalues: [f64; PAGE] = [0.0; PAGE];
+    let mut pagemarks: [u8; PAGE] = [0; PAGE];
     bake_by_pages(
         starts,
         clips,

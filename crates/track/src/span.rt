@@ -35,7 +35,7 @@ ghost use Rattle.window.specs.search.Latest.{LatestOf};
 ghost use Rattle.window.specs.declared.Bound.the-variants.{At};
 ghost use Rattle.cell.specs.WindowPlaces.{PlaceIs};
 ghost use Rattle.track.specs.span.Runs.{readOn, StepIs};
-ghost use Rattle.track.specs.span.Knotless.{plainCell};
+ghost use Rattle.track.specs.span.Knotless.{knotlessCell};
 ghost use Rattle.track.specs.span.Steps.{Readable, ReadsAt, CellStep, CellStepAsks, FoundStep, RunAsks, RunStep};
 
 // How the value goes on: within a cell, or past the samples of a clip from the lower neighbour on where the run begins, in
@@ -125,8 +125,8 @@ fn knotless_step(
     k: u64,
     top: u64,
 ) -> Step
-    requires { ⌜ ReadsAt (now times) (now values) (now marks) (now ends) (plainCell (at .window)) (At (at .window .max)) k ⌝ }
-    ensures { λ r. ⌜ CellStep m (was times) (was values) (was marks) (was ends) (plainCell (at .window)) (At (at .window .max)) at k top r ⌝ }
+    requires { ⌜ ReadsAt (now times) (now values) (now marks) (now ends) (knotlessCell (at .window)) (At (at .window .max)) k ⌝ }
+    ensures { λ r. ⌜ CellStep m (was times) (was values) (was marks) (was ends) (knotlessCell (at .window)) (At (at .window .max)) at k top r ⌝ }
 {
     let w = at.window;
     let cell = knotless_cell(w);

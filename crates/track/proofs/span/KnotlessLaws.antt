@@ -60,7 +60,7 @@ use Rattle.value.proofs.Values.{value-in}
 use Rattle.cell.specs.declared.Cell.the-variants.{Constant, Reading}
 use Rattle.cell.proofs.CellsRead.{Sampled}
 use Rattle.track.specs.span.Runs.{part, readOn}
-use Rattle.track.specs.span.Knotless.{plainCell}
+use Rattle.track.specs.span.Knotless.{knotlessCell}
 use Rattle.track.proofs.span.Spans.{TurnsOn, Told}
 
 -- ---- the lower neighbour of t reads the sample that t reads
@@ -188,7 +188,7 @@ module _ {starts : List Float} {clips : List ℕ} {xs ys blocks : List Float} {m
     own-some : 0 < length (part times ends (w .clip))
     own-some = subst (λ (k : List Float). 0 < length k) own-part (omega (arith, length-take-le (w .end - w .begin) (drop (w .begin) times) (rw (length-drop (w .begin) times) (omega (arith, W .upto)))))
 
-  plain-reads : (j : ℕ) → windowSource xs ys times w (ofKey j) ≡ readOn times ends (plainCell w) j
+  plain-reads : (j : ℕ) → windowSource xs ys times w (ofKey j) ≡ readOn times ends (knotlessCell w) j
   unfolding windowSource mapTime placeOn Knots.along
   plain-reads j = go (ltb (w .begin) (w .end)) refl
     where
@@ -200,7 +200,7 @@ module _ {starts : List Float} {clips : List ℕ} {xs ys blocks : List Float} {m
       go true e = ap₂ (λ (k : List Float) (x : Float). sample (w .clip) (lastAtMost k x)) (own-part (ltb-true (w .begin) (w .end) e)) time
       go false e = refl
 
-  plain-sampled : Sampled set s (plainCell w)
+  plain-sampled : Sampled set s (knotlessCell w)
   unfolding setOf clipTimes
   plain-sampled = go (ltb (w .begin) (w .end)) refl
     where
@@ -244,14 +244,14 @@ module _ {starts : List Float} {clips : List ℕ} {xs ys blocks : List Float} {m
         place-mono (ofKey i) (ofKey j) (ofKey-fits i) (ofKey-fits j) (ordered i j a b d) (part times ends (w .clip))
         (fitting (part times ends (w .clip)) (ready-readable R .rising (w .clip) (subst (λ (c : ℕ). c < length ends) (sym (W .clip)) (ready-clip R p (W .place))) .numbers))
 
-    turns : TurnsOn times ends (plainCell w) k hi
+    turns : TurnsOn times ends (knotlessCell w) k hi
     turns = go (ltb (w .begin) (w .end))
       where
         go : (b : Bool) → TurnsOn times ends (cond b (Reading (w .clip) Identity) (Constant (w .gap))) k hi
         go true = inl rises
         go false = tt
 
-    told : Told set s k hi (plainCell w)
+    told : Told set s k hi (knotlessCell w)
     told = record {
       keys = K;
       reads = λ j a b. sym (plain-value (ofKey j) (finite-key j a b) (stays j a b)) ∙ plain-reads j;
@@ -270,7 +270,7 @@ module _ {starts : List Float} {clips : List ℕ} {xs ys blocks : List Float} {m
     plain-later = omega (arith, plain-faces (ofKey k) here at .upto, key-ofKey k (K .low) (omega (arith, K .order, K .high)))
 
     -- From k on the window's cell reads the value up to the next start
-    pub plain-told : Told (setOf (length ends) starts clips xs ys blocks m) (samplesOf times values marks ends) k (min top (key (w .max) - 1)) (plainCell w)
+    pub plain-told : Told (setOf (length ends) starts clips xs ys blocks m) (samplesOf times values marks ends) k (min top (key (w .max) - 1)) (knotlessCell w)
     plain-told =
         let l = plain-later in
         told k (min top (key (w .max) - 1)) record { low = K .low; order = omega (arith, K .order); high = omega (arith, K .high) } (omega arith) at

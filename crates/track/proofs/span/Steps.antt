@@ -42,7 +42,7 @@ use Rattle.track.specs.declared.span.ReadBy.{ReadBy}
 use Rattle.track.specs.declared.span.ReadBy.the-variants.{ByCell, ByRun}
 use Rattle.track.specs.declared.span.Step.{Step}
 use Rattle.track.specs.span.Runs.{Runs, SpanIs, entryBy, StepIs}
-use Rattle.track.specs.span.Knotless.{plainCell}
+use Rattle.track.specs.span.Knotless.{knotlessCell}
 use Rattle.track.specs.span.Steps.{Readable, ReadsAt, CellStep, CellStepAsks, FoundStep, RunAsks, RunStep}
 use Rattle.track.proofs.span.Spans.{Told, told-sayable, told-here, told-runs, told-says, piece-told}
 use Rattle.track.proofs.span.KnotlessLaws.{plain-number, plain-later, plain-told}
@@ -126,14 +126,14 @@ module _ {starts : List Float} {clips : List ℕ} {xs ys blocks : List Float} {m
 
     -- without knots
     module _ (none : length xs ≡ 0) where
-      told : Told set s k (min top (endKey (At (at .window .max)) - 1)) (plainCell (at .window))
+      told : Told set s k (min top (endKey (At (at .window .max)) - 1)) (knotlessCell (at .window))
       told = plain-told R none many (at .start) w window k top K placed
 
-      pub knotless-asks : ReadsAt times values marks ends (plainCell (at .window)) (At (at .window .max)) k
-      knotless-asks = reads-at (plainCell w) (At (w .max)) told (plain-number R none many (at .start) w window k top K placed) (plain-later R none many (at .start) w window k top K placed)
+      pub knotless-asks : ReadsAt times values marks ends (knotlessCell (at .window)) (At (at .window .max)) k
+      knotless-asks = reads-at (knotlessCell w) (At (w .max)) told (plain-number R none many (at .start) w window k top K placed) (plain-later R none many (at .start) w window k top K placed)
 
-      pub knotless-steps : (r : Step) → CellStep m times values marks ends (plainCell (at .window)) (At (at .window .max)) at k top r → StepIs starts clips xs ys blocks m times values marks ends k top r
-      knotless-steps r S = told-step (plainCell w) (At (w .max)) told r S
+      pub knotless-steps : (r : Step) → CellStep m times values marks ends (knotlessCell (at .window)) (At (at .window .max)) at k top r → StepIs starts clips xs ys blocks m times values marks ends k top r
+      knotless-steps r S = told-step (knotlessCell w) (At (w .max)) told r S
 
     -- past a run
     module _ (full : at .window .begin < at .window .end) (latest : List Float) (i : ℕ) (l h : Float) (O : RunFrom xs ys latest (samplesIn times (at .window)) (at .window) (ofKey k) i l h) where

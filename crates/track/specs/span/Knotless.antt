@@ -7,5 +7,5 @@ use Rattle.cell.specs.declared.Cell.{Cell}
 use Rattle.cell.specs.declared.Cell.the-variants.{Constant, Reading}
 
 -- the clip's samples where the window has some, else what stands in for them
-abbrev pub plainCell : Window → Cell
-plainCell w = cond (ltb (w .begin) (w .end)) (Reading (w .clip) Identity) (Constant (w .gap))
+abbrev pub knotlessCell : Window → Cell
+knotlessCell w = cond (ltb (w .begin) (w .end)) (Reading (w .clip) Identity) (Constant (w .gap))

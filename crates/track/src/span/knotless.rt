@@ -7,7 +7,7 @@ ghost use mathlib.Core.Bool.{_&&_};
 ghost use lib.Dec.{eqb, ltb};
 ghost use lib.ListN.{length};
 ghost use Rattle.definitions.specs.Moments.{was};
-ghost use Rattle.track.specs.span.Knotless.{plainCell};
+ghost use Rattle.track.specs.span.Knotless.{knotlessCell};
 
 // Whether there are several starts, and no knots.
 pub fn is_knotless(starts: &[f64], xs: &[f64]) -> bool
@@ -21,7 +21,7 @@ pub fn is_knotless(starts: &[f64], xs: &[f64]) -> bool
 
 // The clip's samples, at the stage time itself, or what stands in for them.
 pub fn knotless_cell(w: Window) -> Cell
-    ensures { λ r. ⌜ r ≡ plainCell w ⌝ }
+    ensures { λ r. ⌜ r ≡ knotlessCell w ⌝ }
 {
     if w.begin < w.end {
         return Cell::Reading(w.clip, Line::Identity);

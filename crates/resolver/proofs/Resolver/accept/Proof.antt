@@ -1,4 +1,4 @@
--- `resolver::Resolver::accept` meets its contract: the parsed set is installed. Assumes nothing.
+-- `resolver::Resolver::accept` meets its contract: the prepared set is installed. Assumes nothing.
 use borrow.Author.Needs.{needs}
 use Rattle.resolver.proofs.Laws.{accepts}
 use Rattle.resolver.proofs.Resolver.accept.Statement.{statement}
