@@ -1,4 +1,4 @@
--- What is shown of the definitions of `set_laws`.
+-- Sets that calls can make.
 pub mod Stored
 pub mod Sound
 pub mod SoundExplicit

@@ -1,4 +1,4 @@
--- What is shown of the definitions of `track_laws`.
+-- Tracks of step functions on the keys of doubles.
 pub mod Track
 pub mod Laws
 -- A function that is left once: bisection, and the walk from stop to stop to the next change

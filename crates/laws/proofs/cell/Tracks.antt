@@ -1,4 +1,4 @@
--- The track of the value over keys, of the crate `track_laws`, written out is the track of document 01; so there is one, and it is the only one. Assumes nothing.
+-- The track of the value over keys, written out, is the track of document 01; so there is one, and it is the only one. Assumes nothing.
 use mathlib.Core.Path.{_≡_, refl, sym, ap, ap₂, _∙_, subst}
 use mathlib.Core.Logic.{inl, inr, ⊎-elim}
 use mathlib.Core.Bool.{Bool, true, false, not, cond}

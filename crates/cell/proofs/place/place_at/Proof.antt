@@ -1,4 +1,4 @@
--- `place::spot_at` meets its contract. Assumes nothing.
+-- `cell::place::place_at` meets its contract. Assumes nothing.
 use native.Mathlib.Omega.{arith}
 use Rattle.laws.proofs.list.Places.{last-inside}
 use Rattle.window.proofs.Parts.{ready-starts}

@@ -1,4 +1,4 @@
--- `run::begin::run_begin` meets its contract: each fact of an onset is one of its tests. Assumes nothing.
+-- `run::begin::run_begin` meets its contract: each fact of a run's beginning is one of its tests. Assumes nothing.
 use mathlib.Core.Path.{_≡_, refl, sym, subst}
 use mathlib.Core.Bool.{Bool, true, false, not, false≢true}
 use native.Mathlib.Omega.{arith}

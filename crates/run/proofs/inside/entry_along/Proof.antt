@@ -1,4 +1,4 @@
--- `passing::entry_along` meets its contract. Assumes nothing.
+-- `run::inside::entry_along` meets its contract. Assumes nothing.
 use mathlib.Core.Path.{_≡_, ap, _∙_}
 use Rattle.definitions.specs.Timing.{lastAtMost}
 use Rattle.laws.specs.cell.Knots as Knots

@@ -1,4 +1,4 @@
--- `passing::sample_ahead` meets its contract. Assumes nothing.
+-- `run::inside::sample_in_run` meets its contract. Assumes nothing.
 use mathlib.Core.Path.{_≡_, refl, sym, ap, _∙_, subst}
 use mathlib.Core.Bool.{not}
 use native.Mathlib.Omega.{arith}

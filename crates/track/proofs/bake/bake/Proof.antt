@@ -1,4 +1,4 @@
--- `bake::bake` meets its contract: of no segments there are no tops. Assumes nothing.
+-- `bake::bake` meets its contract: without segments there are no inverse times. Assumes nothing.
 use mathlib.Core.List.{List, []}
 use native.Mathlib.Omega.{arith}
 use lib.Ieee.{Float}

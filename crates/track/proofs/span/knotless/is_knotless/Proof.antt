@@ -1,4 +1,4 @@
--- `plain::is_plain` meets its contract. Assumes nothing.
+-- `track::span::knotless::is_knotless` meets its contract. Assumes nothing.
 use mathlib.Core.Path.{refl}
 use lib.ListN.{length}
 use borrow.Author.Tests.{lt-ltb, le-ltb}

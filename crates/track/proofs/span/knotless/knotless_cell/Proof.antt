@@ -1,4 +1,4 @@
--- `plain::plain_cell` meets its contract. Assumes nothing.
+-- `track::span::knotless::knotless_cell` meets its contract. Assumes nothing.
 use mathlib.Core.Path.{refl}
 use borrow.Author.Tests.{lt-ltb, le-ltb}
 use native.Mathlib.Omega.{arith}
