@@ -1,0 +1,193 @@
+-- The order of the numbers, computed by the definitions: for each operation and each two neighbours of its chain a call to which both apply, and the
+-- number that it gets, which is the first. Two neighbours have no row: 20 and 21, since no set stands or one does, and a template's second 2 and its 4 (two clips
+-- so close that their starts fall together lie, by their own slack, too far below 2^40 to reach beyond it). Assumes nothing.
+use mathlib.Core.Path.{_≡_, refl}
+use Prim.Native.Nat.{ℕ, zero, suc, _+_}
+use Prim.Native.String.{String}
+use mathlib.Core.Bool.{Bool, true, false, not, _&&_}
+use mathlib.Core.List.{List, [], _∷_}
+use lib.Dec.{eqb, ltb}
+use lib.ListN.{length}
+use lib.Ieee.{Float, nan, round, neg, add, sub, mul, div, lt, le, eq, toBits, ofBits, isNan}
+use lib.Ieee.Scale.{finite}
+use Rattle.gf.specs.Doubles.{within, key, ofKey, lerp, share, abs, isWhole, truncated, isClipNumber, signBit, totalKey, storable}
+use Rattle.definitions.specs.declared.LayerOffset.{LayerOffset}
+use Rattle.definitions.specs.Doubles.{lowest, nextLower}
+use Rattle.definitions.specs.ClipSet.{ClipSet, Model, noSet, standing, asAccepted, asRetimed, stage, clip, nanDefault, beyondLimits, equalStarts, equalKnots, badDefaultMark}
+use Rattle.definitions.specs.Explicit.{ExplicitFields, explicitSet, explicitNumber, explicit1, explicit2, explicit3}
+use Rattle.definitions.specs.Names.{beforeHash, hashRun, withFraction, split, readable, digits, placesBy, places, padded, wholeBody, decimals, fractionBody, format, name, nameNumber}
+use Rattle.definitions.specs.Template.{TemplateFields, repeated, promoted, activations, templateSet, templateNumber, template1, template2, template6, template7, template8}
+use Rattle.definitions.specs.Retime.{movedNumber, apply, isIdentity, moved, sorted, retimeStageTimes, retimeNumber}
+use Rattle.definitions.specs.Timing.{lastAtMost, activePosition, activeEntry, activeClip, onSegment, mapTime, mapStageToClip}
+use Rattle.definitions.specs.Samples.{Samples, clipBegin, clipEnd, clipTimes, heldPlace, unlikeLengths, samples1, samples2, badMarks, closes, samples9, samplesNumber}
+use Rattle.definitions.specs.Value.{says, blockedAt, contributes, readClip, firstReading, interpolateMissingValue, directSource, window, stageTimesForClipTime, windowSampleTimes, gathered, lowerNeighbour, upperNeighbour, jump, readingTime, valueSource, valueInSet}
+use Rattle.definitions.specs.StageSamples.{dropEqual, dedup, stageSampleTimes, suppliedAt, stageSamples, anySamples, untimedAnswer}
+use Rattle.definitions.specs.Normalize.{timeSamples, merge, mergeEqual, normalizeTimeSamples, normalizeNumber}
+use Rattle.definitions.specs.Track.{bakeNumber}
+use Rattle.definitions.specs.Questions.{Reply, refused, replied, askActiveClip, askClipTime, askValue, askStageSampleTimes, askStageSamples, askUntimed}
+use Rattle.definitions.proofs.Sets.{n, frac, bytes, holds, fields, templated, noDefault, two, one}
+
+-- ---- how a row is written: both tests hold of the call, and it gets this number
+
+abbrev row : Bool → Bool → (got number : ℕ) → Bool
+row a b got number = a && b && eqb got number
+
+abbrev ofExplicit : (ExplicitFields → Bool) → (ExplicitFields → Bool) → ExplicitFields → ℕ → Bool
+ofExplicit a b f number = row (a f) (b f) (explicitNumber f) number
+
+abbrev ofTemplate : (TemplateFields → Bool) → (TemplateFields → Bool) → TemplateFields → ℕ → Bool
+ofTemplate a b f number = row (a f) (b f) (templateNumber f) number
+
+abbrev numberOf : {A : Type 0} → Reply A → ℕ
+numberOf (refused k) = k
+numberOf (replied a) = 0
+
+abbrev repeat : ℕ → ℕ → List ℕ
+repeat zero b = []
+repeat (suc k) b = b ∷ repeat k b
+
+-- the same fields with a default of mark 3
+abbrev badDefault : ExplicitFields → ExplicitFields
+badDefault f = record {
+  clips = f .clips;
+  startTimes = f .startTimes;
+  startClips = f .startClips;
+  knotX = f .knotX;
+  knotY = f .knotY;
+  blocks = f .blocks;
+  default = record { mark = 3; value = n 0 };
+  interpolateMissing = f .interpolateMissing;
+}
+
+-- a template by its bytes and its default's mark
+abbrev written : List ℕ → ℕ → TemplateFields → TemplateFields
+written text mark f = record {
+  template = text;
+  times = f .times;
+  hasOffset = f .hasOffset;
+  blocks = f .blocks;
+  default = record { mark = mark; value = n 0 };
+  interpolateMissing = f .interpolateMissing;
+}
+
+abbrev samples : List Float → List Float → List ℕ → List ℕ → Samples
+samples times values marks ends = record { times = times; values = values; marks = marks; ends = ends }
+
+abbrev by : Float → Float → LayerOffset
+by offset scale = record { offset = offset; scale = scale }
+
+-- ---- the tests of a set, by its fields
+
+abbrev explicit4 : ExplicitFields → Bool
+explicit4 f = equalStarts (explicitSet f)
+
+abbrev explicit5 : ExplicitFields → Bool
+explicit5 f = equalKnots (explicitSet f)
+
+abbrev explicit9 : ExplicitFields → Bool
+explicit9 f = badDefaultMark (f .default)
+
+abbrev expanded2 : TemplateFields → Bool
+expanded2 f = beyondLimits (templateSet f)
+
+abbrev template4 : TemplateFields → Bool
+template4 f = equalStarts (templateSet f)
+
+abbrev template5 : TemplateFields → Bool
+template5 f = equalKnots (templateSet f)
+
+abbrev template9 : TemplateFields → Bool
+template9 f = badDefaultMark (f .default)
+
+-- ---- sets
+
+abbrev fives : List Float
+fives = n 5 ∷ n 5 ∷ n 5 ∷ []
+
+abbrev ys : List Float
+ys = n 0 ∷ n 1 ∷ n 2 ∷ []
+
+-- the set of two starts, as it was accepted
+abbrev stands : ExplicitFields → Model
+stands f = standing (asAccepted (explicitSet f))
+
+-- two starts and three knots, which a scale of 0 makes one
+abbrev rows : ExplicitFields
+rows = fields 1 (n 0 ∷ n 1 ∷ []) (n 0 ∷ n 0 ∷ []) ys ys
+
+-- 9·10^11 and k times 2^-13, the distance of doubles there: the clips at 2 and 3 ten-thousandths more fall together
+abbrev crowded : ℕ → Float
+crowded k = frac (7372800000000000 + k) 8192
+
+-- a clip's list that falls, and one that also has a NaN value
+abbrev falls : Samples
+falls = samples (n 1 ∷ n 0 ∷ []) (n 1 ∷ n 1 ∷ []) (0 ∷ 0 ∷ []) (2 ∷ 2 ∷ [])
+
+abbrev falls-with-nan : Samples
+falls-with-nan = samples (n 1 ∷ n 0 ∷ []) (n 1 ∷ nan ∷ []) (0 ∷ 0 ∷ []) (2 ∷ 2 ∷ [])
+
+abbrev unlike-with-nan : Samples
+unlike-with-nan = samples (nan ∷ []) [] (0 ∷ []) (1 ∷ 1 ∷ [])
+
+-- ---- the table
+
+table : List Bool
+table =
+    -- an explicit set: 1, 2, 3, 4, 5, 9
+    ofExplicit explicit1 explicit2 (fields 257 (nan ∷ []) (n 0 ∷ []) [] []) 1
+    ∷ ofExplicit explicit2 explicit3 (fields 1 (nan ∷ []) (frac 3 2 ∷ []) [] []) 2
+    ∷ ofExplicit explicit3 explicit4 (fields 1 (n 0 ∷ n 0 ∷ []) (n 0 ∷ n 1 ∷ []) [] []) 3
+    ∷ ofExplicit explicit4 explicit5 (fields 1 (n 0 ∷ n 0 ∷ []) (n 0 ∷ n 0 ∷ []) fives ys) 4
+    ∷ ofExplicit explicit5 explicit9 (badDefault (fields 0 [] [] fives ys)) 5
+    -- a template: 1, 2, 7, 6, 8, 2, 4, 5, 9
+    ∷ ofTemplate template1 template2 (written (repeat 256 35) 2 (templated "#" nan (n 1) (n 1) false (n 0))) 1
+    ∷ ofTemplate template2 template7 (templated "#" nan (n 1) (n 0) false (n 0)) 2
+    ∷ ofTemplate template7 template6 (templated "f" (n 1) (n 1) (n 0) false (n 0)) 7
+    ∷ ofTemplate template6 template8 (templated "f" (n 0) (n 0) (frac 1 10000000) false (n 0)) 6
+    ∷ ofTemplate template8 expanded2 (templated "#" (n 1099511627775) (n 1099511627776) (frac 1 1000) true (frac 1 1000)) 8
+    ∷ ofTemplate template4 template5 (templated "#" (crowded 2) (crowded 3) (frac 1 10000) true (frac 1 10000000000)) 4
+    ∷ ofTemplate template5 template9 (written (bytes "#") 3 (templated "#" (n 1) (n 1) (n 1) true (n 0))) 5
+    -- a retiming: 20, 21, 2, 2, 4, 5
+    ∷ row true (not (finite nan)) (retimeNumber noSet (by nan (n 1))) 20
+    ∷ row true (not (finite nan)) (retimeNumber (standing (asRetimed (explicitSet two))) (by nan (n 1))) 21
+    ∷ row (beyondLimits (retimeStageTimes (by (n 2199023255552) (n 0)) (explicitSet two))) (equalStarts (retimeStageTimes (by (n 2199023255552) (n 0)) (explicitSet two))) (retimeNumber (stands two) (by (n 2199023255552) (n 0))) 2
+    ∷ row (equalStarts (retimeStageTimes (by (n 0) (n 0)) (explicitSet rows))) (equalKnots (retimeStageTimes (by (n 0) (n 0)) (explicitSet rows))) (retimeNumber (stands rows) (by (n 0) (n 0))) 4
+    -- samples: 1, 2, 9
+    ∷ row (samples1 (explicitSet two) unlike-with-nan) (samples2 (nan ∷ []) [] (0 ∷ [])) (samplesNumber (explicitSet two) unlike-with-nan) 1
+    ∷ row (samples2 (falls-with-nan .times) (falls-with-nan .values) (falls-with-nan .marks)) (samples9 falls-with-nan) (samplesNumber (explicitSet two) falls-with-nan) 2
+    -- the active clip and the clip time: 20, 10
+    ∷ row true (not (finite nan)) (numberOf (askActiveClip noSet (stage nan))) 20
+    ∷ row true (not (finite nan)) (numberOf (askClipTime noSet (stage nan))) 20
+    -- the value: 20, the samples' numbers, 10; without a time 20 and the samples'
+    ∷ row true (samples9 falls) (numberOf (askValue noSet falls (stage (n 0)))) 20
+    ∷ row (samples9 falls) (not (finite nan)) (numberOf (askValue (stands two) falls (stage nan))) 9
+    ∷ row true (samples9 falls) (numberOf (askUntimed noSet falls)) 20
+    -- stage sample times, stage samples, the bake: 20, the samples' numbers, 22
+    ∷ row true (samples9 falls) (numberOf (askStageSampleTimes noSet falls 0)) 20
+    ∷ row (samples9 falls) (ltb 0 (length (stageSampleTimes (explicitSet two) falls))) (numberOf (askStageSampleTimes (stands two) falls 0)) 9
+    ∷ row true (samples9 falls) (numberOf (askStageSamples noSet falls 0)) 20
+    ∷ row (samples9 falls) (ltb 0 (length (stageSamples (explicitSet two) falls))) (numberOf (askStageSamples (stands two) falls 0)) 9
+    ∷ row true (samples9 falls) (bakeNumber noSet falls 0 1) 20
+    ∷ row (samples9 falls) (ltb 0 1) (bakeNumber (stands two) falls 0 1) 9
+    -- a name: 1, 2, 6, 22
+    ∷ row (ltb 255 (length (repeat 256 35))) (not (storable nan)) (nameNumber (repeat 256 35) (clip nan) 300) 1
+    ∷ row (not (storable nan)) (not (readable (split (bytes "f")))) (nameNumber (bytes "f") (clip nan) 300) 2
+    ∷ row (not (readable (split (bytes "f")))) (ltb 0 (length (name (bytes "f") (clip (n 1))))) (nameNumber (bytes "f") (clip (n 1)) 0) 6
+    -- normalising: 1, 2, 9, 22
+    ∷ row (unlikeLengths (nan ∷ []) [] (0 ∷ [])) (samples2 (nan ∷ []) [] (0 ∷ [])) (normalizeNumber (nan ∷ []) [] (0 ∷ []) 1) 1
+    ∷ row (samples2 (nan ∷ []) (n 1 ∷ []) (7 ∷ [])) (badMarks (7 ∷ [])) (normalizeNumber (nan ∷ []) (n 1 ∷ []) (7 ∷ []) 1) 2
+    ∷ row (badMarks (7 ∷ [])) (ltb 0 (length (normalizeTimeSamples (timeSamples (n 1 ∷ []) (n 1 ∷ []) (7 ∷ []))))) (normalizeNumber (n 1 ∷ []) (n 1 ∷ []) (7 ∷ []) 0) 9
+    ∷ []
+
+in-order : holds table ≡ true
+unfolding
+    table round neg add sub mul div lt le eq toBits ofBits isNan within key ofKey lerp share abs isWhole truncated signBit totalKey
+    nanDefault beyondLimits equalStarts equalKnots badDefaultMark explicitSet explicitNumber explicit1 explicit2 explicit3 isClipNumber beforeHash
+    hashRun withFraction split readable digits placesBy places padded wholeBody decimals fractionBody format name nameNumber repeated promoted activations
+    templateSet templateNumber template1 template2 template6 template7 template8 lastAtMost activePosition activeEntry activeClip onSegment mapTime
+    mapStageToClip clipBegin clipEnd clipTimes heldPlace unlikeLengths samples1 samples2 badMarks closes samples9 samplesNumber says blockedAt
+    contributes readClip firstReading interpolateMissingValue directSource window stageTimesForClipTime windowSampleTimes gathered lowerNeighbour
+    upperNeighbour jump readingTime valueSource valueInSet apply isIdentity movedNumber moved sorted retimeStageTimes retimeNumber dropEqual dedup
+    stageSampleTimes suppliedAt stageSamples anySamples untimedAnswer timeSamples merge mergeEqual normalizeTimeSamples normalizeNumber bakeNumber
+    askActiveClip askClipTime askValue askStageSampleTimes askStageSamples askUntimed
+in-order = refl
