@@ -63,7 +63,7 @@ returns c =
     let t = total f in
     let less : room a < count a = omega arith in
     subst (λ (b : Baked). BakeIs (set a) (lent a) (outputs (a .args .outtimes .now) (a .args .outvalues .now) (a .args .outmarks .now)) (outputs (a .args .outtimes .now) (a .args .outvalues .now) (a .args .outmarks .now)) b) (sym (c .refused .ensures))
-    (bake-refused (set a) (lent a) (a .args .outtimes .now) (a .args .outvalues .now) (a .args .outmarks .now) _ _ _ less)
+    (bake-refused (set a) (lent a) (a .args .outtimes .now) (a .args .outvalues .now) (a .args .outmarks .now) less)
 
 write-page-requires : tie.Need-write-page-requires
 write-page-requires c κs =
@@ -105,7 +105,7 @@ returns-3 c =
     let n : f .before .before .before .before .before .shortest .result - f .fill .result .count < length (changesOf (set a) (lent a) (f .fill .result .cursor .key) most) = leb-false _ _ (sym (k .has-room .ensures) ∙ not-true (k .has-room .result) (c .before .if3 .taken)) in
     let less : room a < count a = omega arith in
     subst (λ (b : Baked). BakeIs (set a) (lent a) (outputs (a .args .outtimes .now) (a .args .outvalues .now) (a .args .outmarks .now)) (outputs (a .args .outtimes .now) (a .args .outvalues .now) (a .args .outmarks .now)) b) (sym (c .refused2 .ensures))
-    (bake-refused (set a) (lent a) (a .args .outtimes .now) (a .args .outvalues .now) (a .args .outmarks .now) _ _ _ less)
+    (bake-refused (set a) (lent a) (a .args .outtimes .now) (a .args .outvalues .now) (a .args .outmarks .now) less)
 
 fill-requires-2 : tie.Need-fill-requires-2
 fill-requires-2 c κs = let a = c .before .before .before .before .before .before .before .before .before .before .before .before .before .before .before .before .before .before .before .before .before .before .before .before .before .before .before .before .before .before .before .before .before .before .before .before .before .before .before .before .before .before .before .before in (a .pre .0, (a .pre .1 .0, a .pre .1 .1 .0))
