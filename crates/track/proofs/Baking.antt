@@ -24,7 +24,7 @@ use Rattle.track.specs.span.Changes.{changesOf}
 use Rattle.track.specs.Bakes.{trackOf, bakeCode, BakeIs}
 use Rattle.track.specs.Fills.{copied}
 
-written-length : (cs : List (steps.Change Entry)) → length (map writtenChange cs) ≡ length cs
+pub written-length : (cs : List (steps.Change Entry)) → length (map writtenChange cs) ≡ length cs
 written-length [] = refl
 written-length (c ∷ cs) = ap suc (written-length cs)
 
