@@ -28,9 +28,8 @@ use Rattle.definitions.specs.Track.{Track, Outputs, slots, bakeNumber}
 use Rattle.laws.specs.cell.Lent.{setOf, samplesOf, AcceptedLists}
 use Rattle.laws.proofs.cell.Lent.{active-times, knot-times, sound-set, sound-samples}
 use Rattle.track.specs.declared.bake.Baked.{Baked}
-use Rattle.track.specs.Bakes.{BakeIs, bakedIs, bakedReply}
+use Rattle.track.specs.Bakes.{trackOf, bakeCode, BakeIs}
 use Rattle.track.proofs.Bakes.{bakes}
-use Rattle.definitions.specs.Calls as calls
 use Rattle.definitions.specs.Calls.{step, accepted, retimed, bakedOf, outputsAfter, Bakes}
 use Rattle.laws.specs.list.Places.{Ascending}
 use Rattle.laws.specs.set.Sound.{Sound, SoundModel}
@@ -49,7 +48,7 @@ use Rattle.standing.specs.declared.StandingSet.{StandingSet}
 use Rattle.standing.specs.Standing.{setIn, Installed, Packed, Asked, lentSet, answered}
 use Rattle.standing.specs.Lists.{counted, listed, itself, timeOf, markIn, ListsTimes, ListsSamples}
 use Rattle.resolver.specs.State.{standingIn, model, Made}
-use Rattle.resolver.specs.Promises.{Accepts, Expands, Retimes, TellsTimes, TellsSamples, Installable, Installs}
+use Rattle.resolver.specs.Promises.{Accepts, Expands, Retimes, BakesTrack, TellsTimes, TellsSamples, Installable, Installs}
 
 -- ---- installing
 
@@ -66,11 +65,12 @@ accepted-same zero m c a b e h = h refl ∙ accepted-granted m c b (sym e)
 accepted-same (suc n) m c a b e h = ap (λ (k : ℕ). accepted k c b) e
 
 pub installs-not : (d : Resolver) (p : Prepared) (b : Bool) → Made d → (p .number ≡ 0 → ⊥) → Installs d p b (record { number = p .number; resolver = d })
-installs-not d p b m h = record { number = refl; after = accepted-refused (p .number) (model d) (standing (record { set = clipSetOf (p .set); retimed = b })) h; made = m }
+installs-not d p b m h = record { number = refl; kept = λ n. refl; after = accepted-refused (p .number) (model d) (standing (record { set = clipSetOf (p .set); retimed = b })) h; made = m }
 
 pub installs : (d : Resolver) (p : Prepared) (b : Bool) (set : StandingSet) → Installable p → p .number ≡ 0 → Installed (p .set) set → Installs d p b (record { number = 0; resolver = record { stands = true; retimed = b; set = set } })
 installs d p b set i e q = record {
   number = sym e;
+  kept = λ n. absurd (n refl);
   after = ap (λ (x : ClipSet). standing (record { set = x; retimed = b })) (q .is) ∙ accepted-granted (p .number) (model d) (standing (record { set = clipSetOf (p .set); retimed = b })) e;
   made = record { whole = q .whole; sound = subst Sound (sym (q .is)) (i .sound e) };
 }
@@ -81,6 +81,7 @@ pub accepts : (d : Resolver) (f : ExplicitFields) (p : Prepared) (r : Accepted) 
 unfolding step
 accepts d f p r q i = record {
   number = i .number ∙ q .number;
+  kept = i .kept;
   after = i .after ∙ accepted-same (p .number) (explicitNumber f) (model d) (standing (asAccepted (clipSetOf (p .set)))) (standing (asAccepted (explicitSet f))) (q .number) (λ e. ap (λ (x : ClipSet). standing (asAccepted x)) (q .made e));
   made = i .made;
 }
@@ -89,6 +90,7 @@ pub expands : (d : Resolver) (f : TemplateFields) (p : Prepared) (r : Accepted) 
 unfolding step
 expands d f p r q i = record {
   number = i .number ∙ q .number;
+  kept = i .kept;
   after = i .after ∙ accepted-same (p .number) (templateNumber f) (model d) (standing (asAccepted (clipSetOf (p .set)))) (standing (asAccepted (templateSet f))) (q .number) (λ e. ap (λ (x : ClipSet). standing (asAccepted x)) (q .made e));
   made = i .made;
 }
@@ -121,7 +123,7 @@ knots-ascend d m e =
 
 refused-retime : (d : Resolver) (o : LayerOffset) (n : ℕ) → Made d → n ≡ retimeNumber (model d) o → (n ≡ 0 → ⊥) → Retimes d o (record { number = n; resolver = d })
 unfolding step
-refused-retime d o n m e h = record { number = e; after = accepted-refused (retimeNumber (model d) o) (model d) (retimed o (model d)) (λ z. h (e ∙ z)); made = m }
+refused-retime d o n m e h = record { number = e; kept = λ n. refl; after = accepted-refused (retimeNumber (model d) o) (model d) (retimed o (model d)) (λ z. h (e ∙ z)); made = m }
 
 pub retimes-20 : (d : Resolver) (o : LayerOffset) → Made d → d .stands ≡ false → Retimes d o (record { number = 20; resolver = d })
 unfolding retimeNumber
@@ -141,6 +143,7 @@ retimes d o set p r e f k q i =
     let n : p .number ≡ retimeNumber (model d) o = q .number ∙ ap (λ (x : ClipSet). movedNumber x o) (k .is) ∙ marked-number d o false e f in
     record {
       number = i .number ∙ n;
+      kept = i .kept;
       after = i .after ∙ accepted-same (p .number) (retimeNumber (model d) o) (model d) (standing (asRetimed (clipSetOf (p .set)))) (retimed o (model d)) n
           (λ z. ap (λ (x : ClipSet). standing (asRetimed x)) (q .moved z ∙ ap (retimeStageTimes o) (k .is)) ∙ sym (ap (retimed o) (stands-as d e)));
       made = i .made;
@@ -222,13 +225,18 @@ module _ (d : Resolver) {times values : List Float} {marks ends : List ℕ} {n :
 
   pub bakes-set : (before after : Outputs) (r : Baked)
       → BakeIs (lentSet (length ends) (d .set .counts) (d .set .starts) (d .set .numbers) (d .set .xs) (d .set .ys) (d .set .blocks) (d .set .manifest)) (samplesOf times values marks ends) before after r
-      → Bakes (model d) (samplesOf times values marks ends) before (bakedReply r) after
+      → BakesTrack d (samplesOf times values marks ends) before r after
   bakes-set before after r p =
       let s = samplesOf times values marks ends in
       let sound = stands-sound d m e in
-      subst (λ (x : Model). Bakes x s before (bakedReply r) after) (sym (stands-as d e))
-      (bakes (standingIn d) s (sound-set (setIn (d .set)) sound) (sound-samples (setIn (d .set)) s is-accepted)
-      (record { values = j .values-fit; default = sound .default .fitting }) (sym (judged-number d j) ∙ z) before after r (subst (λ (x : ClipSet). BakeIs x s before after r) lent-is p))
+      let q = subst (λ (x : ClipSet). BakeIs x s before after r) lent-is p in
+      record {
+        reply = reply (roomNumber (slots before) (length (trackOf (setIn (d .set)) s .changes))) (bakedOf (trackOf (setIn (d .set)) s));
+        bakes = subst (λ (x : Model). Bakes x s before (reply (roomNumber (slots before) (length (trackOf (setIn (d .set)) s .changes))) (bakedOf (trackOf (setIn (d .set)) s))) after) (sym (stands-as d e))
+            (bakes (standingIn d) s (sound-set (setIn (d .set)) sound) (sound-samples (setIn (d .set)) s is-accepted)
+            (record { values = j .values-fit; default = sound .default .fitting }) (sym (judged-number d j) ∙ z) before after r q);
+        code = q .replies;
+      }
 
   -- ---- the same without knots and blocks
 
@@ -246,7 +254,7 @@ module _ (d : Resolver) {times values : List Float} {marks ends : List ℕ} {n :
 
     pub bakes-plain : (before after : Outputs) (r : Baked)
         → BakeIs (setOf (length ends) starts numbers [] [] [] (d .set .manifest)) (samplesOf times values marks ends) before after r
-        → Bakes (model d) (samplesOf times values marks ends) before (bakedReply r) after
+        → BakesTrack d (samplesOf times values marks ends) before r after
     bakes-plain before after r p =
         let s = samplesOf times values marks ends in
         bakes-set before after r
@@ -306,14 +314,9 @@ bakes-refused d s o n e q h = subst (λ (m : Model). Bakes m s o (refused n) o) 
     keeps zero g = absurd (g refl)
     keeps (suc m) g = refl
 
--- a reply with a number that is not 0 is a refusal
-pub reply-refused : (r : Baked) (n : ℕ) → r .number ≡ n → (n ≡ 0 → ⊥) → refused n ≡ bakedReply r
-reply-refused r zero e h = absurd (h refl)
-reply-refused r (suc n) e h = ap (λ (m : ℕ). reply m (bakedIs r)) (sym e)
-
--- the same reply, said otherwise
-pub bakes-reply : {m : Model} {s : Samples} {o p : Outputs} {a b : Reply calls.Baked} → a ≡ b → Bakes m s o a p → Bakes m s o b p
-bakes-reply {m = m} {s = s} {o = o} {p = p} e k = subst (λ (r : Reply calls.Baked). Bakes m s o r p) e k
+-- a refusal as the code hands it back
+pub bakes-code : {d : Resolver} {s : Samples} {o p : Outputs} {n : ℕ} {r : Baked} → Bakes (model d) s o (refused n) p → r ≡ bakeCode (refused n) → BakesTrack d s o r p
+bakes-code {n = n} k e = record { reply = refused n; bakes = k; code = e }
 
 -- ---- replies that are lists
 

@@ -1,6 +1,6 @@
 -- Demand 3 from the operations' promises: what stands, by the state, is what stands by the calls, each state is made, and a bake's promise is what is due.
 -- Assumes nothing.
-use mathlib.Core.Path.{_≡_, refl, ap, _∙_, subst}
+use mathlib.Core.Path.{_≡_, refl, sym, ap, _∙_, subst}
 use Prim.Native.Nat.{ℕ, _≤_, _<_}
 use lib.ListN.{length}
 use borrow.Author.Tests.{lt-ltb, le-ltb}
@@ -9,11 +9,14 @@ use Rattle.definitions.specs.Samples.{Samples, samplesNumber}
 use Rattle.definitions.specs.Questions.{Reply, reply}
 use Rattle.definitions.specs.Track.{Outputs, slots, bakeNumber}
 use Rattle.definitions.specs.Calls.{Call, explicit, template, retime, bake, step, Baked, bakedOf, outputsAfter, Bakes, Due}
+use Rattle.track.specs.declared.bake.Baked as track
+use Rattle.track.specs.Bakes.{bakeCode, bakedReply}
+use Rattle.track.proofs.Bakes.{code-read}
 use Rattle.definitions.proofs.WholeList as any
 use Rattle.definitions.proofs.WholeList.{whole-list}
 use Rattle.resolver.specs.declared.Resolver.{Resolver}
 use Rattle.resolver.specs.State.{model, Made}
-use Rattle.resolver.specs.Promises.{Begins}
+use Rattle.resolver.specs.Promises.{Begins, BakesTrack}
 use Rattle.resolver.specs.WholeList.{Moves, Replies, Demand3}
 
 -- the bake's number where the samples are accepted: 0 with room enough, else 22
@@ -39,6 +42,16 @@ due m s o r p k st e z = (
   λ h. by-number m s o r p k 22 (short m st e s z (slots o) (length (k .track .changes)) h),
 )
 
+-- the reply that the code stands for, read from the struct
+told : (d : Resolver) (s : Samples) (o p : Outputs) (b : track.Baked) → BakesTrack d s o b p → Bakes (model d) s o (bakedReply b) p
+told d s o p b k = subst (λ (r : Reply Baked). Bakes (model d) s o r p) (sym read) (k .bakes)
+  where
+    read : bakedReply b ≡ k .reply
+    read =
+        ap bakedReply (k .code ∙ ap bakeCode (k .bakes .replies))
+        ∙ code-read (bakeNumber (model d) s (slots o) (length (k .bakes .track .changes))) (bakedOf (k .bakes .track))
+        ∙ sym (k .bakes .replies)
+
 module _ (fresh : Resolver) (b : Begins fresh) where
   abbrev Follows : Model → Resolver → Type 0
   Follows = any.Follows noSet step fresh Moves Replies Due model Made
@@ -55,4 +68,4 @@ module _ (fresh : Resolver) (b : Begins fresh) where
 
 pub demand-3 : Demand3
 demand-3 fresh b =
-    whole-list noSet step fresh Moves Replies Due model Made (follows-fresh fresh b) (moves-on fresh b) (λ d s o r p m q. due (model d) s o r p (q m))
+    whole-list noSet step fresh Moves Replies Due model Made (follows-fresh fresh b) (moves-on fresh b) (λ d s o r p m q. due (model d) s o r p (subst (λ (x : Reply Baked). Bakes (model d) s o x p) (q .2) (told d s o p (q .0) (q .1 m))))

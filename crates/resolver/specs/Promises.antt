@@ -23,6 +23,8 @@ use Rattle.definitions.specs.Calls.{explicit, template, retime, step, accepted}
 use Rattle.definitions.specs.declared.ValueState.{ValueState}
 use Rattle.laws.specs.set.Sound.{Sound}
 use Rattle.clip.specs.declared.Prepared.{Prepared}
+use Rattle.track.specs.declared.bake.Baked.{Baked}
+use Rattle.track.specs.Bakes.{bakeCode}
 use Rattle.clip.specs.Holding.{clipSetOf, ArraysWhole}
 use Rattle.resolver.specs.declared.Resolver.{Resolver}
 use Rattle.resolver.specs.declared.Accepted.{Accepted}
@@ -44,18 +46,25 @@ pub record Begins (d : Resolver) : Type 0 where
   pub empty : model d ≡ noSet
   pub made : Made d
 
+-- "A refused call changes nothing": it hands back the very resolver that went in
+abbrev pub Kept : Resolver → Accepted → Type 0
+Kept d r = (r .number ≡ 0 → ⊥) → r .resolver ≡ d
+
 pub record Accepts (d : Resolver) (f : ExplicitFields) (r : Accepted) : Type 0 where
   pub number : r .number ≡ explicitNumber f
+  pub kept : Kept d r
   pub after : model (r .resolver) ≡ step (model d) (explicit f)
   pub made : Made (r .resolver)
 
 pub record Expands (d : Resolver) (f : TemplateFields) (r : Accepted) : Type 0 where
   pub number : r .number ≡ templateNumber f
+  pub kept : Kept d r
   pub after : model (r .resolver) ≡ step (model d) (template f)
   pub made : Made (r .resolver)
 
 pub record Retimes (d : Resolver) (o : LayerOffset) (r : Accepted) : Type 0 where
   pub number : r .number ≡ retimeNumber (model d) o
+  pub kept : Kept d r
   pub after : model (r .resolver) ≡ step (model d) (retime o)
   pub made : Made (r .resolver)
 
@@ -103,9 +112,11 @@ pub record TellsSamples (d : Resolver) (s : Samples) (times times′ : List Floa
 
 -- ---- the bake
 
--- "20, 1, 2, 9, 22", the head and the count, and every lent list after it: those of the one track of the standing set's value
-abbrev pub BakesTrack : Resolver → Samples → Outputs → Reply calls.Baked → Outputs → Type 0
-BakesTrack d s before r now = calls.Bakes (model d) s before r now
+-- "20, 1, 2, 9, 22", the head and the count, and every lent list after it: those of the one track of the standing set's value. The code is the reply's whole.
+pub record BakesTrack (d : Resolver) (s : Samples) (before : Outputs) (r : Baked) (now : Outputs) : Type 0 where
+  pub reply : Reply calls.Baked
+  pub bakes : calls.Bakes (model d) s before reply now
+  pub code : r ≡ bakeCode reply
 
 -- ---- within: a prepared set takes its place, or what stood still stands
 
@@ -116,5 +127,6 @@ pub record Installable (p : Prepared) : Type 0 where
 
 pub record Installs (d : Resolver) (p : Prepared) (retimed : Bool) (r : Accepted) : Type 0 where
   pub number : r .number ≡ p .number
+  pub kept : Kept d r
   pub after : model (r .resolver) ≡ accepted (p .number) (model d) (standing (record { set = clipSetOf (p .set); retimed = retimed }))
   pub made : Made (r .resolver)

@@ -6,6 +6,8 @@ use Rattle.definitions.specs.Track.{Outputs}
 use Rattle.definitions.specs.Questions.{Reply}
 use Rattle.definitions.specs.Calls as calls
 use Rattle.definitions.specs.Calls.{Call, explicit, template, retime, bake}
+use Rattle.track.specs.declared.bake.Baked.{Baked}
+use Rattle.track.specs.Bakes.{bakedReply}
 use Rattle.resolver.specs.declared.Resolver.{Resolver}
 use Rattle.resolver.specs.declared.Accepted.{Accepted}
 use Rattle.resolver.specs.State.{Made}
@@ -20,7 +22,7 @@ Moves (bake s o) d e = d ≡ e
 
 -- A bake of the samples s, given d and the lists o, replies r and leaves the lists p.
 abbrev pub Replies : Resolver → Samples → Outputs → Reply calls.Baked → Outputs → Type 0
-Replies d s o r p = Made d → BakesTrack d s o r p
+Replies d s o r p = (b : Baked) × (Made d → BakesTrack d s o b p) × (bakedReply b ≡ r)
 
 -- From a fresh state, after any list of calls, refused ones included.
 abbrev pub Demand3 : Type 0

@@ -19,7 +19,8 @@ ghost use Rattle.laws.specs.cell.Lent.{samplesWere};
 ghost use Rattle.clip.specs.Holding.{manifest};
 ghost use Rattle.explicit.specs.Parsing.{explicitFields};
 ghost use Rattle.template.specs.Expanding.{templateFields};
-ghost use Rattle.track.specs.Bakes.{bakedReply};
+ghost use Rattle.definitions.specs.Questions.{refused};
+ghost use Rattle.track.specs.Bakes.{bakeCode};
 ghost use Rattle.resolver.specs.State.{Made};
 ghost use Rattle.resolver.specs.Promises.{Begins, Accepts, Expands, Retimes, BakesTrack, TellsTimes, TellsSamples, TellsClip, TellsTime, TellsValue, TellsUntimed, Installable, Installs};
 
@@ -332,7 +333,7 @@ impl Resolver {
         outmarks: &mut [u8],
     ) -> Baked
         requires { ⌜ Made self ⌝ }
-        ensures { λ r. ⌜ BakesTrack self (samplesWere times values marks ends) (outsWere outtimes outvalues outmarks) (bakedReply r) (outsLeft outtimes outvalues outmarks) ⌝ }
+        ensures { λ r. ⌜ BakesTrack self (samplesWere times values marks ends) (outsWere outtimes outvalues outmarks) r (outsLeft outtimes outvalues outmarks) ⌝ }
     {
         if !self.stands {
             return refused_bake(refusal::NO_SET);
@@ -411,7 +412,7 @@ fn install(d: Resolver, prepared: Prepared, retimed: bool) -> Accepted
 }
 
 fn refused_bake(number: u8) -> Baked
-    ensures { λ r. ⌜ r .number ≡ number ⌝ }
+    ensures { λ r. ⌜ r ≡ bakeCode (refused number) ⌝ }
 {
     Baked {
         number,

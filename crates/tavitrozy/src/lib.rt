@@ -26,7 +26,6 @@ ghost use Rattle.explicit.specs.Parsing.{explicitFields};
 ghost use Rattle.template.specs.Expanding.{templateFields};
 ghost use Rattle.normal_form.specs.Normalizes.{Normalizes};
 ghost use Rattle.cell.specs.step.Entries.{entryIs};
-ghost use Rattle.track.specs.Bakes.{bakedReply};
 ghost use Rattle.track.specs.Held.{trackOfLists};
 ghost use Rattle.resolver.specs.State.{Made};
 ghost use Rattle.resolver.specs.Promises.{Begins, Accepts, Expands, Retimes, BakesTrack, TellsTimes, TellsSamples};
@@ -295,7 +294,7 @@ pub extern "C" fn tavitrozy_bake(
     outmarks: &mut [u8],
 ) -> Baked
     requires { ⌜ Made resolver ⌝ }
-    ensures { λ r. ⌜ BakesTrack resolver (samplesWere times values marks ends) (outsWere outtimes outvalues outmarks) (bakedReply r) (outsLeft outtimes outvalues outmarks) ⌝ }
+    ensures { λ r. ⌜ BakesTrack resolver (samplesWere times values marks ends) (outsWere outtimes outvalues outmarks) r (outsLeft outtimes outvalues outmarks) ⌝ }
 {
     resolver.bake(times, values, marks, ends, outtimes, outvalues, outmarks)
 }

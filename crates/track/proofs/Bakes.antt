@@ -12,7 +12,7 @@ use Rattle.definitions.specs.Calls as Calls
 use Rattle.laws.proofs.cell.Direct.{SoundSet, SoundSamples}
 use Rattle.laws.proofs.cell.Tracks.{SoundValues, track-is}
 use Rattle.track.specs.declared.bake.Baked.{Baked}
-use Rattle.track.specs.Bakes.{trackOf, bakedIs, BakeIs, bakedReply}
+use Rattle.track.specs.Bakes.{trackOf, bakeCode, BakeIs, bakedReply}
 
 -- ---- the bake
 
@@ -22,17 +22,18 @@ module _ (st : Standing) (s : Samples) (S : SoundSet (st .set)) (A : SoundSample
   unfolding bakeNumber
   number-is = ap (λ (n : ℕ). n then roomNumber (slots before) (length (trackOf (st .set) s .changes))) e
 
-  replies : (n : ℕ) → r .number ≡ n → reply n (bakedIs r) ≡ reply n (Calls.bakedOf (trackOf (st .set) s))
-  replies zero q = ap (λ (x : Calls.Baked). reply 0 x) (p .baked q)
-  replies (suc n) q = refl
-
-  pub bakes : Calls.Bakes (standing st) s before (bakedReply r) after
+  pub bakes : Calls.Bakes (standing st) s before (reply (roomNumber (slots before) (length (trackOf (st .set) s .changes))) (Calls.bakedOf (trackOf (st .set) s))) after
   bakes = record {
     track = trackOf (st .set) s;
     is = λ other q n. subst (λ (x : Standing). TrackOf (valueInSet (x .set) s) (trackOf (st .set) s)) (same other q) (track-is (st .set) s S A F);
-    replies = replies (r .number) refl ∙ ap (λ (n : ℕ). reply n (Calls.bakedOf (trackOf (st .set) s))) (p .number ∙ sym number-is);
-    writes = p .writes ∙ ap (λ (n : ℕ). Calls.outputsAfter n (trackOf (st .set) s) before) (p .number ∙ sym number-is);
+    replies = ap (λ (n : ℕ). reply n (Calls.bakedOf (trackOf (st .set) s))) (sym number-is);
+    writes = p .writes ∙ ap (λ (n : ℕ). Calls.outputsAfter n (trackOf (st .set) s) before) (sym number-is);
   }
     where
       same : (other : Standing) → standing st ≡ standing other → st ≡ other
       same other q = cc
+
+-- the code's reply, read again, is the reply
+pub code-read : (n : ℕ) (b : Calls.Baked) → bakedReply (bakeCode (reply n b)) ≡ reply n b
+code-read zero b = refl
+code-read (suc n) b = refl

@@ -8,10 +8,12 @@ use lib.ListN.{length, take, drop, length-map}
 use lib.Seq.{take-append-seam}
 use lib.Ieee.{Float}
 use borrow.Author.Tests.{lt-ltb, le-ltb}
-use Rattle.gf.specs.Doubles.{least, most}
+use Rattle.gf.specs.Doubles.{0·0, least, most}
 use Rattle.definitions.specs.Lists.{_if_else_, writtenOver}
 use Rattle.definitions.specs.ClipSet.{ClipSet}
 use Rattle.definitions.specs.Samples.{Samples}
+use Rattle.definitions.specs.Questions.{reply}
+use Rattle.definitions.specs.Calls.{bakedOf, outputsAfter}
 use Rattle.definitions.specs.Track.{Entry, Change, changeTimes, Outputs, slots, writeTrack}
 use Rattle.definitions.specs.Moments.{outputs}
 use Rattle.laws.specs.track.Track as steps
@@ -19,10 +21,10 @@ use Rattle.laws.specs.cell.Keys.{entryAtKey}
 use Rattle.laws.specs.cell.Tracks.{writtenChange}
 use Rattle.run.specs.Walks.{writtenFrom, written}
 use Rattle.track.specs.span.Changes.{changesOf}
-use Rattle.track.specs.Bakes.{trackOf, BakeIs}
+use Rattle.track.specs.Bakes.{trackOf, bakeCode, BakeIs}
 use Rattle.track.specs.Fills.{copied}
 
-written-length : (cs : List (steps.Change Entry)) → length (map writtenChange cs) ≡ length cs
+pub written-length : (cs : List (steps.Change Entry)) → length (map writtenChange cs) ≡ length cs
 written-length [] = refl
 written-length (c ∷ cs) = ap suc (written-length cs)
 
@@ -71,14 +73,11 @@ module _ (set : ClipSet) (s : Samples) (times values : List Float) (marks : List
   unfolding slots
   room-is = refl
 
-  pub bake-refused : (mark : ℕ) (value : Float) (n : ℕ) → min (length times) (min (length values) (length marks)) < length (changesOf set s least most)
-      → BakeIs set s (outputs times values marks) (outputs times values marks) (record { number = 22; mark = mark; value = value; count = n })
-  bake-refused mark value n h =
-      record {
-        number = sym (ap (λ (b : Bool). 22 if b else 0) (lt-ltb (slots before) (length (trackOf set s .changes)) less));
-        baked = λ e. absurd (omega arith);
-        writes = refl;
-      }
+  pub bake-refused : min (length times) (min (length values) (length marks)) < length (changesOf set s least most)
+      → BakeIs set s (outputs times values marks) (outputs times values marks) (record { number = 22; mark = 0; value = 0·0; count = 0 })
+  bake-refused h =
+      let n = sym (ap (λ (b : Bool). 22 if b else 0) (lt-ltb (slots before) (length (trackOf set s .changes)) less)) in
+      record { replies = ap (λ (k : ℕ). bakeCode (reply k (bakedOf (trackOf set s)))) n; writes = ap (λ (k : ℕ). outputsAfter k (trackOf set s) before) n }
     where
       less : slots before < length (trackOf set s .changes)
       less = let e = written-length (changesOf set s least most) in let r = room-is in omega arith
@@ -87,10 +86,11 @@ module _ (set : ClipSet) (s : Samples) (times values : List Float) (marks : List
       → _≡_ {A = Entry} (record { value = value; mark = mark }) (entryAtKey set s least) → n ≡ length (changesOf set s least most) → after ≡ written 0 (changesOf set s least most) (outputs times values marks)
       → BakeIs set s (outputs times values marks) after (record { number = 0; mark = mark; value = value; count = n })
   bake-done after mark value n h e c w =
+      let z = sym (ap (λ (b : Bool). 22 if b else 0) (le-ltb (slots before) (length (trackOf set s .changes)) enough)) in
       record {
-        number = sym (ap (λ (b : Bool). 22 if b else 0) (le-ltb (slots before) (length (trackOf set s .changes)) enough));
-        baked = λ _ i. record { initial = e i; count = (c ∙ sym (written-length (changesOf set s least most))) i };
-        writes = w ∙ all;
+        replies = (λ i. record { number = 0; mark = e i .mark; value = e i .value; count = (c ∙ sym (written-length (changesOf set s least most))) i })
+            ∙ ap (λ (k : ℕ). bakeCode (reply k (bakedOf (trackOf set s)))) z;
+        writes = w ∙ all ∙ ap (λ (k : ℕ). outputsAfter k (trackOf set s) before) z;
       }
     where
       enough : length (trackOf set s .changes) ≤ slots before

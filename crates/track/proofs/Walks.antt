@@ -1,7 +1,7 @@
 -- The walk over the changes of the value: from span to span, and what it comes to. Assumes nothing.
 use mathlib.Core.Path.{_≡_, refl, sym, ap, ap₂, _∙_}
 use mathlib.Core.Bool.{Bool, true, false}
-use mathlib.Core.List.{List, _∷_}
+use mathlib.Core.List.{List, [], _∷_}
 use Prim.Native.Nat.{ℕ, _+_, _≤_, _<_, min}
 use native.Mathlib.Decide.{decLe}
 use native.Mathlib.Omega.{arith}
@@ -19,6 +19,7 @@ use Rattle.laws.specs.cell.Keys.{Keys, entryAtKey}
 use Rattle.laws.proofs.cell.Tracks.{SoundValues, entries-alike}
 use Rattle.laws.specs.cell.Tracks.{entry-same}
 use Rattle.laws.specs.cell.Lent.{setOf, samplesOf}
+use Rattle.window.specs.search.Latest.{LatestOf}
 use Rattle.run.specs.declared.walk.Went.{Went}
 use Rattle.run.specs.Walks.{written, Room, Walked}
 use Rattle.run.proofs.Filling.{Long}
@@ -38,6 +39,10 @@ module _ (set : ClipSet) (s : Samples) (S : SoundSet set) (A : SoundSamples s) (
     level = λ j p q. let e : j ≡ at = omega arith in ap (entryAtKey set s) e;
     sure = entries-alike set s S A F (stage (ofKey (at + 1))) (stage (ofKey at));
   }
+
+-- without segments there are no inverse times
+pub no-latest : (xs ys : List Float) → LatestOf xs ys []
+no-latest xs ys = record { above = λ k l. absurd (omega arith) }
 
 -- the changes up to one key and on to another
 pub split-length : (set : ClipSet) (s : Samples) (low a b : ℕ) → low ≤ a → a ≤ b → length (changesOf set s low b) ≡ length (changesOf set s low a) + length (changesOf set s a b)

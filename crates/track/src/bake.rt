@@ -1,14 +1,12 @@
 // The bake: the head and the changes of the value, counted before any is written.
 use crate::copying::copy_marks;
-use crate::count::has_room;
-use crate::entry::entry_at;
+use crate::count::count_within;
 use crate::fill::Cursor;
 use crate::fill::fill;
+use crate::fill::least_cursor;
 use crate::fill::shortest;
-use cell::place::no_place;
 use definitions::Missing;
 use definitions::refusal;
-use gf::LEAST;
 use gf::MOST;
 use lists::writing::copy;
 use window::search::latest::latest_inverses;
@@ -134,7 +132,8 @@ fn bake_by_pages(
             count,
         };
     }
-    if !has_room(
+    let left = room - count;
+    let rest = count_within(
         starts,
         clips,
         xs,
@@ -148,11 +147,12 @@ fn bake_by_pages(
         latest,
         first.cursor,
         MOST,
-        room - count,
+        left,
         pagetimes,
         pagevalues,
         pagemarks,
-    ) {
+    );
+    if left < rest {
         return refused();
     }
     let filled = fill(
@@ -202,25 +202,7 @@ fn bake_from_least(
     requires { ⌜ LatestOf (now xs) (now ys) (now latest) ⌝ }
     ensures { λ r. ⌜ BakeIs (setWas starts clips xs ys blocks m ends) (samplesWere times values marks ends) (outsWere outtimes outvalues outmarks) (outsLeft outtimes outvalues outmarks) r ⌝ }
 {
-    let head = entry_at(
-        starts,
-        clips,
-        xs,
-        ys,
-        blocks,
-        m,
-        times,
-        values,
-        marks,
-        ends,
-        LEAST,
-    );
-    let place = no_place(starts);
-    let from = Cursor {
-        key: LEAST,
-        last: head,
-        place,
-    };
+    let from = least_cursor(starts, clips, xs, ys, blocks, m, times, values, marks, ends);
     let mut pagetimes: [f64; PAGE] = [0.0; PAGE];
     let mut pagevalues: [f64; PAGE] = [0.0; PAGE];
     let mut pagemarks: [u8; PAGE] = [0; PAGE];

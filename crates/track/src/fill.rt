@@ -1,13 +1,17 @@
 // The walk over the changes of the value. It stops when its outputs are full and can go on later.
+use crate::entry::entry_at;
 use crate::span::fill::fill_in;
 use crate::span::span_at;
 use cell::place::WindowPlace;
+use cell::place::no_place;
 use cell::step::entry::Entry;
 use definitions::Missing;
+use gf::LEAST;
 use run::walk::offer;
 ghost use mathlib.Core.Path.{_≡_};
 ghost use Prim.Native.Nat.{min};
-ghost use Rattle.definitions.specs.Moments.{outsWere, outsLeft};
+ghost use Rattle.gf.specs.Doubles as Key;
+ghost use Rattle.definitions.specs.Moments.{was, outsWere, outsLeft};
 ghost use Rattle.laws.specs.cell.Lent.{AcceptedLists};
 ghost use Rattle.window.specs.search.Latest.{LatestOf};
 ghost use Rattle.track.specs.Fills.{CursorIs, Fills};
@@ -24,6 +28,43 @@ pub struct Filled {
     pub count: usize,
     pub cursor: Cursor,
     pub done: bool,
+}
+
+// Where a walk over all changes begins: at the lowest finite double.
+pub fn least_cursor(
+    starts: &[f64],
+    clips: &[u64],
+    xs: &[f64],
+    ys: &[f64],
+    blocks: &[f64],
+    m: Missing,
+    times: &[f64],
+    values: &[f64],
+    marks: &[u8],
+    ends: &[u64],
+) -> Cursor
+    requires { ⌜ AcceptedLists (now starts) (now clips) (now xs) (now ys) (now blocks) m (now times) (now values) (now marks) (now ends) ⌝ }
+    ensures { λ r. ⌜ CursorIs (was starts) (was clips) (was xs) (was ys) (was blocks) m (was times) (was values) (was marks) (was ends) Key.most r × (r .key ≡ Key.least) ⌝ }
+{
+    let last = entry_at(
+        starts,
+        clips,
+        xs,
+        ys,
+        blocks,
+        m,
+        times,
+        values,
+        marks,
+        ends,
+        LEAST,
+    );
+    let place = no_place(starts);
+    Cursor {
+        key: LEAST,
+        last,
+        place,
+    }
 }
 
 // The length of the shortest of three lists.

@@ -1,5 +1,4 @@
 -- `resolver::Resolver::bake` meets its contract: 20, the samples' number, else the track of the standing set. Assumes nothing.
-use native.Mathlib.Omega.{arith}
 use borrow.Author.Needs.{needs}
 use borrow.Author.Tests.{not-true, not-false}
 use denote.Ref.{now}
@@ -7,7 +6,7 @@ use Rattle.definitions.specs.Samples.{Samples}
 use Rattle.definitions.specs.Track.{Outputs}
 use Rattle.definitions.specs.Moments.{outputs}
 use Rattle.laws.specs.cell.Lent.{samplesOf}
-use Rattle.resolver.proofs.Laws.{judged-number, bakes-20, bakes-refused, bakes-set, bakes-plain, bakes-reply, reply-refused, is-asked, plain-ready}
+use Rattle.resolver.proofs.Laws.{judged-number, bakes-20, bakes-refused, bakes-set, bakes-plain, bakes-code, is-asked, plain-ready}
 use Rattle.resolver.proofs.Resolver.bake.Statement.{statement}
 use Rattle.resolver.proofs.Resolver.bake.Tie as tie
 
@@ -20,14 +19,13 @@ before s = outputs (now (s .args .outtimes)) (now (s .args .outvalues)) (now (s 
 returns : tie.Need-returns
 returns c =
     let s = c .before .before .before .before .before .before .before .before .before .before in
-    bakes-reply (reply-refused _ 20 (c .refused-bake .ensures) (λ z. omega arith)) (bakes-20 (s .args .self) (lent s) (before s) (not-true _ (c .before .if1 .taken)))
+    bakes-code (bakes-20 (s .args .self) (lent s) (before s) (not-true _ (c .before .if1 .taken))) (c .refused-bake .ensures)
 
 returns-2 : tie.Need-returns-2
 returns-2 c =
     let p = c .before in
     let s = p .before .before .before .before .before .before .before .before .before .before .before in
-    bakes-reply (reply-refused _ _ (c .refused-bake2 .ensures) (p .if2 .taken))
-    (bakes-refused (s .args .self) (lent s) (before s) _ (not-false _ (p .before .before .if1 .left)) (judged-number (s .args .self) (p .before .samples-number .ensures)) (p .if2 .taken))
+    bakes-code (bakes-refused (s .args .self) (lent s) (before s) _ (not-false _ (p .before .before .if1 .left)) (judged-number (s .args .self) (p .before .samples-number .ensures)) (p .if2 .taken)) (c .refused-bake2 .ensures)
 
 bake-knotless-requires : tie.Need-bake-knotless-requires
 bake-knotless-requires c κs =

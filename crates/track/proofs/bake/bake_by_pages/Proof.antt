@@ -3,7 +3,6 @@ use mathlib.Core.Path.{_≡_, sym, ap, _∙_, subst}
 use Prim.Native.Nat.{ℕ, _+_, _-_, _≤_, _<_, min}
 use native.Mathlib.Omega.{arith}
 use borrow.Author.Needs.{needs}
-use borrow.Author.Tests.{not-true, not-false, leb-true, leb-false}
 use lib.ListN.{length}
 use Rattle.gf.specs.Doubles.{least, most}
 use Rattle.definitions.specs.ClipSet.{ClipSet}
@@ -63,7 +62,7 @@ returns c =
     let t = total f in
     let less : room a < count a = omega arith in
     subst (λ (b : Baked). BakeIs (set a) (lent a) (outputs (a .args .outtimes .now) (a .args .outvalues .now) (a .args .outmarks .now)) (outputs (a .args .outtimes .now) (a .args .outvalues .now) (a .args .outmarks .now)) b) (sym (c .refused .ensures))
-    (bake-refused (set a) (lent a) (a .args .outtimes .now) (a .args .outvalues .now) (a .args .outmarks .now) _ _ _ less)
+    (bake-refused (set a) (lent a) (a .args .outtimes .now) (a .args .outvalues .now) (a .args .outmarks .now) less)
 
 write-page-requires : tie.Need-write-page-requires
 write-page-requires c κs =
@@ -88,8 +87,8 @@ returns-2 c =
     bake-done (set a) (lent a) (a .args .outtimes .now) (a .args .outvalues .now) (a .args .outmarks .now) _ _ _ _ fits (head-is a) (d .0)
     (c .before .before .before .before .before .before .write-page .ensures ∙ page-copied (changesOf (set a) (lent a) least most) (outputs (a .args .pagetimes .now) (a .args .pagevalues .now) (a .args .pagemarks .now)) (outputs (f .fill .last .1 .1 .1 .1 .1 .1 .1 .1 .1 .1 .1 .1 .1 .0) (f .fill .last .1 .1 .1 .1 .1 .1 .1 .1 .1 .1 .1 .1 .1 .1 .0) (f .fill .last .1 .1 .1 .1 .1 .1 .1 .1 .1 .1 .1 .1 .1 .1 .1 .0)) (outputs (a .args .outtimes .now) (a .args .outvalues .now) (a .args .outmarks .now)) (f .fill .result .count) (d .0) (d .1))
 
-has-room-requires : tie.Need-has-room-requires
-has-room-requires c κs =
+count-within-requires : tie.Need-count-within-requires
+count-within-requires c κs =
     let f = c .before .before .before .before .before .before .before .before .before .before .before in
     let a = entry f in
     (a .pre .0, (a .pre .1 .0, (f .fill .ensures .passed .cursor, slots-long (page-long f) (a .pre .1 .1 .1 .1))))
@@ -102,22 +101,24 @@ returns-3 c =
     let r = f .before .before .before .before .before .shortest .ensures in
     let h = c .before .before .before .before .before .before .before .before .before .before .before .before .before .if1 .left in
     let t = total f in
-    let n : f .before .before .before .before .before .shortest .result - f .fill .result .count < length (changesOf (set a) (lent a) (f .fill .result .cursor .key) most) = leb-false _ _ (sym (k .has-room .ensures) ∙ not-true (k .has-room .result) (c .before .if3 .taken)) in
+    let e = k .count-within .ensures in
+    let b = c .before .if3 .taken in
+    let n : f .before .before .before .before .before .shortest .result - f .fill .result .count < length (changesOf (set a) (lent a) (f .fill .result .cursor .key) most) = omega arith in
     let less : room a < count a = omega arith in
     subst (λ (b : Baked). BakeIs (set a) (lent a) (outputs (a .args .outtimes .now) (a .args .outvalues .now) (a .args .outmarks .now)) (outputs (a .args .outtimes .now) (a .args .outvalues .now) (a .args .outmarks .now)) b) (sym (c .refused2 .ensures))
-    (bake-refused (set a) (lent a) (a .args .outtimes .now) (a .args .outvalues .now) (a .args .outmarks .now) _ _ _ less)
+    (bake-refused (set a) (lent a) (a .args .outtimes .now) (a .args .outvalues .now) (a .args .outmarks .now) less)
 
 fill-requires-2 : tie.Need-fill-requires-2
 fill-requires-2 c κs = let a = c .before .before .before .before .before .before .before .before .before .before .before .before .before .before .before .before .before .before .before .before .before .before .before .before .before .before .before .before .before .before .before .before .before .before .before .before .before .before .before .before .before .before .before .before in (a .pre .0, (a .pre .1 .0, a .pre .1 .1 .0))
 
 same-length-13 : tie.Need-same-length-13
-same-length-13 c = c .before .before .before .before .before .before .before .before .before .before .before .before .before .before .before .before .before .has-room .kept .1 .1 .1 .1 .1 .1 .1 .1 .1 .1 .1 .1 .1 .1 .0 ∙ c .before .before .before .before .before .before .before .before .before .before .before .before .before .before .before .before .before .before .before .before .before .before .before .before .before .before .before .before .before .fill .kept .1 .1 .1 .1 .1 .1 .1 .1 .1 .1 .1 .1 .1 .0
+same-length-13 c = c .before .before .before .before .before .before .before .before .before .before .before .before .before .before .before .before .before .count-within .kept .1 .1 .1 .1 .1 .1 .1 .1 .1 .1 .1 .1 .1 .1 .0 ∙ c .before .before .before .before .before .before .before .before .before .before .before .before .before .before .before .before .before .before .before .before .before .before .before .before .before .before .before .before .before .fill .kept .1 .1 .1 .1 .1 .1 .1 .1 .1 .1 .1 .1 .1 .0
 
 same-length-14 : tie.Need-same-length-14
-same-length-14 c = c .before .before .before .before .before .before .before .before .before .before .before .before .before .before .before .before .before .has-room .kept .1 .1 .1 .1 .1 .1 .1 .1 .1 .1 .1 .1 .1 .1 .1 .0 ∙ c .before .before .before .before .before .before .before .before .before .before .before .before .before .before .before .before .before .before .before .before .before .before .before .before .before .before .before .before .before .fill .kept .1 .1 .1 .1 .1 .1 .1 .1 .1 .1 .1 .1 .1 .1 .0
+same-length-14 c = c .before .before .before .before .before .before .before .before .before .before .before .before .before .before .before .before .before .count-within .kept .1 .1 .1 .1 .1 .1 .1 .1 .1 .1 .1 .1 .1 .1 .1 .0 ∙ c .before .before .before .before .before .before .before .before .before .before .before .before .before .before .before .before .before .before .before .before .before .before .before .before .before .before .before .before .before .fill .kept .1 .1 .1 .1 .1 .1 .1 .1 .1 .1 .1 .1 .1 .1 .0
 
 same-length-15 : tie.Need-same-length-15
-same-length-15 c = c .before .before .before .before .before .before .before .before .before .before .before .before .before .before .before .before .before .has-room .kept .1 .1 .1 .1 .1 .1 .1 .1 .1 .1 .1 .1 .1 .1 .1 .1 .0 ∙ c .before .before .before .before .before .before .before .before .before .before .before .before .before .before .before .before .before .before .before .before .before .before .before .before .before .before .before .before .before .fill .kept .1 .1 .1 .1 .1 .1 .1 .1 .1 .1 .1 .1 .1 .1 .1 .0
+same-length-15 c = c .before .before .before .before .before .before .before .before .before .before .before .before .before .before .before .before .before .count-within .kept .1 .1 .1 .1 .1 .1 .1 .1 .1 .1 .1 .1 .1 .1 .1 .1 .0 ∙ c .before .before .before .before .before .before .before .before .before .before .before .before .before .before .before .before .before .before .before .before .before .before .before .before .before .before .before .before .before .fill .kept .1 .1 .1 .1 .1 .1 .1 .1 .1 .1 .1 .1 .1 .1 .1 .0
 
 returns-4 : tie.Need-returns-4
 returns-4 c =
@@ -127,7 +128,9 @@ returns-4 c =
     let r = f .before .before .before .before .before .shortest .ensures in
     let h = c .before .before .before .before .before .before .before .before .before .before .before .before .before .before .before .before .before .before .before .before .before .before .if1 .left in
     let t = total f in
-    let n : length (changesOf (set a) (lent a) (f .fill .result .cursor .key) most) ≤ f .before .before .before .before .before .shortest .result - f .fill .result .count = leb-true _ _ (sym (k .has-room .ensures) ∙ not-false (k .has-room .result) (c .before .before .before .before .before .before .before .before .before .before .if3 .left)) in
+    let e = k .count-within .ensures in
+    let b = c .before .before .before .before .before .before .before .before .before .before .if3 .left in
+    let n : length (changesOf (set a) (lent a) (f .fill .result .cursor .key) most) ≤ f .before .before .before .before .before .shortest .result - f .fill .result .count = omega arith in
     let q = slots-is (a .args .outtimes .now) (a .args .outvalues .now) (a .args .outmarks .now) in
     let l : count a ≤ slots (outputs (a .args .outtimes .now) (a .args .outvalues .now) (a .args .outmarks .now)) = omega arith in
     let d = filled-all _ _ least _ _ _ (c .before .before .before .before .before .before .fill2 .ensures) (a .pre .1 .1 .1 .0) l in
@@ -136,4 +139,4 @@ returns-4 c =
 
 pub bake-by-pages-spec : {M : Type 1} → statement M
 bake-by-pages-spec =
-    tie.close (tie.spec (λ c κs. search needs) fill-requires (λ c κs. search needs) (λ c. search needs) (λ c. search needs) (λ c. search needs) returns write-page-requires (λ c. search needs) (λ c. search needs) (λ c. search needs) (λ c. search needs) (λ c. search needs) (λ c. search needs) returns-2 has-room-requires (λ c κs. search needs) (λ c. search needs) (λ c. search needs) (λ c. search needs) returns-3 fill-requires-2 same-length-13 same-length-14 same-length-15 (λ c. search needs) (λ c. search needs) (λ c. search needs) returns-4)
+    tie.close (tie.spec (λ c κs. search needs) fill-requires (λ c κs. search needs) (λ c. search needs) (λ c. search needs) (λ c. search needs) returns write-page-requires (λ c. search needs) (λ c. search needs) (λ c. search needs) (λ c. search needs) (λ c. search needs) (λ c. search needs) returns-2 count-within-requires (λ c κs. search needs) (λ c. search needs) (λ c. search needs) (λ c. search needs) returns-3 fill-requires-2 same-length-13 same-length-14 same-length-15 (λ c. search needs) (λ c. search needs) (λ c. search needs) returns-4)

@@ -1,10 +1,9 @@
--- `count::has_room` meets its contract. The invariant: `count` is the number of changes up to the cursor, and there is room for them. The measure is what is left up to top. Assumes nothing.
+-- `count::count_within` meets its contract. The invariant: `count` is the number of changes up to the cursor. The measure is what is left up to top. Assumes nothing.
 use mathlib.Core.Path.{_≡_, refl, sym, ap, _∙_}
-use Prim.Native.Nat.{ℕ, _+_, _-_, _≤_, _<_}
+use Prim.Native.Nat.{ℕ, _+_, _-_, _≤_, min}
 use native.Mathlib.Nat.{le-of-eq}
 use native.Mathlib.Omega.{arith}
 use lib.ListN.{length}
-use borrow.Author.Tests.{le-leb, lt-leb}
 use Rattle.definitions.specs.ClipSet.{ClipSet}
 use Rattle.definitions.specs.Samples.{Samples}
 use Rattle.definitions.specs.Moments.{outputs}
@@ -16,12 +15,13 @@ use Rattle.track.specs.span.Changes.{changesOf}
 use Rattle.track.specs.Fills.{CursorIs, PageIs}
 use Rattle.run.proofs.Filling.{Long}
 use Rattle.track.proofs.Walks.{split-length, paged, slots-long}
-use Rattle.track.proofs.count.has_room.Statement.{statement}
-use Rattle.track.proofs.count.has_room.Tie as tie
+use Rattle.track.proofs.Counts.{changes-few, count-beyond}
+use Rattle.track.proofs.count.count_within.Statement.{statement}
+use Rattle.track.proofs.count.count_within.Tie as tie
 
 abbrev Inv-loop : tie.InvT-loop
 Inv-loop starts clips xs ys blocks m times values marks ends latest top room pagetimes₀ pagevalues₀ pagemarks₀ at₀ count₀ pagetimes pagevalues pagemarks at count =
-    (at₀ .key ≤ at .key) × CursorIs starts clips xs ys blocks m times values marks ends top at × (count ≡ length (changesOf (setOf (length ends) starts clips xs ys blocks m) (samplesOf times values marks ends) (at₀ .key) (at .key))) × (count ≤ room) × Long (outputs pagetimes₀ pagevalues₀ pagemarks₀) (outputs pagetimes pagevalues pagemarks)
+    (at₀ .key ≤ at .key) × CursorIs starts clips xs ys blocks m times values marks ends top at × (count ≡ length (changesOf (setOf (length ends) starts clips xs ys blocks m) (samplesOf times values marks ends) (at₀ .key) (at .key))) × Long (outputs pagetimes₀ pagevalues₀ pagemarks₀) (outputs pagetimes pagevalues pagemarks)
 
 abbrev μ-loop : tie.MeasureT-loop
 μ-loop starts clips xs ys blocks m times values marks ends latest top room pagetimes₀ pagevalues₀ pagemarks₀ at₀ count₀ pagetimes pagevalues pagemarks at count =
@@ -47,7 +47,7 @@ page : (c : tie.After-slice-known6 Inv-loop μ-loop) → let f = c .before .befo
 page c =
     let f = c .before .before .before .before .before .before in
     let b = f .before .before .before .before in
-    paged _ _ _ _ _ (slots-long (b .loop .inv .4) (entry b .pre .1 .1 .1)) (f .fill .ensures)
+    paged _ _ _ _ _ (slots-long (b .loop .inv .3) (entry b .pre .1 .1 .1)) (f .fill .ensures)
 
 -- the changes up to the page, on it, and behind it
 parts : (c : tie.After-slice-known6 Inv-loop μ-loop) → let f = c .before .before .before .before .before .before in let b = f .before .before .before .before in let a = entry b .args in
@@ -70,96 +70,91 @@ loop-holds : tie.Need-loop-holds Inv-loop μ-loop
 loop-holds c =
     let a = c .before .before .before .before .before .before .before .before .before .before .before .before .before in
     let k = a .args .from .key in
-    (le-of-eq refl, a .pre .1 .1 .0, sym (ap length (changes-none entry-same (entryAtKey (set a) (lent a)) k k (le-of-eq refl))), omega arith, record { times = refl; values = refl; marks = refl })
+    (le-of-eq refl, a .pre .1 .1 .0, sym (ap length (changes-none entry-same (entryAtKey (set a) (lent a)) k k (le-of-eq refl))), record { times = refl; values = refl; marks = refl })
 
 fill-requires : tie.Need-fill-requires Inv-loop μ-loop
 fill-requires c κs = let b = c .before .before .before in let a = entry b in (a .pre .0, (a .pre .1 .0, b .loop .inv .1))
 
-sub-if1 : tie.Need-sub-if1 Inv-loop μ-loop
-sub-if1 c = c .before .before .before .before .before .before .before .before .before .before .loop .inv .3
+add-count : tie.Need-add-count Inv-loop μ-loop
+add-count c =
+    let f = c .before .before .before .before .before .before .before in
+    let b = f .before .before .before .before in
+    let a = entry b .args in
+    let e = parts (c .before) .0 in
+    let n = changes-few (set (entry b)) (lent (entry b)) (a .from .key) (f .fill .result .cursor .key) in
+    let u = f .fill .ensures .passed .cursor .keys .order in
+    let h = f .fill .ensures .passed .cursor .keys .high in
+    omega arith
 
 same-length : tie.Need-same-length Inv-loop μ-loop
-same-length c = c .before .before .before .before .before .before .before .before .fill .kept .1 .1 .1 .1 .1 .1 .1 .1 .1 .1 .1 .1 .1 .0 ∙ c .before .before .before .before .before .before .before .before .before .before .before .before .loop .inv .4 .times
+same-length c = c .before .before .before .before .before .before .before .before .fill .kept .1 .1 .1 .1 .1 .1 .1 .1 .1 .1 .1 .1 .1 .0 ∙ c .before .before .before .before .before .before .before .before .before .before .before .before .loop .inv .3 .times
 
 same-length-2 : tie.Need-same-length-2 Inv-loop μ-loop
-same-length-2 c = c .before .before .before .before .before .before .before .before .fill .kept .1 .1 .1 .1 .1 .1 .1 .1 .1 .1 .1 .1 .1 .1 .0 ∙ c .before .before .before .before .before .before .before .before .before .before .before .before .loop .inv .4 .values
+same-length-2 c = c .before .before .before .before .before .before .before .before .fill .kept .1 .1 .1 .1 .1 .1 .1 .1 .1 .1 .1 .1 .1 .1 .0 ∙ c .before .before .before .before .before .before .before .before .before .before .before .before .loop .inv .3 .values
 
 same-length-3 : tie.Need-same-length-3 Inv-loop μ-loop
-same-length-3 c = c .before .before .before .before .before .before .before .before .fill .kept .1 .1 .1 .1 .1 .1 .1 .1 .1 .1 .1 .1 .1 .1 .1 .0 ∙ c .before .before .before .before .before .before .before .before .before .before .before .before .loop .inv .4 .marks
+same-length-3 c = c .before .before .before .before .before .before .before .before .fill .kept .1 .1 .1 .1 .1 .1 .1 .1 .1 .1 .1 .1 .1 .1 .1 .0 ∙ c .before .before .before .before .before .before .before .before .before .before .before .before .loop .inv .3 .marks
 
 returns : tie.Need-returns Inv-loop μ-loop
 returns c =
     let p = c .before .before in
-    let b = p .before .before .before .before .before .before .before .before .before .before in
-    let e = parts p .1 in
-    let h = c .if1 .taken in
-    let r = b .loop .inv .3 in
-    let l : entry b .args .room < many b (entry b .args .from .key) (entry b .args .top) = omega arith in
-    sym (lt-leb _ _ l)
+    let f = p .before .before .before .before .before .before in
+    let b = f .before .before .before .before in
+    let a = entry b .args in
+    let e = parts p .0 in
+    ap (λ (n : ℕ). min n (a .room + 1)) (sym e ∙ ap (λ (j : ℕ). many b (a .from .key) j) (f .fill .ensures .passed .whole (c .if1 .taken)))
 
 same-length-4 : tie.Need-same-length-4 Inv-loop μ-loop
-same-length-4 c = c .before .before .before .before .before .before .before .before .before .fill .kept .1 .1 .1 .1 .1 .1 .1 .1 .1 .1 .1 .1 .1 .0 ∙ c .before .before .before .before .before .before .before .before .before .before .before .before .before .loop .inv .4 .times
+same-length-4 c = c .before .before .before .before .before .before .before .before .before .fill .kept .1 .1 .1 .1 .1 .1 .1 .1 .1 .1 .1 .1 .1 .0 ∙ c .before .before .before .before .before .before .before .before .before .before .before .before .before .loop .inv .3 .times
 
 same-length-5 : tie.Need-same-length-5 Inv-loop μ-loop
-same-length-5 c = c .before .before .before .before .before .before .before .before .before .fill .kept .1 .1 .1 .1 .1 .1 .1 .1 .1 .1 .1 .1 .1 .1 .0 ∙ c .before .before .before .before .before .before .before .before .before .before .before .before .before .loop .inv .4 .values
+same-length-5 c = c .before .before .before .before .before .before .before .before .before .fill .kept .1 .1 .1 .1 .1 .1 .1 .1 .1 .1 .1 .1 .1 .1 .0 ∙ c .before .before .before .before .before .before .before .before .before .before .before .before .before .loop .inv .3 .values
 
 same-length-6 : tie.Need-same-length-6 Inv-loop μ-loop
-same-length-6 c = c .before .before .before .before .before .before .before .before .before .fill .kept .1 .1 .1 .1 .1 .1 .1 .1 .1 .1 .1 .1 .1 .1 .1 .0 ∙ c .before .before .before .before .before .before .before .before .before .before .before .before .before .loop .inv .4 .marks
+same-length-6 c = c .before .before .before .before .before .before .before .before .before .fill .kept .1 .1 .1 .1 .1 .1 .1 .1 .1 .1 .1 .1 .1 .1 .1 .0 ∙ c .before .before .before .before .before .before .before .before .before .before .before .before .before .loop .inv .3 .marks
 
 returns-2 : tie.Need-returns-2 Inv-loop μ-loop
 returns-2 c =
     let p = c .before .before .before in
-    let b = p .before .before .before .before .before .before .before .before .before .before in
-    let a = entry b .args in
-    let e = parts p .0 in
-    let h = c .before .if1 .left in
-    let r = b .loop .inv .3 in
-    let w = ap (λ (j : ℕ). many b (a .from .key) j) (p .before .before .before .before .before .before .fill .ensures .passed .whole (c .if2 .taken)) in
-    let l : many b (a .from .key) (a .top) ≤ a .room = omega arith in
-    sym (le-leb _ _ l)
-
-add-count : tie.Need-add-count Inv-loop μ-loop
-add-count c = let h = c .before .before .if1 .left in let b = c .before .before .before .before .before .before .before .before .before .before .before .before .before .before in let r = b .loop .inv .3 in omega (arith, entry b .good)
+    let f = p .before .before .before .before .before .before in
+    let b = f .before .before .before .before in
+    count-beyond _ _ _ (entry b .args .room) (parts p .1) (c .if2 .taken)
 
 loop-less : tie.Need-loop-less Inv-loop μ-loop
 loop-less c =
-    let p = c .before .before .before .before .before in
+    let p = c .before .before .before .before in
     let P = page p in
-    let o = P .onward (c .before .before .if2 .left) in
+    let o = P .onward (c .before .before .if1 .left) in
     let u = P .passed .cursor .keys .order in
     omega arith
 
 loop-again : tie.Need-loop-again Inv-loop μ-loop
 loop-again c =
-    let p = c .before .before .before .before .before in
+    let p = c .before .before .before .before in
     let f = p .before .before .before .before .before .before in
     let b = f .before .before .before .before in
     let P = f .fill .ensures .passed in
     let o = P .order in
-    let i = b .loop .inv .0 in
-    let e = parts p .0 in
-    let h = c .before .before .before .if1 .left in
-    let r = b .loop .inv .3 in (
+    let i = b .loop .inv .0 in (
       omega arith,
       P .cursor,
-      omega arith,
-      omega arith,
+      sym (parts p .0),
       record {
-        times = f .fill .kept .1 .1 .1 .1 .1 .1 .1 .1 .1 .1 .1 .1 .1 .0 ∙ b .loop .inv .4 .times;
-        values = f .fill .kept .1 .1 .1 .1 .1 .1 .1 .1 .1 .1 .1 .1 .1 .1 .0 ∙ b .loop .inv .4 .values;
-        marks = f .fill .kept .1 .1 .1 .1 .1 .1 .1 .1 .1 .1 .1 .1 .1 .1 .1 .0 ∙ b .loop .inv .4 .marks;
+        times = f .fill .kept .1 .1 .1 .1 .1 .1 .1 .1 .1 .1 .1 .1 .1 .0 ∙ b .loop .inv .3 .times;
+        values = f .fill .kept .1 .1 .1 .1 .1 .1 .1 .1 .1 .1 .1 .1 .1 .1 .0 ∙ b .loop .inv .3 .values;
+        marks = f .fill .kept .1 .1 .1 .1 .1 .1 .1 .1 .1 .1 .1 .1 .1 .1 .1 .0 ∙ b .loop .inv .3 .marks;
       },
     )
 
-pub has-room-spec : {M : Type 1} → statement M
-has-room-spec =
+pub count-within-spec : {M : Type 1} → statement M
+count-within-spec =
     tie.close
     (tie.spec
     Inv-loop
     μ-loop
     loop-holds
     fill-requires
-    sub-if1
+    add-count
     same-length
     same-length-2
     same-length-3
@@ -168,6 +163,5 @@ has-room-spec =
     same-length-5
     same-length-6
     returns-2
-    add-count
     loop-less
     loop-again)
