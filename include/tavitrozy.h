@@ -130,7 +130,7 @@ tavitrozy_baked tavitrozy_bake(tavitrozy_resolver resolver,
 
 /* ---- without a set */
 
-/* What a track gives at a stage time: the last change at or before it, else the head. Reads as many changes as the shortest list has. Never refused. */
+/* What a track gives at a stage time: the last change at or before it, else the head, by halves: the times ascend, as a bake writes them. Reads as many changes as the shortest list has. Never refused. */
 tavitrozy_entry tavitrozy_read(tavitrozy_entry head, const double *times, size_t times_len,
   const double *values, size_t values_len, const uint8_t *marks, size_t marks_len, tavitrozy_at_stage time);
 

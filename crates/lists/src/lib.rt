@@ -18,6 +18,7 @@ ghost use Rattle.gf.specs.Doubles.{storable};
 ghost use Rattle.definitions.specs.Doubles.{twoEqual, threeEqual};
 ghost use Rattle.definitions.specs.ClipSet.{anyUnstorable};
 ghost use Rattle.definitions.specs.Timing.{lastAtMost, mapTime, mapStageToClip};
+ghost use Rattle.definitions.specs.Reading.{partitionPoint};
 ghost use Rattle.definitions.specs.Moments.{was};
 ghost use Rattle.laws.specs.list.Places.{Ascending};
 ghost use Rattle.laws.specs.cell.Lent.{knotsOf};
@@ -82,10 +83,9 @@ pub fn three_equal(times: &[f64]) -> bool
     false
 }
 
-// The place of the last of the times that is at most `t`, and 0 if none is: the Rust's `partition_point` less one.
-pub fn last_at_most(times: &[f64], t: f64) -> usize
-    requires { ⌜ Ascending (now times) ⌝ }
-    ensures { λ r. ⌜ r ≡ lastAtMost (was times) t ⌝ }
+// How many of the times are at most `t`, where they ascend: the Rust's `partition_point`. Elsewhere it is what the search by halves finds.
+pub fn partition_point(times: &[f64], t: f64) -> usize
+    ensures { λ r. ⌜ r ≡ partitionPoint (was times) t ⌝ }
 {
     let mut lo: usize = 0;
     let mut hi = times.len();
@@ -97,7 +97,16 @@ pub fn last_at_most(times: &[f64], t: f64) -> usize
             hi = mid;
         }
     }
-    if lo > 0 { lo - 1 } else { 0 }
+    lo
+}
+
+// The place of the last of the times that is at most `t`, and 0 if none is.
+pub fn last_at_most(times: &[f64], t: f64) -> usize
+    requires { ⌜ Ascending (now times) ⌝ }
+    ensures { λ r. ⌜ r ≡ lastAtMost (was times) t ⌝ }
+{
+    let found = partition_point(times, t);
+    if found > 0 { found - 1 } else { 0 }
 }
 
 // The y at `t` of the knots (x, y), bare as the lists are.

@@ -18,7 +18,7 @@ use resolver::ValueReply;
 use sdf::Counted;
 use track::bake::Baked;
 ghost use mathlib.Core.Path.{_≡_};
-ghost use Rattle.definitions.specs.Track.{readTrack};
+ghost use Rattle.definitions.specs.Reading.{trackOfLists, readByHalves};
 ghost use Rattle.definitions.specs.Moments.{was, after, outsWere, outsLeft};
 ghost use Rattle.laws.specs.cell.Lent.{samplesWere};
 ghost use Rattle.clip.specs.Holding.{manifest};
@@ -26,7 +26,6 @@ ghost use Rattle.explicit.specs.Parsing.{explicitFields};
 ghost use Rattle.template.specs.Expanding.{templateFields};
 ghost use Rattle.normal_form.specs.Normalizes.{Normalizes};
 ghost use Rattle.cell.specs.step.Entries.{entryIs};
-ghost use Rattle.track.specs.Held.{trackOfLists};
 ghost use Rattle.resolver.specs.State.{Made};
 ghost use Rattle.resolver.specs.Promises.{Begins, Accepts, Expands, Retimes, BakesTrack, TellsTimes, TellsSamples};
 ghost use Rattle.tavitrozy.specs.Codes.{clipCode, timeCode, valueCode, untimedCode, TellsClip, TellsTime, TellsValue, TellsUntimed, nameCode, SaysName};
@@ -307,7 +306,7 @@ pub extern "C" fn tavitrozy_read(
     marks: &[u8],
     time: StageTime,
 ) -> Entry
-    ensures { λ r. ⌜ entryIs r ≡ readTrack (trackOfLists (head .value) (head .mark) (was times) (was values) (was marks)) (time .0) ⌝ }
+    ensures { λ r. ⌜ entryIs r ≡ readByHalves (trackOfLists (head .value) (head .mark) (was times) (was values) (was marks)) (time .0) ⌝ }
 {
     track::held::read_held(head.mark, head.value, times, values, marks, time.0)
 }

@@ -3,6 +3,4 @@
 pub mod Bakes
 -- The walk over the changes
 pub mod Fills
--- A track as three lists
-pub mod Held
 pub mod span
