@@ -4,4 +4,5 @@ pub mod input;
 pub mod lent;
 pub mod reply;
 pub mod slots;
+pub mod values;
 pub mod written;

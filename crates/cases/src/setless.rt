@@ -2,9 +2,11 @@
 use crate::lines::reply;
 use crate::lines::slots::least;
 use crate::lines::slots::slots;
+use crate::lines::values;
 use crate::lines::written;
 use crate::text::first_bytes;
 use crate::text::first_doubles;
+use crate::text::first_numbers;
 use definitions::ClipTime;
 use names::Named;
 
@@ -47,11 +49,12 @@ pub fn name(line: &[u8], at: usize, out: &mut [u8], full: usize) -> usize {
     )
 }
 
-// The samples in order, in the first `count` entries of the three lists.
+// The samples in order, in the first `count` entries of the three lists. The values are those of `values::lend`.
 fn normalized(
     times: &[f64],
-    values: &[f64],
+    lent: &[f64],
     marks: &[u8],
+    patterns: &[u64],
     count: usize,
     outtimes: &mut [f64],
     outvalues: &mut [f64],
@@ -65,7 +68,7 @@ fn normalized(
     );
     let counted = normal_form::normalize_time_samples(
         times,
-        values,
+        lent,
         marks,
         &mut outtimes[0..k],
         &mut outvalues[0..k],
@@ -75,11 +78,11 @@ fn normalized(
         return reply::refused(counted.number, out, full);
     }
     written::samples(
-        b"normalize",
         counted.count,
         outtimes,
         outvalues,
         outmarks,
+        patterns,
         out,
         full,
     )
@@ -95,22 +98,25 @@ pub fn normalize(
     full: usize,
 ) -> usize {
     let mut times = [0.0f64; 5120];
-    let mut values = [0.0f64; 5120];
+    let mut patterns = [0u64; 5120];
     let mut marks = [0u8; 5120];
+    let mut lent = [0.0f64; 5120];
     let t = crate::text::doubles_after(line, at, b"t", &mut times);
     let times = first_doubles(&times, t.count);
-    let v = crate::text::doubles_after(line, t.at, b"v", &mut values);
-    let values = first_doubles(&values, v.count);
+    let v = crate::text::patterns_after(line, t.at, b"v", &mut patterns);
+    let patterns = first_numbers(&patterns, v.count);
     let m = crate::text::marks_after(line, v.at, b"m", &mut marks);
     let marks = first_bytes(&marks, m.count);
     let s = slots(line, m.at, 65536, 65536);
     if !crate::text::is_end(line, s.at) {
         return reply::unreadable(out, full);
     }
+    values::lend(patterns, marks, &mut lent);
     normalized(
         times,
-        values,
+        first_doubles(&lent, v.count),
         marks,
+        patterns,
         s.count,
         outtimes,
         outvalues,

@@ -55,10 +55,15 @@ pub fn mark(value: u8, out: &mut [u8], full: usize) -> usize {
     decimal(value as u64, out, full)
 }
 
+// A blank and a double's bits.
+pub fn bits(value: u64, out: &mut [u8], full: usize) -> usize {
+    let n = crate::text::put_byte(out, full, b' ');
+    crate::text::put_bits(out, n, value)
+}
+
 // A blank and a double.
 pub fn double(value: f64, out: &mut [u8], full: usize) -> usize {
-    let n = crate::text::put_byte(out, full, b' ');
-    crate::text::put_double(out, n, value)
+    bits(crate::text::bits_of(value), out, full)
 }
 
 // A track's head, behind the word of its call.

@@ -1,6 +1,7 @@
 // The lists that a question has written, as its reply shows them: a count, and that many entries.
 use crate::lines::reply;
 use crate::lines::slots::least;
+use crate::lines::values;
 
 fn begin(word: &[u8], count: usize, out: &mut [u8], full: usize) -> usize {
     let n = crate::text::put(out, full, word);
@@ -67,27 +68,28 @@ pub fn changes(
     crate::text::put_byte(out, n, b'\n')
 }
 
-fn sample(time: f64, value: f64, mark: u8, out: &mut [u8], full: usize) -> usize {
+fn sample(time: f64, pattern: u64, mark: u8, out: &mut [u8], full: usize) -> usize {
     let n = reply::double(time, out, full);
-    let n = reply::double(value, out, n);
+    let n = reply::bits(pattern, out, n);
     reply::mark(mark, out, n)
 }
 
-// Each entry a sample's time, value and mark.
+// Each entry a sample's time, the bits of its value and its mark. The values are those of `values::lend`.
 pub fn samples(
-    word: &[u8],
     count: usize,
     times: &[f64],
     values: &[f64],
     marks: &[u8],
+    patterns: &[u64],
     out: &mut [u8],
     full: usize,
 ) -> usize {
     let shown = least(count, least(times.len(), least(values.len(), marks.len())));
-    let mut n = begin(word, count, out, full);
+    let mut n = begin(b"normalize", count, out, full);
     let mut i: usize = 0;
     while i < shown {
-        n = sample(times[i], values[i], marks[i], out, n);
+        let pattern = values::bits_in(values[i], marks[i], patterns);
+        n = sample(times[i], pattern, marks[i], out, n);
         i += 1;
     }
     crate::text::put_byte(out, n, b'\n')

@@ -1,5 +1,6 @@
 // Lists of a line, read into a list that the caller lends. A list that is longer than that is not readable.
 use crate::text::numbers::hex_digits;
+use crate::text::numbers::read_bits;
 use crate::text::numbers::read_byte;
 use crate::text::numbers::read_decimal;
 use crate::text::numbers::read_double;
@@ -45,6 +46,21 @@ fn read_doubles(line: &[u8], at: usize, out: &mut [f64]) -> Listed {
     Listed { at: place, count }
 }
 
+// A count and that many doubles, their bits alone.
+fn read_patterns(line: &[u8], at: usize, out: &mut [u64]) -> Listed {
+    let n = counted(line, at, out.len());
+    let count = n.count;
+    let mut place = n.at;
+    let mut i: usize = 0;
+    while i < count {
+        let d = read_bits(line, place);
+        out[i] = d.value;
+        place = d.at;
+        i += 1;
+    }
+    Listed { at: place, count }
+}
+
 // A count and that many decimal numbers.
 fn read_numbers(line: &[u8], at: usize, out: &mut [u64]) -> Listed {
     let n = counted(line, at, out.len());
@@ -78,6 +94,10 @@ fn read_marks(line: &[u8], at: usize, out: &mut [u8]) -> Listed {
 // The same lists behind the word that names them.
 pub fn doubles_after(line: &[u8], at: usize, word: &[u8], out: &mut [f64]) -> Listed {
     read_doubles(line, after(line, at, word), out)
+}
+
+pub fn patterns_after(line: &[u8], at: usize, word: &[u8], out: &mut [u64]) -> Listed {
+    read_patterns(line, after(line, at, word), out)
 }
 
 pub fn numbers_after(line: &[u8], at: usize, word: &[u8], out: &mut [u64]) -> Listed {

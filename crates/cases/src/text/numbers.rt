@@ -137,11 +137,20 @@ pub fn bits_of(x: f64) -> u64
     f64::to_bits(x)
 }
 
+// The next word, a double's bits.
+pub fn read_bits(line: &[u8], at: usize) -> Number {
+    let n = hex_digits(line, skip_blanks(line, at), 16);
+    Number {
+        at: closed(line, n.at),
+        value: n.value,
+    }
+}
+
 // The next word, a double by its bits.
 pub fn read_double(line: &[u8], at: usize) -> Double {
-    let n = hex_digits(line, skip_blanks(line, at), 16);
+    let n = read_bits(line, at);
     Double {
-        at: closed(line, n.at),
+        at: n.at,
         value: double_of(n.value),
     }
 }

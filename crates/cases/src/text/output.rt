@@ -1,6 +1,5 @@
 // Replies, gathered in a buffer and written in large pieces: each function takes the buffer and how much of it is full, and
 // hands back how much is full then.
-use crate::text::numbers::bits_of;
 
 const DIGITS: [u8; 16] = [
     48,
@@ -75,11 +74,6 @@ pub fn put_bits(out: &mut [u8], full: usize, value: u64) -> usize {
         left -= 1;
     }
     n
-}
-
-// A double by its bits.
-pub fn put_double(out: &mut [u8], full: usize, x: f64) -> usize {
-    put_bits(out, full, bits_of(x))
 }
 
 // Bytes as hex pairs, `-` for none.

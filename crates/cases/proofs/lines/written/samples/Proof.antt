@@ -7,10 +7,10 @@ use Rattle.cases.proofs.lines.written.samples.Statement.{statement}
 use Rattle.cases.proofs.lines.written.samples.Tie as tie
 
 abbrev Inv-loop : tie.InvT-loop
-Inv-loop word count times values marks out₀ full shown n₀ i₀ out n i = length out ≡ length out₀
+Inv-loop count times values marks patterns out₀ full shown n₀ i₀ out n i = length out ≡ length out₀
 
 abbrev μ-loop : tie.MeasureT-loop
-μ-loop word count times values marks out₀ full shown n₀ i₀ out n i = shown - i
+μ-loop count times values marks patterns out₀ full shown n₀ i₀ out n i = shown - i
 
 pub samples-spec : {M : Type 1} → statement M
 samples-spec =
@@ -21,10 +21,13 @@ samples-spec =
     (λ c κs. search needs)
     (λ c κs. search needs)
     (λ c κs. search needs)
+    (λ c. search needs)
     (λ c κs. search needs)
     (λ c. search needs)
     (λ c. search needs)
     (λ c. search needs)
+    (λ c. search needs)
+    (λ c κs. search needs)
     (λ c. search needs)
     (λ c. search needs)
     (λ c. search needs)
