@@ -2,24 +2,34 @@
 use mathlib.Core.Path.{_≡_, refl, sym, ap, ap₂, _∙_, subst}
 use mathlib.Core.Bool.{Bool, true, false, _&&_, _||_, cond, true≢false}
 use mathlib.Core.List.{List, [], _∷_, _++_}
-use Prim.Native.Nat.{ℕ, zero, suc, _+_, _-_, _≤_, _<_}
+use Prim.Native.Nat.{ℕ, _+_, _-_, _≤_, _<_}
 use native.Mathlib.Numerals.{add-one}
-use native.Mathlib.Nat.{not-suc-le-zero, le-trans, le-of-eq}
-use native.Mathlib.Decide.{decLe}
+use native.Mathlib.Nat.{le-trans, le-of-eq}
 use native.Mathlib.Omega.{arith}
-use borrow.Author.Tests.{ltb-true, ltb-false, ne-eqb}
+use borrow.Author.Tests.{ltb-true, ltb-false}
 use lib.Dec.{T, leb, ltb, eqb, eqb→eq, leb→le}
-use lib.ListN.{length, getD, take, drop, length-drop}
-use lib.Ieee.{Float, nan, lt, isNan}
+use lib.ListN.{length, getD, take, drop}
+use lib.Ieee.{Float, nan, isNan}
 use Rattle.definitions.specs.Lists.{any, all, zipWith, below}
-use Rattle.definitions.specs.Doubles.{ascending}
 use Rattle.definitions.specs.ClipSet.{markValue, markBlock}
 use Rattle.definitions.specs.Samples.{nanValue, closes, clipBegin, clipEnd}
 use lib.Ieee.Fits.{and-l, and-r}
 use Rattle.sdf.specs.Parts.{part}
 use Rattle.lists.proofs.Fronts.{front, no-front}
 
--- ---- two lists side by side
+pub or-nothing : (b : Bool) → (b || false) ≡ b
+or-nothing true = refl
+or-nothing false = refl
+
+pub or-all : (b : Bool) → (b || true) ≡ true
+or-all true = refl
+or-all false = refl
+
+pub and-no : (b : Bool) → (b && false) ≡ false
+and-no true = refl
+and-no false = refl
+
+-- ---- values beside their marks
 
 module _ (vs : List Float) (ms : List ℕ) where
   abbrev pub nanFrom : ℕ → Bool
@@ -70,24 +80,8 @@ module _ (ms : List ℕ) where
       or-both true b c = refl
       or-both false b c = refl
 
-pub or-nothing : (b : Bool) → (b || false) ≡ b
-or-nothing true = refl
-or-nothing false = refl
-
-pub and-all : (b : Bool) → (b && true) ≡ b
-and-all true = refl
-and-all false = refl
-
-pub one-fall : (b : Bool) {n : ℕ} → n ≡ cond b 0 1 → n ≤ 1
-one-fall true e = omega arith
-one-fall false e = omega arith
-
 number-no-nan : (v : Float) (m : ℕ) → isNan v ≡ false → nanValue v m ≡ false
-number-no-nan v m f = ap (λ (b : Bool). eqb m markValue && b) f ∙ neither (eqb m markValue)
-  where
-    neither : (b : Bool) → (b && false) ≡ false
-    neither true = refl
-    neither false = refl
+number-no-nan v m f = ap (λ (b : Bool). eqb m markValue && b) f ∙ and-no (eqb m markValue)
 
 -- where no value is a NaN, none is under any mark
 pub no-nan : (vs : List Float) (ms : List ℕ) → any isNan vs ≡ false → false ≡ any (λ (b : Bool). b) (zipWith nanValue vs ms)
@@ -99,36 +93,6 @@ no-nan (v ∷ vs) (m ∷ ms) e = go (isNan v) refl e (no-nan vs ms)
         → false ≡ (nanValue v m || any (λ (b : Bool). b) (zipWith nanValue vs ms))
     go true f g rest = absurd (true≢false g)
     go false f g rest = rest g ∙ sym (ap (λ (b : Bool). b || any (λ (b : Bool). b) (zipWith nanValue vs ms)) (number-no-nan v m f))
-
--- ---- ascending times
-
-module _ (xs : List Float) where
-  ascending-on : (i : ℕ) → i + 1 < length xs → ascending (drop i xs) ≡ (lt (getD xs i nan) (getD xs (i + 1) nan) && ascending (drop (i + 1) xs))
-  ascending-on i h =
-      ap ascending (front xs i nan (omega arith))
-      ∙ ap (λ (l : List Float). ascending (getD xs i nan ∷ l)) (front xs (i + 1) nan h)
-      ∙ ap (λ (l : List Float). lt (getD xs i nan) (getD xs (i + 1) nan) && ascending l) (sym (front xs (i + 1) nan h))
-
-  -- so many fall before i: with the two neighbours from i on, one more or as many
-  pub ascending-found : (i found : ℕ) → i + 1 < length xs
-      → (eqb found 0 && ascending (drop i xs)) ≡ (eqb (found + cond (lt (getD xs i nan) (getD xs (i + 1) nan)) 0 1) 0 && ascending (drop (i + 1) xs))
-  ascending-found i found h = ap (λ (b : Bool). eqb found 0 && b) (ascending-on i h) ∙ go (lt (getD xs i nan) (getD xs (i + 1) nan))
-    where
-      neither : (b : Bool) → (b && false) ≡ false
-      neither true = refl
-      neither false = refl
-
-      go : (b : Bool) → (eqb found 0 && (b && ascending (drop (i + 1) xs))) ≡ (eqb (found + cond b 0 1) 0 && ascending (drop (i + 1) xs))
-      go true = let q : found ≡ found + 0 = omega arith in ap (λ (n : ℕ). eqb n 0 && ascending (drop (i + 1) xs)) q
-      go false = neither (eqb found 0) ∙ sym (ap (λ (b : Bool). b && ascending (drop (i + 1) xs)) (ne-eqb (found + 1) 0 (λ e. omega arith)))
-
-  pub ascending-end : (i : ℕ) → length xs ≤ i + 1 → ascending (drop i xs) ≡ true
-  ascending-end i h = go (drop i xs) (omega (arith, length-drop i xs))
-    where
-      go : (l : List Float) → length l ≤ 1 → ascending l ≡ true
-      go [] k = refl
-      go (x ∷ []) k = refl
-      go (x ∷ y ∷ l) k = absurd (omega arith)
 
 -- ---- the clips' parts
 
@@ -171,18 +135,3 @@ module _ (p : ℕ → Bool) where
 
   pub below-next : (i : ℕ) → all p (below (i + 1)) ≡ (all p (below i) && p i)
   below-next i = rw (add-one i) (all-snoc (below i) i)
-
-  -- one that fails settles the whole
-  pub below-fails : (i n : ℕ) → i < n → p i ≡ false → all p (below n) ≡ false
-  below-fails i zero h e = absurd (not-suc-le-zero h)
-  below-fails i (suc n) h e = all-snoc (below n) n ∙ elim (decLe (suc i) n) [
-    | yes k ↦ ap (λ (b : Bool). b && p n) (below-fails i n k e)
-    | no k ↦ ap (λ (b : Bool). all p (below n) && b) (subst (λ (j : ℕ). p j ≡ false) (same n i h k) e) ∙ and-no (all p (below n))
-  ]
-    where
-      same : (n i : ℕ) → i < suc n → ¬ (suc i ≤ n) → i ≡ n
-      same n i l k = omega arith
-
-      and-no : (b : Bool) → (b && false) ≡ false
-      and-no true = refl
-      and-no false = refl

@@ -15,7 +15,7 @@ pub struct Counted {
 }
 
 // The number by which the samples are refused for a set with `clips` clips, and 0 if they are accepted.
-// The ends are looked at as places of the list only once they are known to close it.
+// Sound lists are told in few passes; what is wrong with others is looked for after.
 pub fn samples_number(clips: u64, times: &[f64], values: &[f64], marks: &[u8], ends: &[u64]) -> u8
     ensures { λ r. ⌜ Judged clips (was times) (was values) (was marks) (was ends) r ⌝ }
 {
@@ -25,19 +25,16 @@ pub fn samples_number(clips: u64, times: &[f64], values: &[f64], marks: &[u8], e
     if ends.len() as u64 != clips {
         return refusal::MISSHAPEN;
     }
-    if lists::any_unstorable(times) {
-        return refusal::UNSTORABLE;
-    }
     if scans::any_nan(values, marks) {
         return refusal::UNSTORABLE;
     }
+    if !scans::sound(times, ends) {
+        if lists::any_unstorable(times) {
+            return refusal::UNSTORABLE;
+        }
+        return refusal::BAD_SAMPLES;
+    }
     if scans::bad_marks(marks) {
-        return refusal::BAD_SAMPLES;
-    }
-    if !scans::closes(ends, times.len()) {
-        return refusal::BAD_SAMPLES;
-    }
-    if !scans::parts_ascend(times, ends) {
         return refusal::BAD_SAMPLES;
     }
     0

@@ -1,15 +1,18 @@
 // The tests over lent samples, each in one pass over its lists.
 use definitions::limits::SAMPLES;
 ghost use mathlib.Core.Path.{_≡_};
-ghost use mathlib.Core.Bool.{Bool, cond};
+ghost use mathlib.Core.Bool.{Bool, not, _&&_, _||_, cond};
+ghost use Prim.Native.Nat.{_-_, _≤_};
 ghost use lib.Dec.{T, ltb};
-ghost use lib.ListN.{length};
-ghost use lib.Ieee.{isNan, lt};
+ghost use lib.ListN.{length, getD, take, drop};
+ghost use lib.Ieee.{nan, isNan, lt};
+ghost use Rattle.gf.specs.Doubles.{storable};
 ghost use Rattle.definitions.specs.Lists.{any, zipWith};
 ghost use Rattle.definitions.specs.Doubles as Doubles;
+ghost use Rattle.definitions.specs.ClipSet.{anyUnstorable};
 ghost use Rattle.definitions.specs.Samples as Samples;
 ghost use Rattle.definitions.specs.Moments.{was};
-ghost use Rattle.sdf.specs.Parts.{partsAscend};
+ghost use Rattle.sdf.specs.Parts as Parts;
 
 // More samples than the limit, or lists of unlike length.
 pub fn unlike_lengths(times: &[f64], values: &[f64], marks: &[u8]) -> bool
@@ -35,27 +38,40 @@ fn is_nan_value(value: f64, mark: u8) -> bool
     false
 }
 
-// 1 for a NaN, else 0.
-fn nan_found(value: f64) -> u64
-    ensures { λ r. ⌜ r ≡ cond (isNan value) 1 0 ⌝ }
+// 1 where either is a NaN, else 0.
+fn nan_found(a: f64, b: f64) -> u64
+    ensures { λ r. ⌜ r ≡ cond (isNan a || isNan b) 1 0 ⌝ }
 {
-    if value != value {
+    if a != a {
+        return 1;
+    }
+    if b != b {
         return 1;
     }
     0
 }
 
-// A NaN is among the values. No early exit, so that the loop vectorises.
-fn any_not_a_number(values: &[f64]) -> bool
-    ensures { λ r. ⌜ r ≡ any isNan (was values) ⌝ }
+// A NaN is in one of two lists. No early exit, so that the loop vectorises, and one comparison for an entry of each.
+fn any_nan_beside(left: &[f64], right: &[f64]) -> bool
+    requires { ⌜ length (now left) ≡ length (now right) ⌝ }
+    ensures { λ r. ⌜ r ≡ (any isNan (was left) || any isNan (was right)) ⌝ }
 {
     let mut found: u64 = 0;
     let mut i: usize = 0;
-    while i < values.len() {
-        found += nan_found(values[i]);
+    while i < left.len() {
+        found += nan_found(left[i], right[i]);
         i += 1;
     }
     0 < found
+}
+
+// A NaN is among the values: in one of two halves, which share the middle value of an odd number.
+fn any_not_a_number(values: &[f64]) -> bool
+    ensures { λ r. ⌜ r ≡ any isNan (was values) ⌝ }
+{
+    let half = values.len() / 2;
+    let end = values.len() - half;
+    any_nan_beside(&values[..end], &values[half..])
 }
 
 // A NaN under the mark of a value is among the values.
@@ -133,9 +149,9 @@ fn fall(time: f64, next: f64) -> u64
     1
 }
 
-// Each time is below the one after it. Those that are not are counted, as the NaNs are.
-pub fn ascending(times: &[f64]) -> bool
-    ensures { λ r. ⌜ r ≡ Doubles.ascending (was times) ⌝ }
+// How many times are not below the one after them. No early exit, so that the loop vectorises.
+fn falls(times: &[f64]) -> u64
+    ensures { λ r. ⌜ r ≡ Parts.falls (was times) ⌝ }
 {
     let mut found: u64 = 0;
     let mut i: usize = 0;
@@ -143,23 +159,72 @@ pub fn ascending(times: &[f64]) -> bool
         found += fall(times[i], times[i + 1]);
         i += 1;
     }
-    found == 0
+    found
 }
 
-// The times ascend within each clip. That the ends close the list keeps every part inside it.
-pub fn parts_ascend(times: &[f64], ends: &[u64]) -> bool
-    requires { ⌜ T (Samples.closes 0 (now ends) (length (now times))) ⌝ }
-    ensures { λ r. ⌜ r ≡ partsAscend (was times) (was ends) ⌝ }
+// Each time is below the one after it.
+pub fn ascending(times: &[f64]) -> bool
+    ensures { λ r. ⌜ r ≡ Doubles.ascending (was times) ⌝ }
 {
+    falls(times) == 0
+}
+
+// Of the clip from `begin` to `end`: 1 where its last time is not below the first one behind it, else 0.
+fn fall_behind(times: &[f64], begin: usize, end: usize) -> u64
+    requires { ⌜ begin ≤ end ⌝ ∗ ⌜ end ≤ length (now times) ⌝ }
+    ensures { λ r. ⌜ r ≡ cond (ltb begin end) (Parts.falls (take 2 (drop (end - 1) (was times)))) 0 ⌝ }
+{
+    if begin == end {
+        return 0;
+    }
+    if end == times.len() {
+        return 0;
+    }
+    fall(times[end - 1], times[end])
+}
+
+// The first or the last time of the clip from `begin` to `end` may not be stored.
+fn unstorable_bound(times: &[f64], begin: usize, end: usize) -> bool
+    requires { ⌜ begin ≤ end ⌝ ∗ ⌜ end ≤ length (now times) ⌝ }
+    ensures { λ r. ⌜ r ≡ (ltb begin end && (not (storable (getD (was times) begin nan)) || not (storable (getD (was times) (end - 1) nan)))) ⌝ }
+{
+    if begin == end {
+        return false;
+    }
+    if !gf::is_storable(times[begin]) {
+        return true;
+    }
+    !gf::is_storable(times[end - 1])
+}
+
+// The times ascend within each clip, and all may be stored: as many fall as do between two clips, and times that ascend lie
+// between their first and their last.
+fn parts_sound(times: &[f64], ends: &[u64]) -> bool
+    requires { ⌜ T (Samples.closes 0 (now ends) (length (now times))) ⌝ }
+    ensures { λ r. ⌜ r ≡ (Parts.partsAscend (was times) (was ends) && not (anyUnstorable (was times))) ⌝ }
+{
+    let all = falls(times);
+    let mut between: u64 = 0;
     let mut begin: usize = 0;
     let mut i: usize = 0;
     while i < ends.len() {
         let end = ends[i] as usize;
-        if !ascending(&times[begin..end]) {
+        if unstorable_bound(times, begin, end) {
             return false;
         }
+        between += fall_behind(times, begin, end);
         begin = end;
         i += 1;
     }
-    true
+    all == between
+}
+
+// The ends close the list, the times ascend within each clip, and all may be stored.
+pub fn sound(times: &[f64], ends: &[u64]) -> bool
+    ensures { λ r. ⌜ r ≡ (Samples.closes 0 (was ends) (length (was times)) && (Parts.partsAscend (was times) (was ends) && not (anyUnstorable (was times)))) ⌝ }
+{
+    if !closes(ends, times.len()) {
+        return false;
+    }
+    parts_sound(times, ends)
 }
