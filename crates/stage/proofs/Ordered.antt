@@ -259,3 +259,25 @@ module _ (l : List Float) (f : Every FiniteDouble l) where
         ∙ ap (λ (z : List Float). h ∷ dedup z)
         (keep-keep (λ (x : Float). lt t x) (λ (x : Float). lt h x) s
         (every-map FiniteDouble (λ (x : Float). T (lt h x) → T (lt t x)) (λ x q u. lt-le-trans t h x ft (fh .fitting) (q .fitting) (n .1) (lt→le h x u)) s sorted-finite))
+
+-- ---- each is above the one before
+
+every-other : (P : Float → Type 0) (x : Float) (l : List Float) → Every P l → Every P (dropEqual x l)
+unfolding dropEqual
+every-other P x [] h = tt
+every-other P x (y ∷ l) h = go (eq x y)
+  where
+    go : (b : Bool) → Every P (cond b l (y ∷ l))
+    go true = h .1
+    go false = h
+
+every-once : (P : Float → Type 0) (l : List Float) → Every P l → Every P (dedup l)
+unfolding dedup
+every-once P [] h = tt
+every-once P (x ∷ l) h = (h .0, every-other P x (dedup l) (every-once P l (h .1)))
+
+pub after-rises : (l : List Float) (t h : Float) (r : List Float) → FiniteDouble t → FiniteDouble h → after l t ≡ h ∷ r → key t < key h
+unfolding after
+after-rises l t h r ft fh e =
+    let above = kept-pass (λ (x : Float). lt t x) (sortBy totalKey l) in
+    key-lt t h ft fh (subst (Every (λ (x : Float). T (lt t x))) e (every-once (λ (x : Float). T (lt t x)) (keep (λ (x : Float). lt t x) (sortBy totalKey l)) above) .0)

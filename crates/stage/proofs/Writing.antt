@@ -1,12 +1,9 @@
 -- Entries written to the front of a lent list one after the other. Assumes nothing.
 use mathlib.Core.Path.{_≡_, refl, sym, ap, ap₂, _∙_, subst}
 use mathlib.Core.List.{List, [], _∷_, _++_, append-assoc, append-nil}
-use Prim.Native.Nat.{ℕ, _+_, _≤_, _<_}
+use Prim.Native.Nat.{ℕ, _+_, _≤_, _<_, min}
 use native.Mathlib.Numerals.{add-one}
 use native.Mathlib.Omega.{arith}
-use mathlib.Core.Bool.{true, false}
-use lib.Dec.{leb}
-use borrow.Author.Tests.{le-leb, lt-leb}
 use lib.ListN.{length, take, drop, set, length-append, length-drop, length-set, take-append-drop}
 use lib.Seq.{take-at, length-take-le, take-suc-set, drop-set-lt, drop-drop}
 use Rattle.definitions.specs.Lists.{writtenOver}
@@ -57,11 +54,11 @@ wrote-rest all old out n r q e w = subst (λ (k : List _). Wrote all k old out n
 -- ---- entries counted one after the other: n were counted, and `rest` is left
 
 module _ {A : Type 0} (all rest : List A) (n room : ℕ) (e : length all ≡ n + length rest) where
-  pub count-done : n ≤ room → rest ≡ [] → true ≡ leb (length all) room
-  count-done l q = sym (le-leb (length all) room (omega (arith, ap length q)))
+  pub count-done : n ≤ room → rest ≡ [] → n ≡ min (length all) (room + 1)
+  count-done l q = omega (arith, ap length q)
 
-  pub count-over : (h : A) (r : List A) → n ≡ room → rest ≡ h ∷ r → false ≡ leb (length all) room
-  count-over h r l q = sym (lt-leb (length all) room (omega (arith, ap length q)))
+  pub count-over : (h : A) (r : List A) → n ≤ room → room < n + 1 → rest ≡ h ∷ r → n + 1 ≡ min (length all) (room + 1)
+  count-over h r l o q = omega (arith, ap length q)
 
   pub count-on : (h : A) (r : List A) → rest ≡ h ∷ r → length all ≡ n + 1 + length r
   count-on h r q = omega (arith, ap length q)

@@ -7,18 +7,22 @@ pub mod zero;
 
 use definitions::Missing;
 use mark::write_marks;
-use walk::fits;
+use walk::count_within;
 use walk::write_times;
 use window::search::latest::latest_inverses;
 ghost use mathlib.Core.Path.{_≡_};
 ghost use mathlib.Core.List.{[]};
 ghost use Prim.Native.Nat.{min};
+ghost use lib.ListN.{length};
 ghost use Rattle.definitions.specs.StageSamples.{stageSamples};
 ghost use Rattle.definitions.specs.Moments.{was, after};
 ghost use Rattle.laws.specs.cell.Lent.{AcceptedLists, samplesWere};
 ghost use Rattle.stage.specs.Promises.{TimesWritten, WritesSamples};
 ghost use Rattle.stage.specs.Times.{timesOf, AcceptedTimes};
 ghost use Rattle.stage.specs.Marks.{unblocked};
+
+// Room for every time: there are fewer doubles than that.
+const ANY_COUNT: usize = 0xffff_ffff_ffff_ffff;
 
 // How many entries were written, or that the lent lists are too short for them and nothing was.
 pub enum Written {
@@ -40,11 +44,29 @@ pub fn stage_sample_times(
     ensures { λ r. ⌜ TimesWritten (timesOf (was starts) (was clips) (was xs) (was ys) (was times) (was ends)) (was out) (after out) r ⌝ }
 {
     let reach = latest_inverses(xs, ys);
-    if fits(starts, clips, xs, ys, times, ends, &reach.items, out.len()) {
+    let room = out.len();
+    let counted = count_within(starts, clips, xs, ys, times, ends, &reach.items, room);
+    if counted <= room {
         let count = write_times(starts, clips, xs, ys, times, ends, &reach.items, out);
         return Written::Count(count);
     }
     Written::NoRoom
+}
+
+// How many stage sample times there are: the slots that a list of them asks for.
+pub fn stage_sample_count(
+    starts: &[f64],
+    clips: &[u64],
+    xs: &[f64],
+    ys: &[f64],
+    times: &[f64],
+    ends: &[u64],
+) -> usize
+    requires { ⌜ AcceptedTimes (now starts) (now clips) (now xs) (now ys) (now times) (now ends) ⌝ }
+    ensures { λ r. ⌜ r ≡ length (timesOf (was starts) (was clips) (was xs) (was ys) (was times) (was ends)) ⌝ }
+{
+    let reach = latest_inverses(xs, ys);
+    count_within(starts, clips, xs, ys, times, ends, &reach.items, ANY_COUNT)
 }
 
 fn shorter(a: usize, b: usize) -> usize
@@ -75,7 +97,8 @@ pub fn stage_samples(
 {
     let reach = latest_inverses(xs, ys);
     let room = shorter(outtimes.len(), outmarks.len());
-    if fits(starts, clips, xs, ys, times, ends, &reach.items, room) {
+    let counted = count_within(starts, clips, xs, ys, times, ends, &reach.items, room);
+    if counted <= room {
         let count = write_times(starts, clips, xs, ys, times, ends, &reach.items, outtimes);
         write_marks(
             starts,

@@ -3,8 +3,7 @@
 use super::next::next_time;
 use window::Bound;
 ghost use mathlib.Core.Path.{_≡_};
-ghost use Prim.Native.Nat.{_≤_};
-ghost use lib.Dec.{leb};
+ghost use Prim.Native.Nat.{_+_, _≤_, min};
 ghost use lib.ListN.{length};
 ghost use Rattle.definitions.specs.Moments.{was, after};
 ghost use Rattle.window.specs.search.Latest.{LatestOf};
@@ -14,8 +13,8 @@ ghost use Rattle.stage.specs.Promises.{AllWritten};
 // No stage sample time is below -2^40.
 const BEFORE_ALL: f64 = -2199023255552.0;
 
-// Whether there are at most `room` stage sample times.
-pub fn fits(
+// The number of stage sample times, or one beyond the room if there are more.
+pub fn count_within(
     starts: &[f64],
     clips: &[u64],
     xs: &[f64],
@@ -24,9 +23,9 @@ pub fn fits(
     ends: &[u64],
     latest: &[f64],
     room: usize,
-) -> bool
+) -> usize
     requires { ⌜ AcceptedTimes (now starts) (now clips) (now xs) (now ys) (now times) (now ends) ⌝ ∗ ⌜ LatestOf (now xs) (now ys) (now latest) ⌝ }
-    ensures { λ r. ⌜ r ≡ leb (length (timesOf (was starts) (was clips) (was xs) (was ys) (was times) (was ends))) room ⌝ }
+    ensures { λ r. ⌜ r ≡ min (length (timesOf (was starts) (was clips) (was xs) (was ys) (was times) (was ends))) (room + 1) ⌝ }
 {
     let mut t = BEFORE_ALL;
     let mut count: usize = 0;
@@ -49,12 +48,12 @@ pub fn fits(
         );
         let time = next.time;
         let Bound::At(h) = time else {
-            return true;
+            return count;
         };
-        if count == room {
-            return false;
-        }
         count += 1;
+        if room < count {
+            return count;
+        }
         t = h;
         place = next.place;
         knot = next.knot;

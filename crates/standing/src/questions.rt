@@ -25,7 +25,7 @@ ghost use Rattle.laws.specs.list.Places.{Ascending};
 ghost use Rattle.laws.specs.cell.Lent.{activeOf, knotsOf, samplesWere, AcceptedLists};
 ghost use Rattle.clip.specs.Holding.{Room};
 ghost use Rattle.value.specs.Untimed.{untimedOf};
-ghost use Rattle.track.specs.Bakes.{BakeIs};
+ghost use Rattle.track.specs.Bakes.{trackOf, BakeIs};
 ghost use Rattle.standing.specs.Lists.{countOf, ListsTimes, ListsSamples};
 ghost use Rattle.standing.specs.Standing.{Asked, TimesAsked, lentTimes, SamplesAsked, answered};
 ghost use Rattle.standing.specs.Moments.{setWas, openWas, knotlessWas};
@@ -172,6 +172,58 @@ pub fn bake_knotless<'a>(
         outvalues,
         outmarks,
     )
+}
+
+// How many changes the track has.
+pub fn change_count<'a>(
+    starts: &'a [f64],
+    numbers: &'a [u64],
+    xs: &'a [f64],
+    ys: &'a [f64],
+    blocks: &'a [f64],
+    counts: Counts,
+    m: Missing,
+    times: &[f64],
+    values: &[f64],
+    marks: &[u8],
+    ends: &[u64],
+) -> usize
+    requires { ⌜ Asked counts (now starts) (now numbers) (now xs) (now ys) (now blocks) m (now times) (now values) (now marks) (now ends) ⌝ }
+    ensures { λ r. ⌜ r ≡ length (trackOf (setWas counts starts numbers xs ys blocks m ends) (samplesWere times values marks ends) .changes) ⌝ }
+{
+    let n = counts.starts;
+    let k = counts.knots;
+    let b = counts.blocks;
+    track::count::change_count(
+        &starts[..n],
+        &numbers[..n],
+        &xs[..k],
+        &ys[..k],
+        &blocks[..b],
+        m,
+        times,
+        values,
+        marks,
+        ends,
+    )
+}
+
+// How many stage sample times there are.
+pub fn stage_sample_count<'a>(
+    starts: &'a [f64],
+    numbers: &'a [u64],
+    xs: &'a [f64],
+    ys: &'a [f64],
+    counts: Counts,
+    times: &[f64],
+    ends: &[u64],
+) -> usize
+    requires { ⌜ TimesAsked counts (now starts) (now numbers) (now xs) (now ys) (now times) (now ends) ⌝ }
+    ensures { λ r. ⌜ r ≡ length (lentTimes counts (was starts) (was numbers) (was xs) (was ys) (was times) (was ends)) ⌝ }
+{
+    let n = counts.starts;
+    let k = counts.knots;
+    stage::stage_sample_count(&starts[..n], &numbers[..n], &xs[..k], &ys[..k], times, ends)
 }
 
 // The stage sample times, written to the lent list.

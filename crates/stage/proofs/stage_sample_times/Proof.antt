@@ -1,11 +1,11 @@
 -- `stage::stage_sample_times` meets its contract: the times are counted before any is written. Assumes nothing.
-use mathlib.Core.Path.{refl, sym, _∙_}
+use mathlib.Core.Path.{refl}
 use mathlib.Core.List.{List}
 use lib.Ieee.{Float}
 use lib.ListN.{length}
 use denote.Ref.{now}
 use Prim.Native.Nat.{_≤_}
-use borrow.Author.Tests.{leb-true, leb-false}
+use native.Mathlib.Omega.{arith}
 use borrow.Author.Needs.{needs}
 use Rattle.stage.specs.Times.{timesOf}
 use Rattle.stage.proofs.stage_sample_times.Statement.{statement}
@@ -28,7 +28,7 @@ reach c = c .before .before .before .before .before
 
 -- there is room for them
 room : (c : tie.Then1) → length (all (entry (reach c))) ≤ length (now (entry (reach c) .args .out))
-room c = leb-true (length (all (entry (reach c)))) (length (now (entry (reach c) .args .out))) (sym (c .before .fits2 .ensures) ∙ c .if1 .taken)
+room c = let e = c .before .count-within .ensures in let h = c .if1 .taken in omega arith
 
 write-times-requires : tie.Need-write-times-requires
 write-times-requires c κs =
@@ -41,7 +41,7 @@ returns c =
     (w .write-times .ensures .0, room (w .before .before .before .before .before), w .write-times .ensures .1)
 
 returns-2 : tie.Need-returns-2
-returns-2 c = let k = c .before in (leb-false _ _ (sym (k .fits2 .ensures) ∙ c .if1 .left), refl)
+returns-2 c = let e = c .before .count-within .ensures in let h = c .if1 .left in (omega arith, refl)
 
 pub stage-sample-times-spec : {M : Type 1} → statement M
 stage-sample-times-spec =

@@ -4,12 +4,10 @@ use native.Mathlib.Nat.{min-le-left, min-le-right, le-trans}
 use mathlib.Core.Path.{_≡_, refl, sym, ap, _∙_}
 use mathlib.Core.List.{List}
 use native.Mathlib.Omega.{arith}
-use lib.Dec.{leb}
 use lib.ListN.{length}
 use lib.Seq.{length-take-le}
 use lib.Ieee.{Float}
 use denote.Ref.{now}
-use borrow.Author.Tests.{leb-true, leb-false}
 use Rattle.definitions.specs.ClipSet.{ClipSet}
 use Rattle.definitions.specs.Samples.{Samples}
 use Rattle.laws.specs.cell.Lent.{samplesOf}
@@ -43,7 +41,10 @@ room : (c : tie.Then1) → let s = entry (asked c) in length (all s) ≤ min (le
 room c =
     let k = asked c in
     let s = entry k in
-    leb-true (length (all s)) (min (length (now (s .args .outtimes))) (length (now (s .args .outmarks)))) (ap (leb (length (all s))) (sym (k .shorter .ensures)) ∙ sym (c .before .fits2 .ensures) ∙ c .if1 .taken)
+    let r = k .shorter .ensures in
+    let e = c .before .count-within .ensures in
+    let h = c .if1 .taken in
+    omega arith
 
 times-room : (c : tie.Then1) → let s = entry (asked c) in length (all s) ≤ length (now (s .args .outtimes))
 times-room c = let s = entry (asked c) in le-trans (room c) (min-le-left (length (now (s .args .outtimes))) (length (now (s .args .outmarks))))
@@ -56,8 +57,8 @@ latest-inverses-requires c κs =
     let A = accepted-times (c .before .before .before .before .before .before .before .before .before .before .pre) in
     (A .windows .readable .paired, (A .few, A .windows .readable .segments))
 
-fits-requires : tie.Need-fits-requires
-fits-requires c κs = search (needs, accepted-times)
+count-within-requires : tie.Need-count-within-requires
+count-within-requires c κs = search (needs, accepted-times)
 
 write-times-requires : tie.Need-write-times-requires
 write-times-requires c κs =
@@ -98,8 +99,11 @@ returns-2 : tie.Need-returns-2
 returns-2 c =
     let k = c .before .before .before .before .before in
     let s = entry k in
+    let r = k .shorter .ensures in
+    let e = c .before .count-within .ensures in
+    let h = c .if1 .left in
     samples-none (set s) (lent s) (all s) (stage-times (s .pre)) (now (s .args .outtimes)) (now (s .args .outtimes)) (now (s .args .outmarks)) (now (s .args .outmarks))
-    (leb-false (length (all s)) (min (length (now (s .args .outtimes))) (length (now (s .args .outmarks)))) (ap (leb (length (all s))) (sym (k .shorter .ensures)) ∙ sym (c .before .fits2 .ensures) ∙ c .if1 .left)) refl refl
+    (omega arith) refl refl
 
 pub stage-samples-spec : {M : Type 1} → statement M
 stage-samples-spec =
@@ -107,7 +111,7 @@ stage-samples-spec =
     (tie.spec
     latest-inverses-requires
     (λ c κs. search needs)
-    fits-requires
+    count-within-requires
     write-times-requires
     slice-reshare-prefix-write-marks
     slice-aggregate-write-marks
