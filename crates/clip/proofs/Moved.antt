@@ -1,23 +1,23 @@
--- A set's lists, moved, are the moved set's; and a set that stands has no number. Assumes nothing.
+-- A set's lists, moved, are the moved set's, and in order the retimed set's. Assumes nothing.
 use Prim.Native.Nat.{ℕ}
-use mathlib.Core.Path.{_≡_, refl, ap, subst}
-use mathlib.Core.Bool.{true, false}
+use mathlib.Core.Path.{_≡_, refl, ap, _∙_}
+use mathlib.Core.Bool.{Bool, true, false, cond}
 use mathlib.Core.List.{List, [], _∷_, map}
 use lib.Ieee.{Float, lt}
 use Rattle.gf.specs.Doubles.{0·0}
 use Rattle.definitions.specs.declared.Knot.{Knot}
 use Rattle.definitions.specs.declared.Start.{Start}
 use Rattle.definitions.specs.declared.LayerOffset.{LayerOffset}
+use Rattle.definitions.specs.declared.Missing.{Missing}
 use Rattle.definitions.specs.ClipSet as Definitions
-use Rattle.definitions.specs.ClipSet.{activeTimes, knotTimes}
+use Rattle.definitions.specs.ClipSet.{activeTimes, knotTimes, sortActive, sortKnots}
 use Rattle.definitions.specs.Retime.{apply, moveActivation, moveKnot, moved, sorted}
 use Rattle.laws.specs.set.Sound.{knotValues}
 use Rattle.laws.specs.cell.Lent.{activeOf, knotsOf, setOf}
 use Rattle.clip.specs.declared.ClipSet.{ClipSet}
-use Rattle.clip.specs.declared.Prepared.{Prepared}
 use Rattle.clip.specs.Holding.{activeIn, activeClips, knotsIn, blocksIn, clipSetOf, manifestOf}
-use Rattle.clip.specs.Storing.{Stores}
-use Rattle.clip.specs.Retiming.{movedAndSorted}
+use Rattle.clip.specs.Retiming.{activeTurned, knotsTurned, movedAndSorted}
+use Rattle.clip.proofs.Stored.{sorted-is}
 
 module _ (o : LayerOffset) where
   active-moved : (l : List Start) → activeOf (map (apply o) (activeTimes l)) (activeClips l) ≡ map (moveActivation o) l
@@ -36,10 +36,18 @@ module _ (o : LayerOffset) where
   moved-is set times times′ numbers xs xs′ ys blocks blocks′ t n x y b t′ x′ b′ =
       rw (t′, x′, b′, t, n, x, y, b, active-moved (activeIn (set .active)), knots-moved (knotsIn (set .knots)))
 
-pub settles-sorted : (o : LayerOffset) (set w : Definitions.ClipSet) (r : Prepared) → lt (o .scale) 0·0 ≡ true → w ≡ moved o set → Stores (sorted w) r → Stores (movedAndSorted o set) r
-unfolding movedAndSorted
-settles-sorted o set w r e f s = rw e (subst (λ (x : Definitions.ClipSet). Stores (sorted x) r) f s)
+module _ (o : LayerOffset) (set : Definitions.ClipSet) (clips : ℕ) (times us : List Float) (numbers vs : List ℕ) (xs ys ps qs blocks : List Float) (m : Missing) where
+  kept-order : activeOf us vs ≡ activeOf times numbers → knotsOf ps qs ≡ knotsOf xs ys → setOf clips us vs ps qs blocks m ≡ setOf clips times numbers xs ys blocks m
+  unfolding setOf
+  kept-order e f = rw (e, f)
 
-pub settles-unsorted : (o : LayerOffset) (set w : Definitions.ClipSet) (r : Prepared) → lt (o .scale) 0·0 ≡ false → w ≡ moved o set → Stores w r → Stores (movedAndSorted o set) r
-unfolding movedAndSorted
-settles-unsorted o set w r e f s = rw e (subst (λ (x : Definitions.ClipSet). Stores x r) f s)
+  -- the moved lists in order are the retimed set's
+  pub turned-is : setOf clips times numbers xs ys blocks m ≡ moved o set → activeOf us vs ≡ activeTurned (o .scale) (activeOf times numbers) → knotsOf ps qs ≡ knotsTurned (o .scale) (knotsOf xs ys)
+      → setOf clips us vs ps qs blocks m ≡ movedAndSorted o set
+  unfolding movedAndSorted
+  turned-is w = go (lt (o .scale) 0·0)
+    where
+      go : (b : Bool) → activeOf us vs ≡ cond b (sortActive (activeOf times numbers)) (activeOf times numbers) → knotsOf ps qs ≡ cond b (sortKnots (knotsOf xs ys)) (knotsOf xs ys)
+          → setOf clips us vs ps qs blocks m ≡ cond b (sorted (moved o set)) (moved o set)
+      go true e f = sorted-is clips times us numbers vs xs ys ps qs blocks m e f ∙ ap sorted w
+      go false e f = kept-order e f ∙ w

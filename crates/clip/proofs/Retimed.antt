@@ -6,6 +6,7 @@ use lib.Ieee.{lt}
 use lib.Ieee.Scale.{finite}
 use Rattle.gf.specs.Doubles.{0·0}
 use Rattle.definitions.specs.declared.LayerOffset.{LayerOffset}
+use Rattle.definitions.specs.ClipSet as Definitions
 use Rattle.definitions.specs.Retime.{isIdentity, moved, sorted, retimeStageTimes, movedNumber}
 use Rattle.laws.specs.list.Places.{Fits}
 use Rattle.laws.specs.set.Sound.{Sound}
@@ -13,23 +14,12 @@ use Rattle.laws.proofs.set.SoundRetime.{retime-sound}
 use Rattle.clip.specs.declared.ClipSet.{ClipSet}
 use Rattle.clip.specs.declared.Prepared.{Prepared}
 use Rattle.clip.specs.Holding.{ArraysWhole, clipSetOf}
-use Rattle.clip.specs.Storing.{settleNumber, Refuses, Stores}
+use Rattle.clip.specs.Storing.{settleNumber, Stores}
 use Rattle.clip.specs.Retiming.{movedAndSorted, Retimes}
+use Rattle.clip.proofs.Preparing.{prepares, prepares-not}
 use Rattle.clip.proofs.Standing.{sound-mark, sound-settles}
 
 module _ (set : ClipSet) (o : LayerOffset) where
-  pub retime-refuses : (r : Prepared) → (finite (o .offset) && finite (o .scale)) ≡ false → Refuses 2 r → Retimes set o r
-  unfolding movedNumber
-  retime-refuses r e f = record {
-    number = f .number ∙ rw e;
-    moved = λ z. absurd (never z);
-    sound = λ z. absurd (never z);
-    held = f .held;
-  }
-    where
-      never : r .number ≡ 0 → ⊥
-      never z = let q = f .number in omega arith
-
   -- the identity, and any other
   unmoved : isIdentity o ≡ true → retimeStageTimes o (clipSetOf set) ≡ clipSetOf set
   unfolding retimeStageTimes
@@ -48,27 +38,24 @@ module _ (set : ClipSet) (o : LayerOffset) where
       go false true = refl
       go false false = refl
 
-  module _ (s : Sound (clipSetOf set)) (p : finite (o .offset) ≡ true) (q : finite (o .scale) ≡ true) where
-    -- the default's mark is sound, so a moved set's number is the retiming's
-    number-is : settleNumber (retimeStageTimes o (clipSetOf set)) ≡ movedNumber (clipSetOf set) o
-    unfolding movedNumber settleNumber
-    number-is = rw (p, q, default-kept, sound-mark (clipSetOf set) s)
+  module _ (h : ArraysWhole set) (s : Sound (clipSetOf set)) where
+    pub retime-refuses : (finite (o .offset) && finite (o .scale)) ≡ false → Retimes set o (record { number = 2; set = set })
+    unfolding movedNumber
+    retime-refuses e = prepares-not (clipSetOf set) (retimeStageTimes o (clipSetOf set)) _ 2 (movedNumber (clipSetOf set) o) (rw e) (λ z. omega arith) s (record { number = refl; set = refl; held = h })
 
-    pub retime-identity : ArraysWhole set → isIdentity o ≡ true → Retimes set o (record { number = 0; set = set })
-    retime-identity h e = record {
-      number = sym (sound-settles (clipSetOf set) s) ∙ ap settleNumber (sym (unmoved e)) ∙ number-is;
-      moved = λ z. sym (unmoved e);
-      sound = λ z. s;
-      held = h;
-    }
+    module _ (p : (finite (o .offset) && finite (o .scale)) ≡ true) where
+      -- the default's mark is sound, so a moved set's number is the retiming's
+      number-is : settleNumber (retimeStageTimes o (clipSetOf set)) ≡ movedNumber (clipSetOf set) o
+      unfolding movedNumber settleNumber
+      number-is = rw (p, default-kept, sound-mark (clipSetOf set) s)
 
-    pub retime-settles : (r : Prepared) → Fits (o .scale) → isIdentity o ≡ false → Stores (movedAndSorted o (clipSetOf set)) r → Retimes set o r
-    retime-settles r f e t = record {
-      number = n;
-      moved = λ z. t .made z ∙ sym (is-moved e);
-      sound = λ z. subst Sound (sym (t .made z ∙ sym (is-moved e))) (retime-sound (clipSetOf set) o s f (sym n ∙ z));
-      held = t .held;
-    }
-      where
-        n : r .number ≡ movedNumber (clipSetOf set) o
-        n = t .number ∙ ap settleNumber (sym (is-moved e)) ∙ number-is
+      pub retime-identity : isIdentity o ≡ true → Retimes set o (record { number = 0; set = set })
+      retime-identity e =
+          prepares (clipSetOf set) (retimeStageTimes o (clipSetOf set)) _ 0 (movedNumber (clipSetOf set) o) (sym (sound-settles (clipSetOf set) s) ∙ ap settleNumber (sym (unmoved e)) ∙ number-is) s
+          (λ z. subst Sound (sym (unmoved e)) s)
+          (record { number = refl; set = sym (unmoved e); held = h })
+
+      pub retime-settles : (r : Prepared) → Fits (o .scale) → isIdentity o ≡ false → Stores (clipSetOf set) (movedAndSorted o (clipSetOf set)) r → Retimes set o r
+      retime-settles r f e t =
+          prepares (clipSetOf set) (retimeStageTimes o (clipSetOf set)) r (settleNumber (retimeStageTimes o (clipSetOf set))) (movedNumber (clipSetOf set) o) number-is s (retime-sound (clipSetOf set) o s f)
+          (subst (λ (w : Definitions.ClipSet). Stores (clipSetOf set) w r) (sym (is-moved e)) t)

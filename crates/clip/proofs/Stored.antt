@@ -1,6 +1,6 @@
 -- The end of every way to a set: the lists' number is the set's, and the packed lists are the set. Assumes nothing.
 use Prim.Native.Nat.{ℕ}
-use mathlib.Core.Path.{_≡_, sym, _∙_}
+use mathlib.Core.Path.{_≡_, refl}
 use mathlib.Core.List.{List}
 use lib.Ieee.{Float}
 use Rattle.definitions.specs.declared.Missing.{Missing}
@@ -12,25 +12,22 @@ use Rattle.laws.proofs.cell.Lent.{active-times, knot-times}
 use Rattle.clip.specs.declared.storage.Active.{Active}
 use Rattle.clip.specs.declared.storage.Knots.{Knots}
 use Rattle.clip.specs.declared.storage.Blocks.{Blocks}
-use Rattle.clip.specs.declared.Prepared.{Prepared}
 use Rattle.clip.specs.Holding.{Holds}
-use Rattle.clip.specs.Storing.{Fitting, settleNumber, listsNumber, Refuses, Stores}
+use Rattle.clip.specs.Preparing.{HandsBack}
+use Rattle.clip.specs.Storing.{Fitting, settleNumber, listsNumber}
 
-pub settle-refuses : (set : Definitions.ClipSet) (n : ℕ) (r : Prepared) → n ≡ settleNumber set → (n ≡ 0 → ⊥) → Refuses n r → Stores set r
-settle-refuses set n r e h f = record { number = f .number ∙ e; made = λ z. absurd (h (sym (f .number) ∙ z)); held = f .held }
-
-module _ (clips : ℕ) (times : List Float) (numbers : List ℕ) (xs ys blocks : List Float) (m : Missing) (f : Fitting times numbers xs ys blocks) where
-  pub lists-number-is : listsNumber times xs blocks (m .default) ≡ settleNumber (setOf clips times numbers xs ys blocks m)
+module _ (clips : ℕ) (times : List Float) (numbers : List ℕ) (xs ys blocks : List Float) (m : Missing) where
+  pub lists-number-is : Fitting times numbers xs ys blocks → listsNumber times xs blocks (m .default) ≡ settleNumber (setOf clips times numbers xs ys blocks m)
   unfolding setOf settleNumber listsNumber beyondLimits equalStarts equalKnots
-  lists-number-is = rw (active-times times numbers (f .starts), knot-times xs ys (f .knots))
+  lists-number-is f = rw (active-times times numbers (f .starts), knot-times xs ys (f .knots))
 
-  pub settle-makes : (a : Active) (k : Knots) (b : Blocks) → Holds maxActive (a .items) (a .count) (activeOf times numbers) → Holds maxKnots (k .items) (k .count) (knotsOf xs ys)
-      → Holds maxBlocks (b .items) (b .count) blocks → 0 ≡ settleNumber (setOf clips times numbers xs ys blocks m)
-      → Stores (setOf clips times numbers xs ys blocks m) (record { number = 0; set = record { clips = clips; active = a; knots = k; blocks = b; default = m .default; interpolate = m .interpolate } })
+  pub packed-is : (a : Active) (k : Knots) (b : Blocks) → Holds maxActive (a .items) (a .count) (activeOf times numbers) → Holds maxKnots (k .items) (k .count) (knotsOf xs ys)
+      → Holds maxBlocks (b .items) (b .count) blocks
+      → HandsBack 0 (setOf clips times numbers xs ys blocks m) (record { number = 0; set = record { clips = clips; active = a; knots = k; blocks = b; default = m .default; interpolate = m .interpolate } })
   unfolding setOf
-  settle-makes a k b p q r e = record {
-    number = e;
-    made = λ z. rw (p .list, q .list, r .list);
+  packed-is a k b p q r = record {
+    number = refl;
+    set = rw (p .list, q .list, r .list);
     held = record { active = p .room; knots = q .room; blocks = r .room };
   }
 

@@ -68,6 +68,8 @@ pub record AllRoom (p : Scratch) : Type 0 where
   pub ys : length (p .ys) ≡ maxKnots
   pub blocks : length (p .blocks) ≡ maxBlocks
 
+-- The set beside a refusal where none was handed in: "A refusal carries its number alone", so it has no clip and nothing listed, no default ("2 none",
+-- its slot 0.0 as that "of an absent head") and the flag off. "No starts is legal: the value is then absent and the active clip none."
 abbrev pub emptySet : Definitions.ClipSet
 emptySet = record { clips = 0; active = []; knots = []; blocks = []; default = record { mark = 2; value = 0·0 }; interpolateMissing = false }
 

@@ -6,13 +6,16 @@ use mathlib.Core.List.{List}
 use lib.ListN.{length}
 use lib.Ieee.{Float, lt}
 use Rattle.gf.specs.Doubles.{0·0}
+use Rattle.definitions.specs.declared.Knot.{Knot}
 use Rattle.definitions.specs.declared.LayerOffset.{LayerOffset}
+use Rattle.definitions.specs.declared.Start.{Start}
 use Rattle.definitions.specs.ClipSet as Definitions
+use Rattle.definitions.specs.ClipSet.{sortActive, sortKnots}
 use Rattle.definitions.specs.Retime.{moved, sorted, retimeStageTimes, movedNumber}
-use Rattle.laws.specs.set.Sound.{Sound}
 use Rattle.clip.specs.declared.ClipSet.{ClipSet}
 use Rattle.clip.specs.declared.Prepared.{Prepared}
-use Rattle.clip.specs.Holding.{ArraysWhole, clipSetOf}
+use Rattle.clip.specs.Holding.{clipSetOf}
+use Rattle.clip.specs.Preparing.{Prepares}
 
 -- lists as long as the set's
 pub record RoomForAll (set : ClipSet) (ts : List Float) (ns : List ℕ) (us vs bs : List Float) : Type 0 where
@@ -22,12 +25,17 @@ pub record RoomForAll (set : ClipSet) (ts : List Float) (ns : List ℕ) (us vs b
   pub ys : length vs ≡ set .knots .count
   pub blocks : length bs ≡ set .blocks .count
 
+-- "with a negative scale both lists are sorted again, stably"
+abbrev pub activeTurned : Float → List Start → List Start
+activeTurned scale active = cond (lt scale 0·0) (sortActive active) active
+
+abbrev pub knotsTurned : Float → List Knot → List Knot
+knotsTurned scale knots = cond (lt scale 0·0) (sortKnots knots) knots
+
 -- a retiming that is not the identity
 unfoldable pub movedAndSorted : LayerOffset → Definitions.ClipSet → Definitions.ClipSet
 movedAndSorted o set = cond (lt (o .scale) 0·0) (sorted (moved o set)) (moved o set)
 
-pub record Retimes (set : ClipSet) (o : LayerOffset) (r : Prepared) : Type 0 where
-  pub number : r .number ≡ movedNumber (clipSetOf set) o
-  pub moved : r .number ≡ 0 → clipSetOf (r .set) ≡ retimeStageTimes o (clipSetOf set)
-  pub sound : r .number ≡ 0 → Sound (clipSetOf (r .set))
-  pub held : ArraysWhole (r .set)
+-- the moved set, or the set that went in
+abbrev pub Retimes : ClipSet → LayerOffset → Prepared → Type 0
+Retimes set o r = Prepares (movedNumber (clipSetOf set) o) (clipSetOf set) (retimeStageTimes o (clipSetOf set)) r

@@ -11,7 +11,7 @@ use Rattle.definitions.specs.Doubles.{twoEqual, threeEqual}
 use Rattle.definitions.specs.ClipSet as Definitions
 use Rattle.definitions.specs.ClipSet.{maxActive, maxKnots, maxBlocks, anyUnstorable, beyondLimits, equalStarts, equalKnots, badDefaultMark}
 use Rattle.clip.specs.declared.Prepared.{Prepared}
-use Rattle.clip.specs.Holding.{ArraysWhole, clipSetOf}
+use Rattle.clip.specs.Preparing.{HandsBack, preparedSet}
 
 -- lists that pair, within their limits
 pub record Fitting (times : List Float) (numbers : List ℕ) (xs ys blocks : List Float) : Type 0 where
@@ -38,11 +38,6 @@ listsNumber times xs blocks default =
     9 if badDefaultMark default else
     0
 
-pub record Refuses (n : ℕ) (r : Prepared) : Type 0 where
-  pub number : r .number ≡ n
-  pub held : ArraysWhole (r .set)
-
-pub record Stores (set : Definitions.ClipSet) (r : Prepared) : Type 0 where
-  pub number : r .number ≡ settleNumber set
-  pub made : r .number ≡ 0 → clipSetOf (r .set) ≡ set
-  pub held : ArraysWhole (r .set)
+-- the set, or the one that is kept where its own numbers refuse it
+abbrev pub Stores : (kept made : Definitions.ClipSet) → Prepared → Type 0
+Stores kept made r = HandsBack (settleNumber made) (preparedSet (settleNumber made) kept made) r

@@ -5,6 +5,7 @@ pub mod storing;
 
 use definitions::Default;
 use definitions::LayerOffset;
+use definitions::refusal;
 use storage::Active;
 use storage::Blocks;
 use storage::Knots;
@@ -22,7 +23,8 @@ pub struct ClipSet {
     pub interpolate: bool,
 }
 
-// What an acceptance or a retiming replies: the number that refuses it and any set, or 0 and the set.
+// What a call that prepares a set replies: 0 and the set, or the number that refuses it and the set that there was before: an
+// acceptance has none and hands back the empty one, a retiming hands back the set that went in.
 #[repr(C)]
 pub struct Prepared {
     pub number: u8,
@@ -51,16 +53,16 @@ pub fn empty() -> ClipSet
 }
 
 impl ClipSet {
-    // The set with its stage times moved, unless 2, 4 or 5 refuses that.
+    // The set with its stage times moved, or, where 2, 4 or 5 refuses that, as it went in.
     pub fn retime_stage_times(self, o: LayerOffset) -> Prepared
         requires { ⌜ ArraysWhole self ⌝ ∗ ⌜ Sound (clipSetOf self) ⌝ }
         ensures { λ r. ⌜ Retimes self o r ⌝ }
     {
-        if !gf::is_finite(o.offset) {
-            return storing::refused(2);
-        }
-        if !gf::is_finite(o.scale) {
-            return storing::refused(2);
+        if !retiming::is_finite(o) {
+            return Prepared {
+                number: refusal::UNSTORABLE,
+                set: self,
+            };
         }
         if retiming::is_identity(o) {
             return Prepared {

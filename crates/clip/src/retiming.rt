@@ -6,12 +6,26 @@ use crate::storing;
 use definitions::LayerOffset;
 use definitions::Missing;
 ghost use mathlib.Core.Path.{_≡_};
+ghost use mathlib.Core.Bool.{_&&_};
+ghost use Prim.Native.Nat.{_≤_};
+ghost use lib.ListN.{length};
+ghost use lib.Ieee.Scale.{finite};
 ghost use Rattle.definitions.specs.Retime.{isIdentity, moved};
-ghost use Rattle.definitions.specs.Moments.{after};
-ghost use Rattle.laws.specs.cell.Lent.{setOf};
+ghost use Rattle.definitions.specs.Moments.{was, after};
+ghost use Rattle.laws.specs.cell.Lent.{activeOf, knotsOf, setOf};
 ghost use Rattle.clip.specs.Holding.{ArraysWhole, clipSetOf, manifestOf};
 ghost use Rattle.clip.specs.Storing.{Stores};
-ghost use Rattle.clip.specs.Retiming.{RoomForAll, movedAndSorted};
+ghost use Rattle.clip.specs.Retiming.{RoomForAll, activeTurned, knotsTurned, movedAndSorted};
+
+// 2: both of a retiming's numbers are finite.
+pub fn is_finite(o: LayerOffset) -> bool
+    ensures { λ r. ⌜ r ≡ (finite (o .offset) && finite (o .scale)) ⌝ }
+{
+    if gf::is_finite(o.offset) {
+        return gf::is_finite(o.scale);
+    }
+    false
+}
 
 // Tested, since to apply it would make 0.0 of -0.0.
 pub fn is_identity(o: LayerOffset) -> bool
@@ -48,6 +62,19 @@ fn unpack_moved(
 }
 
 // Only a negative scale turns the order.
+fn sort_turned(scale: f64, times: &mut [f64], numbers: &mut [u64], xs: &mut [f64], ys: &mut [f64])
+    requires { ⌜ (length (now times) ≡ length (now numbers)) × (length (now times) ≤ 512) ⌝ }
+    requires { ⌜ (length (now xs) ≡ length (now ys)) × (length (now xs) ≤ 512) ⌝ }
+    ensures { λ _. ⌜ activeOf (after times) (after numbers) ≡ activeTurned scale (activeOf (was times) (was numbers)) ⌝ }
+    ensures { λ _. ⌜ knotsOf (after xs) (after ys) ≡ knotsTurned scale (knotsOf (was xs) (was ys)) ⌝ }
+{
+    if scale < 0.0 {
+        lists::sorting::sort_starts(times, numbers);
+        lists::sorting::sort_knots(xs, ys);
+    }
+}
+
+// The moved set, or the one that went in.
 pub fn retime_lists(
     set: ClipSet,
     o: LayerOffset,
@@ -58,17 +85,18 @@ pub fn retime_lists(
     blocks: &mut [f64],
 ) -> Prepared
     requires { ⌜ ArraysWhole set ⌝ ∗ ⌜ RoomForAll set (now times) (now numbers) (now xs) (now ys) (now blocks) ⌝ }
-    ensures { λ r. ⌜ Stores (movedAndSorted o (clipSetOf set)) r ⌝ }
+    ensures { λ r. ⌜ Stores (clipSetOf set) (movedAndSorted o (clipSetOf set)) r ⌝ }
 {
     unpack_moved(set, o, times, numbers, xs, ys, blocks);
-    let clips = set.clips;
+    sort_turned(o.scale, times, numbers, xs, ys);
     let default = set.default;
+    let number = storing::lists_number(times, xs, blocks, default);
+    if number != 0 {
+        return Prepared { number, set };
+    }
     let manifest = Missing {
         default,
         interpolate: set.interpolate,
     };
-    if o.scale < 0.0 {
-        return storing::sort_check_and_store(clips, times, numbers, xs, ys, blocks, manifest);
-    }
-    storing::check_and_store(clips, times, numbers, xs, ys, blocks, manifest)
+    storing::store(set.clips, times, numbers, xs, ys, blocks, manifest)
 }

@@ -10,11 +10,13 @@ ghost use Rattle.definitions.specs.ClipSet.{nanDefault};
 ghost use Rattle.definitions.specs.Retime.{sorted};
 ghost use Rattle.definitions.specs.Moments.{was};
 ghost use Rattle.laws.specs.cell.Lent.{setOf};
-ghost use Rattle.clip.specs.Storing.{Fitting, Stores, Refuses, listsNumber};
+ghost use Rattle.clip.specs.Holding.{emptySet};
+ghost use Rattle.clip.specs.Preparing.{HandsBack};
+ghost use Rattle.clip.specs.Storing.{Fitting, Stores, listsNumber};
 
 // A refusal carries its number alone; the set beside it is empty.
 pub fn refused(number: u8) -> Prepared
-    ensures { λ r. ⌜ Refuses number r ⌝ }
+    ensures { λ r. ⌜ HandsBack number emptySet r ⌝ }
 {
     let set = crate::empty();
     Prepared { number, set }
@@ -30,7 +32,7 @@ pub fn is_nan_default(default: Default) -> bool
     false
 }
 
-fn lists_number(times: &[f64], xs: &[f64], blocks: &[f64], default: Default) -> u8
+pub fn lists_number(times: &[f64], xs: &[f64], blocks: &[f64], default: Default) -> u8
     ensures { λ r. ⌜ r ≡ listsNumber (was times) (was xs) (was blocks) default ⌝ }
 {
     if lists::any_unstorable(times) {
@@ -54,7 +56,8 @@ fn lists_number(times: &[f64], xs: &[f64], blocks: &[f64], default: Default) -> 
     0
 }
 
-pub fn check_and_store(
+// Lists that no number refuses, as a set.
+pub fn store(
     clips: u64,
     times: &[f64],
     numbers: &[u64],
@@ -64,13 +67,9 @@ pub fn check_and_store(
     manifest: Missing,
 ) -> Prepared
     requires { ⌜ Fitting (now times) (now numbers) (now xs) (now ys) (now blocks) ⌝ }
-    ensures { λ r. ⌜ Stores (setOf clips (was times) (was numbers) (was xs) (was ys) (was blocks) manifest) r ⌝ }
+    ensures { λ r. ⌜ HandsBack 0 (setOf clips (was times) (was numbers) (was xs) (was ys) (was blocks) manifest) r ⌝ }
 {
     let default = manifest.default;
-    let number = lists_number(times, xs, blocks, default);
-    if number != 0 {
-        return refused(number);
-    }
     let active = storage::pack_active(times, numbers);
     let knots = storage::pack_knots(xs, ys);
     let blocks = storage::pack_blocks(blocks);
@@ -85,6 +84,25 @@ pub fn check_and_store(
     Prepared { number: 0, set }
 }
 
+fn check_and_store(
+    clips: u64,
+    times: &[f64],
+    numbers: &[u64],
+    xs: &[f64],
+    ys: &[f64],
+    blocks: &[f64],
+    manifest: Missing,
+) -> Prepared
+    requires { ⌜ Fitting (now times) (now numbers) (now xs) (now ys) (now blocks) ⌝ }
+    ensures { λ r. ⌜ Stores emptySet (setOf clips (was times) (was numbers) (was xs) (was ys) (was blocks) manifest) r ⌝ }
+{
+    let number = lists_number(times, xs, blocks, manifest.default);
+    if number != 0 {
+        return refused(number);
+    }
+    store(clips, times, numbers, xs, ys, blocks, manifest)
+}
+
 // Checks and stores lists in any order.
 pub fn sort_check_and_store(
     clips: u64,
@@ -96,7 +114,7 @@ pub fn sort_check_and_store(
     manifest: Missing,
 ) -> Prepared
     requires { ⌜ Fitting (now times) (now numbers) (now xs) (now ys) (now blocks) ⌝ }
-    ensures { λ r. ⌜ Stores (sorted (setOf clips (was times) (was numbers) (was xs) (was ys) (was blocks) manifest)) r ⌝ }
+    ensures { λ r. ⌜ Stores emptySet (sorted (setOf clips (was times) (was numbers) (was xs) (was ys) (was blocks) manifest)) r ⌝ }
 {
     lists::sorting::sort_starts(times, numbers);
     lists::sorting::sort_knots(xs, ys);

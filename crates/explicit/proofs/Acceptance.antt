@@ -1,6 +1,6 @@
 -- What each way out of an explicit acceptance shows. Assumes nothing.
 use Prim.Native.Nat.{ℕ}
-use mathlib.Core.Path.{_≡_, refl, sym, ap, subst, _∙_}
+use mathlib.Core.Path.{_≡_, refl, ap, _∙_}
 use mathlib.Core.Bool.{false}
 use mathlib.Core.List.{List, [], _∷_, map}
 use lib.Dec.{T, lit<}
@@ -16,14 +16,16 @@ use Rattle.definitions.specs.Retime.{sorted}
 use Rattle.laws.proofs.list.Tests.{or-false, passed}
 use Rattle.laws.specs.list.Every.{Every}
 use Rattle.laws.proofs.list.Every.{any-not-every, every-to-map, every-zip-left}
-use Rattle.laws.specs.set.Sound.{Sound}
 use Rattle.laws.proofs.set.Sound.{sorted-times, sorted-xs}
 use Rattle.laws.proofs.set.SoundExplicit.{ExplicitFits, ExplicitLimits, explicit-limits, explicit-sound}
 use Rattle.laws.specs.cell.Lent.{start, setOf}
 use Rattle.clip.specs.declared.Prepared.{Prepared}
-use Rattle.clip.specs.Storing.{settleNumber, Refuses, Stores}
+use Rattle.clip.specs.Holding.{emptySet}
+use Rattle.clip.specs.Preparing.{HandsBack}
+use Rattle.clip.specs.Storing.{settleNumber, Stores}
 use Rattle.explicit.specs.Parsing.{explicitFields, anyNotClip, fieldsNumber, Parses}
 use Rattle.clip.proofs.Laws.{same-number, every-storable}
+use Rattle.clip.proofs.Preparing.{prepares, prepares-not, empty-sound}
 
 -- ---- fields without 1, 2 and 3
 
@@ -85,21 +87,8 @@ fields-first : (f : ExplicitFields) → (fieldsNumber f ≡ 0 → ⊥) → field
 unfolding fieldsNumber explicitNumber
 fields-first f h = same-number 1 (explicit1 f) _ _ h (λ h. same-number 2 (explicit2 f) _ _ h (λ h. same-number 3 (explicit3 f) _ _ h (λ h. absurd (h refl))))
 
-pub parse-refuses : (f : ExplicitFields) (n : ℕ) (r : Prepared) → n ≡ fieldsNumber f → (n ≡ 0 → ⊥) → Refuses n r → Parses f r
-parse-refuses f n r e h q = record {
-  number = q .number ∙ e ∙ fields-first f (λ z. h (e ∙ z));
-  made = λ z. absurd (h (sym (q .number) ∙ z));
-  sound = λ z. absurd (h (sym (q .number) ∙ z));
-  held = q .held;
-}
+pub parse-refuses : (f : ExplicitFields) (n : ℕ) (r : Prepared) → n ≡ fieldsNumber f → (n ≡ 0 → ⊥) → HandsBack n emptySet r → Parses f r
+parse-refuses f n r e h q = prepares-not emptySet (explicitSet f) r n (explicitNumber f) (e ∙ fields-first f (λ z. h (e ∙ z))) h empty-sound q
 
-pub parse-settles : (f : ExplicitFields) (r : Prepared) → ExplicitFits f → fieldsNumber f ≡ 0 → Stores (explicitSet f) r → Parses f r
-parse-settles f r h z s = record {
-  number = n;
-  made = s .made;
-  sound = λ e. subst Sound (sym (s .made e)) (explicit-sound f h (sym n ∙ e));
-  held = s .held;
-}
-  where
-    n : r .number ≡ explicitNumber f
-    n = s .number ∙ number-is f (fields-pass f z)
+pub parse-settles : (f : ExplicitFields) (r : Prepared) → ExplicitFits f → fieldsNumber f ≡ 0 → Stores emptySet (explicitSet f) r → Parses f r
+parse-settles f r h z s = prepares emptySet (explicitSet f) r (settleNumber (explicitSet f)) (explicitNumber f) (number-is f (fields-pass f z)) empty-sound (explicit-sound f h) s

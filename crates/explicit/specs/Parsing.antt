@@ -11,9 +11,9 @@ use Rattle.definitions.specs.declared.Missing.{Missing}
 use Rattle.definitions.specs.Lists.{_if_else_, any}
 use Rattle.definitions.specs.ClipSet.{maxClips, maxActive, maxKnots, maxBlocks}
 use Rattle.definitions.specs.Explicit.{ExplicitFields, explicitSet, explicit1, explicit2, explicit3, explicitNumber}
-use Rattle.laws.specs.set.Sound.{Sound}
 use Rattle.clip.specs.declared.Prepared.{Prepared}
-use Rattle.clip.specs.Holding.{ArraysWhole, clipSetOf}
+use Rattle.clip.specs.Holding.{emptySet}
+use Rattle.clip.specs.Preparing.{Prepares}
 
 abbrev pub explicitFields : ℕ → List Float → List Float → List Float → List Float → List Float → Missing → ExplicitFields
 explicitFields clips starts numbers xs ys blocks m = record {
@@ -61,8 +61,6 @@ pub record Lent (starts xs times : List Float) (indices : List ℕ) (us vs : Lis
   pub for-xs : length us ≡ length xs
   pub for-ys : length vs ≡ length xs
 
-pub record Parses (f : ExplicitFields) (r : Prepared) : Type 0 where
-  pub number : r .number ≡ explicitNumber f
-  pub made : r .number ≡ 0 → clipSetOf (r .set) ≡ explicitSet f
-  pub sound : r .number ≡ 0 → Sound (clipSetOf (r .set))
-  pub held : ArraysWhole (r .set)
+-- the set of the fields, or the empty one
+abbrev pub Parses : ExplicitFields → Prepared → Type 0
+Parses f r = Prepares (explicitNumber f) emptySet (explicitSet f) r

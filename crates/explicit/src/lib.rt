@@ -11,7 +11,7 @@ ghost use Rattle.definitions.specs.Moments.{was};
 ghost use Rattle.clip.specs.Holding.{manifest};
 ghost use Rattle.explicit.specs.Parsing.{explicitFields, Parses};
 
-// The set of the fields, unless 1, 2, 3, 4, 5 or 9 refuses it.
+// The set of the fields, or the empty one, where 1, 2, 3, 4, 5 or 9 refuses it.
 pub fn parse_set(
     clips: u64,
     starts: &[f64],

@@ -9,6 +9,7 @@ ghost use Rattle.gf.specs.Doubles.{truncated};
 ghost use Rattle.definitions.specs.Explicit.{explicitSet};
 ghost use Rattle.definitions.specs.Moments.{was, after};
 ghost use Rattle.laws.specs.list.Every.{Every};
+ghost use Rattle.clip.specs.Holding.{emptySet};
 ghost use Rattle.clip.specs.Storing.{Stores};
 ghost use Rattle.explicit.specs.Parsing.{Lent, Indexed, explicitFields, fieldsNumber};
 
@@ -39,7 +40,7 @@ pub fn parse_lists(
     vs: &mut [f64],
 ) -> Prepared
     requires { ⌜ fieldsNumber (explicitFields clips (now starts) (now numbers) (now xs) (now ys) (now blocks) manifest) ≡ 0 ⌝ ∗ ⌜ Lent (now starts) (now xs) (now times) (now indices) (now us) (now vs) ⌝ }
-    ensures { λ r. ⌜ Stores (explicitSet (explicitFields clips (was starts) (was numbers) (was xs) (was ys) (was blocks) manifest)) r ⌝ }
+    ensures { λ r. ⌜ Stores emptySet (explicitSet (explicitFields clips (was starts) (was numbers) (was xs) (was ys) (was blocks) manifest)) r ⌝ }
 {
     lists::writing::copy(starts, times);
     copy_clips(numbers, indices);

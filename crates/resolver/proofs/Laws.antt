@@ -41,7 +41,8 @@ use Rattle.clip.specs.declared.Prepared.{Prepared}
 use Rattle.template.specs.Expanding as expanding
 use Rattle.explicit.specs.Parsing as parsing
 use Rattle.clip.specs.Retiming as sets
-use Rattle.clip.specs.Holding.{Room, clipSetOf}
+use Rattle.clip.specs.Holding.{Room, clipSetOf, emptySet}
+use Rattle.clip.proofs.Preparing.{made-is}
 use Rattle.resolver.specs.declared.Resolver.{Resolver}
 use Rattle.resolver.specs.declared.Accepted.{Accepted}
 use Rattle.standing.specs.declared.StandingSet.{StandingSet}
@@ -72,7 +73,7 @@ installs d p b set i e q = record {
   number = sym e;
   kept = λ n. absurd (n refl);
   after = ap (λ (x : ClipSet). standing (record { set = x; retimed = b })) (q .is) ∙ accepted-granted (p .number) (model d) (standing (record { set = clipSetOf (p .set); retimed = b })) e;
-  made = record { whole = q .whole; sound = subst Sound (sym (q .is)) (i .sound e) };
+  made = record { whole = q .whole; sound = subst Sound (sym (q .is)) (i .sound) };
 }
 
 -- ---- acceptance
@@ -80,18 +81,20 @@ installs d p b set i e q = record {
 pub accepts : (d : Resolver) (f : ExplicitFields) (p : Prepared) (r : Accepted) → parsing.Parses f p → Installs d p false r → Accepts d f r
 unfolding step
 accepts d f p r q i = record {
-  number = i .number ∙ q .number;
+  number = i .number ∙ q .reply .number;
   kept = i .kept;
-  after = i .after ∙ accepted-same (p .number) (explicitNumber f) (model d) (standing (asAccepted (clipSetOf (p .set)))) (standing (asAccepted (explicitSet f))) (q .number) (λ e. ap (λ (x : ClipSet). standing (asAccepted x)) (q .made e));
+  after = i .after ∙ accepted-same (p .number) (explicitNumber f) (model d) (standing (asAccepted (clipSetOf (p .set)))) (standing (asAccepted (explicitSet f))) (q .reply .number)
+      (λ e. ap (λ (x : ClipSet). standing (asAccepted x)) (made-is emptySet (explicitSet f) p (explicitNumber f) q e));
   made = i .made;
 }
 
 pub expands : (d : Resolver) (f : TemplateFields) (p : Prepared) (r : Accepted) → expanding.Expands f p → Installs d p false r → Expands d f r
 unfolding step
 expands d f p r q i = record {
-  number = i .number ∙ q .number;
+  number = i .number ∙ q .reply .number;
   kept = i .kept;
-  after = i .after ∙ accepted-same (p .number) (templateNumber f) (model d) (standing (asAccepted (clipSetOf (p .set)))) (standing (asAccepted (templateSet f))) (q .number) (λ e. ap (λ (x : ClipSet). standing (asAccepted x)) (q .made e));
+  after = i .after ∙ accepted-same (p .number) (templateNumber f) (model d) (standing (asAccepted (clipSetOf (p .set)))) (standing (asAccepted (templateSet f))) (q .reply .number)
+      (λ e. ap (λ (x : ClipSet). standing (asAccepted x)) (made-is emptySet (templateSet f) p (templateNumber f) q e));
   made = i .made;
 }
 
@@ -140,12 +143,12 @@ retimes-21 d o m e f = refused-retime d o 21 m (marked-number d o true e f) (λ 
 pub retimes : (d : Resolver) (o : LayerOffset) (set : clip.ClipSet) (p : Prepared) (r : Accepted) → d .stands ≡ true → d .retimed ≡ false → Packed (setIn (d .set)) set → sets.Retimes set o p → Installs d p true r → Retimes d o r
 unfolding step
 retimes d o set p r e f k q i =
-    let n : p .number ≡ retimeNumber (model d) o = q .number ∙ ap (λ (x : ClipSet). movedNumber x o) (k .is) ∙ marked-number d o false e f in
+    let n : p .number ≡ retimeNumber (model d) o = q .reply .number ∙ ap (λ (x : ClipSet). movedNumber x o) (k .is) ∙ marked-number d o false e f in
     record {
       number = i .number ∙ n;
       kept = i .kept;
       after = i .after ∙ accepted-same (p .number) (retimeNumber (model d) o) (model d) (standing (asRetimed (clipSetOf (p .set)))) (retimed o (model d)) n
-          (λ z. ap (λ (x : ClipSet). standing (asRetimed x)) (q .moved z ∙ ap (retimeStageTimes o) (k .is)) ∙ sym (ap (retimed o) (stands-as d e)));
+          (λ z. ap (λ (x : ClipSet). standing (asRetimed x)) (made-is (clipSetOf set) (retimeStageTimes o (clipSetOf set)) p (movedNumber (clipSetOf set) o) q z ∙ ap (retimeStageTimes o) (k .is)) ∙ sym (ap (retimed o) (stands-as d e)));
       made = i .made;
     }
 

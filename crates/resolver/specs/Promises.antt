@@ -120,10 +120,10 @@ pub record BakesTrack (d : Resolver) (s : Samples) (before : Outputs) (r : Baked
 
 -- ---- within: a prepared set takes its place, or what stood still stands
 
--- its arrays are whole, and if no number refuses it, it is well-formed
+-- its arrays are whole, and it is well-formed
 pub record Installable (p : Prepared) : Type 0 where
   pub held : ArraysWhole (p .set)
-  pub sound : p .number ≡ 0 → Sound (clipSetOf (p .set))
+  pub sound : Sound (clipSetOf (p .set))
 
 pub record Installs (d : Resolver) (p : Prepared) (retimed : Bool) (r : Accepted) : Type 0 where
   pub number : r .number ≡ p .number

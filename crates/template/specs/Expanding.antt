@@ -14,10 +14,10 @@ use Rattle.definitions.specs.Lists.{_if_else_}
 use Rattle.definitions.specs.ClipSet as Definitions
 use Rattle.definitions.specs.ClipSet.{maxClips, maxBlocks, sortActive, sortKnots}
 use Rattle.definitions.specs.Template.{TemplateFields, promoted, activations, clipKnots, withBounds, offsetNotFinite, offsetBeyond, templateSet, template1, template2, template7, template6, templateNumber}
-use Rattle.laws.specs.set.Sound.{Sound}
 use Rattle.clip.specs.declared.Prepared.{Prepared}
 use Rattle.template.specs.declared.expanding.Promoted.{Promoted}
-use Rattle.clip.specs.Holding.{ArraysWhole, clipSetOf}
+use Rattle.clip.specs.Holding.{emptySet}
+use Rattle.clip.specs.Preparing.{Prepares}
 
 abbrev pub templateFields : List ℕ → TemplateTimes → Bool → List Float → Missing → TemplateFields
 templateFields template x offset blocks m = record {
@@ -95,8 +95,6 @@ expandedSet ts x o blocks m = record {
   interpolateMissing = m .interpolate;
 }
 
-pub record Expands (f : TemplateFields) (r : Prepared) : Type 0 where
-  pub number : r .number ≡ templateNumber f
-  pub made : r .number ≡ 0 → clipSetOf (r .set) ≡ templateSet f
-  pub sound : r .number ≡ 0 → Sound (clipSetOf (r .set))
-  pub held : ArraysWhole (r .set)
+-- the expanded set, or the empty one
+abbrev pub Expands : TemplateFields → Prepared → Type 0
+Expands f r = Prepares (templateNumber f) emptySet (templateSet f) r

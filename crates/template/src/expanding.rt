@@ -11,6 +11,7 @@ ghost use Prim.Native.Nat.{_≤_, _+_};
 ghost use lib.ListN.{length};
 ghost use Rattle.definitions.specs.Template.{stageTime};
 ghost use Rattle.definitions.specs.Moments.{was, after};
+ghost use Rattle.clip.specs.Holding.{emptySet};
 ghost use Rattle.clip.specs.Storing.{Stores};
 ghost use Rattle.template.specs.Expanding.{offsetOf, Promotes, timesOfClips, bounded, knotXs, knotCount, numbered, RoomForLists, expandedSet};
 
@@ -135,7 +136,7 @@ pub fn expand_lists(
     ys: &mut [f64],
 ) -> Prepared
     requires { ⌜ RoomForLists offset (now ts) (now starts) (now numbers) (now xs) (now ys) (now blocks) ⌝ }
-    ensures { λ r. ⌜ Stores (expandedSet (was ts) times (offsetOf times offset) (was blocks) manifest) r ⌝ }
+    ensures { λ r. ⌜ Stores emptySet (expandedSet (was ts) times (offsetOf times offset) (was blocks) manifest) r ⌝ }
 {
     write_starts(ts, times, offset, starts);
     write_numbers(numbers);

@@ -14,7 +14,7 @@ ghost use Rattle.definitions.specs.Moments.{was};
 ghost use Rattle.clip.specs.Holding.{manifest};
 ghost use Rattle.template.specs.Expanding.{templateFields, Expands};
 
-// The set that a template expands to, unless 1, 2, 7, 6, 8, 2, 4, 5 or 9 refuses it. Where `offset` is false the offset is absent, whatever its slot holds.
+// The set that a template expands to, or the empty one, where 1, 2, 7, 6, 8, 2, 4, 5 or 9 refuses it. Where `offset` is false the offset is absent, whatever its slot holds.
 pub fn expand_template(
     template: &[u8],
     times: TemplateTimes,

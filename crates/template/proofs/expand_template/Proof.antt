@@ -11,7 +11,7 @@ use denote.Ref.{now}
 use Rattle.definitions.specs.Template.{TemplateFields, activeOffset}
 use Rattle.laws.proofs.set.SoundTemplate.{TemplateFits}
 use Rattle.clip.specs.Storing.{Stores}
-use Rattle.clip.specs.Holding.{manifest}
+use Rattle.clip.specs.Holding.{emptySet, manifest}
 use Rattle.template.specs.Expanding.{templateFields, templateFieldsNumber, knotCount, expandedSet}
 use Rattle.clip.proofs.Laws.{all-fit, lent}
 use Rattle.template.proofs.Expansion.{few-knots}
@@ -94,7 +94,7 @@ returns-3 c =
     let p = b .before .before .before .before .promote .ensures in
     let r = c .before .before .before .before .expand-lists in
     template-settles f (r .result) (fitting (b .before .before .before .before .before .before .before)) (none (b .before .before .before .before .before)) (omega (arith, p .count, few b))
-    (subst (λ (ts : List Float). Stores (expandedSet ts (s .args .times) (activeOffset f) (now (s .args .blocks)) (manifest (s .args .default) (s .args .interpolate))) (r .result)) (p .list (few b)) (r .ensures))
+    (subst (λ (ts : List Float). Stores emptySet (expandedSet ts (s .args .times) (activeOffset f) (now (s .args .blocks)) (manifest (s .args .default) (s .args .interpolate))) (r .result)) (p .list (few b)) (r .ensures))
 
 pub expand-template-spec : {M : Type 1} → statement M
 expand-template-spec =

@@ -1,6 +1,6 @@
 -- `clip::ClipSet::retime_stage_times` meets its contract: 2 for its numbers, the identity, or the moved lists. Assumes nothing.
 use mathlib.Core.Path.{_≡_, sym, subst, _∙_}
-use mathlib.Core.Bool.{true}
+use mathlib.Core.Bool.{true, _&&_}
 use native.Mathlib.Omega.{arith}
 use borrow.Author.Needs.{needs}
 use lib.Dec.{T}
@@ -12,11 +12,8 @@ use Rattle.clip.proofs.Retimed.{retime-refuses, retime-identity, retime
 use Rattle.clip.proofs.ClipSet.retime_stage_times.Statement.{statement}
 use Rattle.clip.proofs.ClipSet.retime_stage_times.Tie as tie
 
-offset-finite : (c : tie.Else1) → finite (c .before .before .args .o .offset) ≡ true
-offset-finite c = holding _ _ (c .before .is-finite .ensures) (c .if1 .left)
-
-scale-finite : (c : tie.Else2) → finite (c .before .before .before .before .args .o .scale) ≡ true
-scale-finite c = holding _ _ (c .before .is-finite2 .ensures) (c .if2 .left)
+both-finite : (c : tie.Else1) → (finite (c .before .before .args .o .offset) && finite (c .before .before .args .o .scale)) ≡ true
+both-finite c = holding _ _ (c .before .is-finite .ensures) (c .if1 .left)
 
 -- what owning an `f64` tells: the format holds it
 fitting : (c : tie.Start) → Fits (c .args .o .scale)
@@ -24,18 +21,13 @@ fitting c = subst T (sym (c .good .1 .0 .1 .1 .1 .0 .1)) tt
 
 returns : tie.Need-returns
 returns c =
-    let s = c .before .before .before in
-    retime-refuses (s .args .self) (s .args .o) (c .refused .result) (rw (untrue _ _ (c .before .before .is-finite .ensures) (c .before .if1 .taken))) (c .refused .ensures)
+    let s = c .before .before in
+    retime-refuses (s .args .self) (s .args .o) (s .pre .0) (s .pre .1) (untrue _ _ (c .before .is-finite .ensures) (c .if1 .taken))
 
 returns-2 : tie.Need-returns-2
 returns-2 c =
-    let s = c .before .before .before .before .before in
-    retime-refuses (s .args .self) (s .args .o) (c .refused2 .result) (rw (offset-finite (c .before .before .before), untrue _ _ (c .before .before .is-finite2 .ensures) (c .before .if2 .taken))) (c .refused2 .ensures)
-
-returns-3 : tie.Need-returns-3
-returns-3 c =
-    let s = c .before .before .before .before .before .before in
-    retime-identity (s .args .self) (s .args .o) (s .pre .1) (offset-finite (c .before .before .before .before)) (scale-finite (c .before .before)) (s .pre .0) (sym (c .before .is-identity .ensures) ∙ c .if3 .taken)
+    let s = c .before .before .before .before in
+    retime-identity (s .args .self) (s .args .o) (s .pre .0) (s .pre .1) (both-finite (c .before .before)) (sym (c .before .is-identity .ensures) ∙ c .if2 .taken)
 
 slice-aggregate-retime-lists : tie.Need-slice-aggregate-retime-lists
 slice-aggregate-retime-lists c = simp length-take (omega arith)
@@ -54,7 +46,7 @@ slice-aggregate-retime-lists-5 c = simp length-take (omega arith)
 
 retime-lists-requires : tie.Need-retime-lists-requires
 retime-lists-requires c κs =
-    let s = c .before .before .before .before .before .before .before .before .before .before .before .before .before .before .before .before .before .before .before .before in
+    let s = c .before .before .before .before .before .before .before .before .before .before .before .before .before .before .before .before .before .before in
     let a = s .args .self in
     let b = c .before .before .before .before .before .before .before .before .before .before .blank in (
       s .pre .0,
@@ -67,24 +59,20 @@ retime-lists-requires c κs =
       },
     )
 
-returns-4 : tie.Need-returns-4
-returns-4 c =
-    let s = c .before .before .before .before .before .before .before .before .before .before .before .before .before .before .before .before .before .before .before .before .before .before .before .before .before .before in
+returns-3 : tie.Need-returns-3
+returns-3 c =
     let i = c .before .before .before .before .before .before .before .before .before .before .before .before .before .before .before .before .before .before .before .before in
-    retime-settles (s .args .self) (s .args .o) (s .pre .1) (offset-finite (i .before .before .before .before)) (scale-finite (i .before .before)) (c .before .before .before .before .before .retime-lists .result) (fitting s) (sym (i .before .is-identity .ensures) ∙ i .if3 .left) (c .before .before .before .before .before .retime-lists .ensures)
+    let s = i .before .before .before .before in
+    retime-settles (s .args .self) (s .args .o) (s .pre .0) (s .pre .1) (both-finite (i .before .before)) (c .before .before .before .before .before .retime-lists .result) (fitting s) (sym (i .before .is-identity .ensures) ∙ i .if2 .left) (c .before .before .before .before .before .retime-lists .ensures)
 
 pub retime-stage-times-spec : {M : Type 1} → statement M
 retime-stage-times-spec =
     tie.close
     (tie.spec
     (λ c κs. search needs)
-    (λ c κs. search needs)
     returns
     (λ c κs. search needs)
-    (λ c κs. search needs)
     returns-2
-    (λ c κs. search needs)
-    returns-3
     (λ c κs. search needs)
     (λ c. search needs)
     slice-aggregate-retime-lists
@@ -97,4 +85,4 @@ retime-stage-times-spec =
     (λ c. search needs)
     slice-aggregate-retime-lists-5
     retime-lists-requires
-    returns-4)
+    returns-3)

@@ -6,6 +6,7 @@ use denote.Ref.{now}
 use Rattle.definitions.specs.ClipSet as Definitions
 use Rattle.definitions.specs.Explicit.{ExplicitFields}
 use Rattle.laws.proofs.set.SoundExplicit.{ExplicitLimits}
+use Rattle.clip.specs.Holding.{emptySet}
 use Rattle.clip.specs.Storing.{Stores}
 use Rattle.explicit.specs.Parsing.{explicitFields}
 use Rattle.explicit.proofs.Indices.{clips-indexed}
@@ -78,7 +79,7 @@ returns c =
     let t = starts-copied (numbers-copied c) .copy in
     let r = stored c .sort-check-and-store in
     let a = entry (starts-copied (numbers-copied c)) .args in
-    subst (λ (set : Definitions.ClipSet). Stores set (r .result))
+    subst (λ (set : Definitions.ClipSet). Stores emptySet set (r .result))
     (explicit-is (a .clips) (now (a .starts)) (t .last .1 .0) (now (a .numbers)) (i .last .1 .0) (now (a .xs)) (x .last .1 .0) (now (a .ys)) (y .last .1 .0) (now (a .blocks)) (a .manifest) (t .ensures) (i .ensures) (x .ensures) (y .ensures))
     (r .ensures)
 

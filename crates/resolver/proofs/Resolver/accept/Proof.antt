@@ -7,7 +7,7 @@ use Rattle.resolver.proofs.Resolver.accept.Tie as tie
 install-requires : tie.Need-install-requires
 install-requires c κs =
     let e = c .parse-set .ensures in
-    (c .before .before .before .before .before .before .pre, record { held = e .held; sound = e .sound })
+    (c .before .before .before .before .before .before .pre, record { held = e .reply .held; sound = e .sound })
 
 returns : tie.Need-returns
 returns c = accepts _ _ _ _ (c .before .parse-set .ensures) (c .install .ensures)

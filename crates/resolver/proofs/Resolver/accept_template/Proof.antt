@@ -7,7 +7,7 @@ use Rattle.resolver.proofs.Resolver.accept_template.Tie as tie
 install-requires : tie.Need-install-requires
 install-requires c κs =
     let e = c .expand-template .ensures in
-    (c .before .before .before .pre, record { held = e .held; sound = e .sound })
+    (c .before .before .before .pre, record { held = e .reply .held; sound = e .sound })
 
 returns : tie.Need-returns
 returns c = expands _ _ _ _ (c .before .expand-template .ensures) (c .install .ensures)

@@ -29,7 +29,7 @@ retime-stage-times-requires c κs =
 install-requires : tie.Need-install-requires
 install-requires c κs =
     let e = c .retime-stage-times .ensures in
-    (passed (c .before) .before .before .pre, record { held = e .held; sound = e .sound })
+    (passed (c .before) .before .before .pre, record { held = e .reply .held; sound = e .sound })
 
 returns-3 : tie.Need-returns-3
 returns-3 c =

@@ -5,6 +5,7 @@ use borrow.Author.Needs.{needs}
 use lib.ListN.{length}
 use denote.Ref.{now}
 use Rattle.definitions.specs.ClipSet as Definitions
+use Rattle.clip.specs.Holding.{emptySet}
 use Rattle.clip.specs.Storing.{Stores}
 use Rattle.template.specs.Expanding.{offsetOf}
 use Rattle.template.proofs.Expansion.{expanded-is, few-knots}
@@ -36,7 +37,7 @@ returns c =
     let x = c .before .before .before .before .before .before .before .before .before .before .before .before .before .before .before .before .before .before .before .before .write-knots in
     let y = c .before .before .before .before .before .before .before .before .before .before .before .before .before .before .before .copy in
     let r = c .before .before .before .before .before .before .before .before .sort-check-and-store in
-    subst (λ (set : Definitions.ClipSet). Stores set (r .result))
+    subst (λ (set : Definitions.ClipSet). Stores emptySet set (r .result))
     (expanded-is (a .times) (offsetOf (a .times) (a .offset)) (now (a .ts)) (t .last .1 .1 .1 .0) (n .last .0) (now (a .numbers)) (x .last .1 .1 .1 .0) (y .last .1 .0) (now (a .blocks)) (a .manifest)
     (t .ensures) (n .ensures) (s .pre .for-numbers) (x .ensures) (y .ensures))
     (r .ensures)
