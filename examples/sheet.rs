@@ -25,7 +25,8 @@ fn main() -> Result<(), String> {
         marks: &[0, 0, 0, 1],
         ends: &[2, 4],
     };
-    let track = resolver.bake(samples, 16).map_err(refused("the bake"))?;
+    let slots = resolver.change_count(samples).map_err(refused("the samples"))?;
+    let track = resolver.bake(samples, slots).map_err(refused("the bake"))?;
     println!("{} changes", track.times.len());
     for frame in 24..=32 {
         let e = track.read(StageTime(frame as f64));

@@ -109,6 +109,11 @@ tavitrozy_untimed_reply tavitrozy_untimed(tavitrozy_resolver resolver,
   const double *times, size_t times_len, const double *values, size_t values_len,
   const uint8_t *marks, size_t marks_len, const uint64_t *ends, size_t ends_len);
 
+/* 20, 1, 2, 9: how many stage sample times there are, and stage samples. Ask for the count, then lend that many slots. */
+tavitrozy_counted tavitrozy_stage_sample_count(tavitrozy_resolver resolver,
+  const double *times, size_t times_len, const double *values, size_t values_len,
+  const uint8_t *marks, size_t marks_len, const uint64_t *ends, size_t ends_len);
+
 /* 20, 1, 2, 9, 22: the stage sample times, ascending. */
 tavitrozy_counted tavitrozy_stage_sample_times(tavitrozy_resolver resolver,
   const double *times, size_t times_len, const double *values, size_t values_len,
@@ -120,6 +125,11 @@ tavitrozy_counted tavitrozy_stage_samples(tavitrozy_resolver resolver,
   const double *times, size_t times_len, const double *values, size_t values_len,
   const uint8_t *marks, size_t marks_len, const uint64_t *ends, size_t ends_len,
   double *out_times, size_t out_times_len, uint8_t *out_marks, size_t out_marks_len);
+
+/* 20, 1, 2, 9: how many changes the track has. Ask for the count, then lend that many slots. */
+tavitrozy_counted tavitrozy_change_count(tavitrozy_resolver resolver,
+  const double *times, size_t times_len, const double *values, size_t values_len,
+  const uint8_t *marks, size_t marks_len, const uint64_t *ends, size_t ends_len);
 
 /* 20, 1, 2, 9, 22: the track. 22 means precisely fewer slots, in the shortest output, than there are changes. Slots past the count are untouched. */
 tavitrozy_baked tavitrozy_bake(tavitrozy_resolver resolver,

@@ -140,8 +140,10 @@ extern "C" {
     fn tavitrozy_clip_time(resolver: Resolver, time: StageTime) -> TimeReply;
     fn tavitrozy_value(resolver: Resolver, times: *const f64, times_len: usize, values: *const f64, values_len: usize, marks: *const u8, marks_len: usize, ends: *const u64, ends_len: usize, time: StageTime) -> ValueReply;
     fn tavitrozy_untimed(resolver: Resolver, times: *const f64, times_len: usize, values: *const f64, values_len: usize, marks: *const u8, marks_len: usize, ends: *const u64, ends_len: usize) -> UntimedReply;
+    fn tavitrozy_stage_sample_count(resolver: Resolver, times: *const f64, times_len: usize, values: *const f64, values_len: usize, marks: *const u8, marks_len: usize, ends: *const u64, ends_len: usize) -> Counted;
     fn tavitrozy_stage_sample_times(resolver: Resolver, times: *const f64, times_len: usize, values: *const f64, values_len: usize, marks: *const u8, marks_len: usize, ends: *const u64, ends_len: usize, out_times: *mut f64, out_times_len: usize) -> Counted;
     fn tavitrozy_stage_samples(resolver: Resolver, times: *const f64, times_len: usize, values: *const f64, values_len: usize, marks: *const u8, marks_len: usize, ends: *const u64, ends_len: usize, out_times: *mut f64, out_times_len: usize, out_marks: *mut u8, out_marks_len: usize) -> Counted;
+    fn tavitrozy_change_count(resolver: Resolver, times: *const f64, times_len: usize, values: *const f64, values_len: usize, marks: *const u8, marks_len: usize, ends: *const u64, ends_len: usize) -> Counted;
     fn tavitrozy_bake(resolver: Resolver, times: *const f64, times_len: usize, values: *const f64, values_len: usize, marks: *const u8, marks_len: usize, ends: *const u64, ends_len: usize, out_times: *mut f64, out_times_len: usize, out_values: *mut f64, out_values_len: usize, out_marks: *mut u8, out_marks_len: usize) -> Baked;
     fn tavitrozy_read(head: Entry, times: *const f64, times_len: usize, values: *const f64, values_len: usize, marks: *const u8, marks_len: usize, time: StageTime) -> Entry;
     fn tavitrozy_name(pattern: *const u8, pattern_len: usize, time: ClipTime, out: *mut u8, out_len: usize) -> Counted;
@@ -281,6 +283,14 @@ impl Resolver {
         })
     }
 
+    /// How many stage sample times there are, and stage samples: ask, then lend that many slots.
+    pub fn stage_sample_count(&self, s: Samples) -> Result<usize, u8> {
+        let r = unsafe {
+            tavitrozy_stage_sample_count(*self, s.times.as_ptr(), s.times.len(), s.values.as_ptr(), s.values.len(), s.marks.as_ptr(), s.marks.len(), s.ends.as_ptr(), s.ends.len())
+        };
+        checked(r.number, r.count)
+    }
+
     /// The stage sample times, written to the front of `out`; how many.
     pub fn stage_sample_times(&self, s: Samples, out: &mut [f64]) -> Result<usize, u8> {
         let r = unsafe {
@@ -295,6 +305,14 @@ impl Resolver {
                 *self, s.times.as_ptr(), s.times.len(), s.values.as_ptr(), s.values.len(), s.marks.as_ptr(), s.marks.len(), s.ends.as_ptr(), s.ends.len(),
                 times.as_mut_ptr(), times.len(), marks.as_mut_ptr(), marks.len(),
             )
+        };
+        checked(r.number, r.count)
+    }
+
+    /// How many changes the track has: ask, then bake with that many slots.
+    pub fn change_count(&self, s: Samples) -> Result<usize, u8> {
+        let r = unsafe {
+            tavitrozy_change_count(*self, s.times.as_ptr(), s.times.len(), s.values.as_ptr(), s.values.len(), s.marks.as_ptr(), s.marks.len(), s.ends.as_ptr(), s.ends.len())
         };
         checked(r.number, r.count)
     }

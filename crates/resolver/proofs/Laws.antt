@@ -24,13 +24,15 @@ use Rattle.sdf.proofs.Judged.{judged-accepted}
 use Rattle.definitions.specs.declared.StageTime.{StageTime}
 use Rattle.definitions.specs.Questions.{Reply, refused, replied, reply, ofSet, stageTimeNumber, roomNumber, askStageSampleTimes, askStageSamples}
 use Rattle.gf.specs.Doubles.{0·0}
-use Rattle.definitions.specs.Track.{Track, Outputs, slots, bakeNumber}
+use Rattle.definitions.specs.Value.{valueInSet}
+use Rattle.definitions.specs.Track.{Track, TrackOf, Outputs, slots, bakeNumber}
 use Rattle.laws.specs.cell.Lent.{setOf, samplesOf, AcceptedLists}
 use Rattle.laws.proofs.cell.Lent.{active-times, knot-times, sound-set, sound-samples}
+use Rattle.laws.proofs.cell.Tracks.{track-is}
 use Rattle.track.specs.declared.bake.Baked.{Baked}
 use Rattle.track.specs.Bakes.{trackOf, bakeCode, BakeIs}
 use Rattle.track.proofs.Bakes.{bakes}
-use Rattle.definitions.specs.Calls.{step, accepted, retimed, bakedOf, outputsAfter, Bakes}
+use Rattle.definitions.specs.Calls.{step, accepted, retimed, bakedOf, outputsAfter, Bakes, CountsChanges}
 use Rattle.laws.specs.list.Places.{Ascending}
 use Rattle.laws.specs.set.Sound.{Sound, SoundModel}
 use Rattle.laws.proofs.set.Sound.{sound-active, sound-knots}
@@ -49,7 +51,7 @@ use Rattle.standing.specs.declared.StandingSet.{StandingSet}
 use Rattle.standing.specs.Standing.{setIn, Installed, Packed, Asked, lentSet, answered}
 use Rattle.standing.specs.Lists.{counted, listed, itself, timeOf, markIn, ListsTimes, ListsSamples}
 use Rattle.resolver.specs.State.{standingIn, model, Made}
-use Rattle.resolver.specs.Promises.{Accepts, Expands, Retimes, BakesTrack, TellsTimes, TellsSamples, Installable, Installs}
+use Rattle.resolver.specs.Promises.{Accepts, Expands, Retimes, BakesTrack, TellsTimes, TellsSamples, countCode, TellsChangeCount, Installable, Installs}
 
 -- ---- installing
 
@@ -203,6 +205,9 @@ module _ {A : Type 0} (s : Samples) (a : ClipSet → A) (d : Resolver) (e : d .s
 pub judged-number : (d : Resolver) {times values : List Float} {marks ends : List ℕ} {n : ℕ} → Judged (d .set .clips) times values marks ends n → n ≡ samplesNumber (setIn (d .set)) (samplesOf times values marks ends)
 judged-number d j = j .number (setIn (d .set)) (unfold setOf in refl)
 
+same-standing : (a b : Standing) → standing a ≡ standing b → a ≡ b
+same-standing a b p = cc
+
 -- what the operation has shown, where the samples are accepted
 module _ (d : Resolver) {times values : List Float} {marks ends : List ℕ} {n : ℕ} (m : Made d) (e : d .stands ≡ true) (j : Judged (d .set .clips) times values marks ends n) (z : n ≡ 0) where
   is-accepted : AcceptedSamples (setIn (d .set)) (samplesOf times values marks ends)
@@ -240,6 +245,19 @@ module _ (d : Resolver) {times values : List Float} {marks ends : List ℕ} {n :
             (record { values = j .values-fit; default = sound .default .fitting }) (sym (judged-number d j) ∙ z) before after r q);
         code = q .replies;
       }
+
+  pub counts-set : (n : ℕ) → n ≡ length (trackOf (lentSet (length ends) (d .set .counts) (d .set .starts) (d .set .numbers) (d .set .xs) (d .set .ys) (d .set .blocks) (d .set .manifest)) (samplesOf times values marks ends) .changes)
+      → CountsChanges (model d) (samplesOf times values marks ends) (replied n)
+  counts-set n q =
+      let s = samplesOf times values marks ends in
+      let sound = stands-sound d m e in
+      let track = trackOf (setIn (d .set)) s in
+      subst (λ (x : Model). CountsChanges x s (replied n)) (sym (stands-as d e)) (record {
+        track = track;
+        is = λ st p k. subst (λ (x : Standing). TrackOf (valueInSet (x .set) s) (trackOf (setIn (d .set)) s)) (same-standing (standingIn d) st p)
+            (track-is (setIn (d .set)) s (sound-set (setIn (d .set)) sound) (sound-samples (setIn (d .set)) s is-accepted) (record { values = j .values-fit; default = sound .default .fitting }));
+        replies = ap replied (q ∙ ap (λ (x : ClipSet). length (trackOf x s .changes)) lent-is) ∙ ap (λ (k : ℕ). reply k (length (trackOf (setIn (d .set)) s .changes))) (sym (sym (judged-number d j) ∙ z));
+      })
 
   -- ---- the same without knots and blocks
 
@@ -321,11 +339,29 @@ bakes-refused d s o n e q h = subst (λ (m : Model). Bakes m s o (refused n) o) 
 pub bakes-code : {d : Resolver} {s : Samples} {o p : Outputs} {n : ℕ} {r : Baked} → Bakes (model d) s o (refused n) p → r ≡ bakeCode (refused n) → BakesTrack d s o r p
 bakes-code {n = n} k e = record { reply = refused n; bakes = k; code = e }
 
+-- ---- the count of the changes, where it is refused
+
+pub counts-20 : (d : Resolver) (s : Samples) → d .stands ≡ false → CountsChanges (model d) s (refused 20)
+counts-20 d s e = subst (λ (m : Model). CountsChanges m s (refused 20)) (sym (none-stands d e)) (record { track = noTrack; is = λ st q. other (cc); replies = refl })
+
+pub counts-refused : (d : Resolver) (s : Samples) (n : ℕ) → d .stands ≡ true → n ≡ samplesNumber (setIn (d .set)) s → (n ≡ 0 → ⊥) → CountsChanges (model d) s (refused n)
+counts-refused d s n e q h = record {
+  track = noTrack;
+  is = λ st p z. absurd (h (q ∙ ap (λ (x : Standing). samplesNumber (x .set) s) (same-standing (standingIn d) st (sym (stands-as d e) ∙ p)) ∙ z));
+  replies = plainly-refused s (λ (x : ClipSet). 0) d e n q h;
+}
+
 -- ---- replies that are lists
 
 -- a refusal's count is 0
 pub counted-refused : (r : Counted) (n : ℕ) → r .number ≡ n → r .count ≡ 0 → r ≡ record { number = n; count = 0 }
 counted-refused r n e f = λ i. record { number = e i; count = f i }
+
+pub count-refused : {r : Counted} {n : ℕ} {a : Reply ℕ} → (r .number ≡ n) × (r .count ≡ 0) → refused n ≡ a → r ≡ countCode a
+count-refused {r = r} {n = n} (e, f) q = counted-refused r n e f ∙ ap countCode q
+
+pub counts-code : {d : Resolver} {s : Samples} {n : ℕ} {r : Counted} → CountsChanges (model d) s (refused n) → (r .number ≡ n) × (r .count ≡ 0) → TellsChangeCount d s r
+counts-code {n = n} {r = r} k (e, f) = record { reply = refused n; counts = k; code = counted-refused r n e f }
 
 -- ---- the questions whose reply is a list, by their replies
 

@@ -9,7 +9,7 @@ use lib.Ieee.{Float}
 use Rattle.definitions.specs.declared.LayerOffset.{LayerOffset}
 use Rattle.definitions.specs.declared.StageTime.{StageTime}
 use Rattle.definitions.specs.declared.ClipTime.{ClipTime}
-use Rattle.definitions.specs.Questions.{Reply, refused, replied, askActiveClip, askClipTime, askValue, askUntimed, askStageSampleTimes, askStageSamples}
+use Rattle.definitions.specs.Questions.{Reply, refused, replied, askActiveClip, askClipTime, askValue, askUntimed, askStageSampleTimes, askStageSamples, askStageSampleCount}
 use Rattle.definitions.specs.declared.Answer.{Answer}
 use Rattle.sdf.specs.declared.Counted.{Counted}
 use Rattle.definitions.specs.ClipSet.{noSet, standing}
@@ -109,6 +109,21 @@ pub record TellsSamples (d : Resolver) (s : Samples) (times times′ : List Floa
   pub count : r ≡ counted (askStageSamples (model d) s (min (length times) (length marks)))
   pub written-times : times′ ≡ listed timeOf (askStageSamples (model d) s (min (length times) (length marks))) times
   pub written-marks : marks′ ≡ listed markIn (askStageSamples (model d) s (min (length times) (length marks))) marks
+
+-- ---- questions whose reply is a count
+
+-- the number, and the count, 0 where it is refused
+abbrev pub countCode : Reply ℕ → Counted
+countCode (refused n) = record { number = n; count = 0 }
+countCode (replied n) = record { number = 0; count = n }
+
+abbrev pub TellsSampleCount : Resolver → Samples → Counted → Type 0
+TellsSampleCount d s r = r ≡ countCode (askStageSampleCount (model d) s)
+
+pub record TellsChangeCount (d : Resolver) (s : Samples) (r : Counted) : Type 0 where
+  pub reply : Reply ℕ
+  pub counts : calls.CountsChanges (model d) s reply
+  pub code : r ≡ countCode reply
 
 -- ---- the bake
 

@@ -22,7 +22,7 @@ ghost use Rattle.template.specs.Expanding.{templateFields};
 ghost use Rattle.definitions.specs.Questions.{refused};
 ghost use Rattle.track.specs.Bakes.{bakeCode};
 ghost use Rattle.resolver.specs.State.{Made};
-ghost use Rattle.resolver.specs.Promises.{Begins, Accepts, Expands, Retimes, BakesTrack, TellsTimes, TellsSamples, TellsClip, TellsTime, TellsValue, TellsUntimed, Installable, Installs};
+ghost use Rattle.resolver.specs.Promises.{Begins, Accepts, Expands, Retimes, BakesTrack, TellsTimes, TellsSamples, TellsSampleCount, TellsChangeCount, TellsClip, TellsTime, TellsValue, TellsUntimed, Installable, Installs};
 
 #[repr(C)]
 pub struct Resolver {
@@ -319,6 +319,70 @@ impl Resolver {
             outtimes,
             outmarks,
         )
+    }
+
+    // How many stage sample times there are, and stage samples: the slots to lend for them.
+    pub fn stage_sample_count(
+        self,
+        times: &[f64],
+        values: &[f64],
+        marks: &[u8],
+        ends: &[u64],
+    ) -> Counted
+        requires { ⌜ Made self ⌝ }
+        ensures { λ r. ⌜ TellsSampleCount self (samplesWere times values marks ends) r ⌝ }
+    {
+        if !self.stands {
+            return refused_list(refusal::NO_SET);
+        }
+        let refused = sdf::samples_number(self.set.clips, times, values, marks, ends);
+        if refused != 0 {
+            return refused_list(refused);
+        }
+        let samples = questions::stage_sample_count(
+            &self.set.starts,
+            &self.set.numbers,
+            &self.set.xs,
+            &self.set.ys,
+            self.set.counts,
+            times,
+            ends,
+        );
+        Counted {
+            number: 0,
+            count: samples,
+        }
+    }
+
+    // How many changes the track has: the slots to lend for a bake.
+    pub fn change_count(self, times: &[f64], values: &[f64], marks: &[u8], ends: &[u64]) -> Counted
+        requires { ⌜ Made self ⌝ }
+        ensures { λ r. ⌜ TellsChangeCount self (samplesWere times values marks ends) r ⌝ }
+    {
+        if !self.stands {
+            return refused_list(refusal::NO_SET);
+        }
+        let judged = sdf::samples_number(self.set.clips, times, values, marks, ends);
+        if judged != 0 {
+            return refused_list(judged);
+        }
+        let changes = questions::change_count(
+            &self.set.starts,
+            &self.set.numbers,
+            &self.set.xs,
+            &self.set.ys,
+            &self.set.blocks,
+            self.set.counts,
+            self.set.manifest,
+            times,
+            values,
+            marks,
+            ends,
+        );
+        Counted {
+            number: 0,
+            count: changes,
+        }
     }
 
     // The track of the standing set's value: the head and the count, and the changes written to the lent lists.

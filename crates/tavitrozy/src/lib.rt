@@ -27,7 +27,7 @@ ghost use Rattle.template.specs.Expanding.{templateFields};
 ghost use Rattle.normal_form.specs.Normalizes.{Normalizes};
 ghost use Rattle.cell.specs.step.Entries.{entryIs};
 ghost use Rattle.resolver.specs.State.{Made};
-ghost use Rattle.resolver.specs.Promises.{Begins, Accepts, Expands, Retimes, BakesTrack, TellsTimes, TellsSamples};
+ghost use Rattle.resolver.specs.Promises.{Begins, Accepts, Expands, Retimes, BakesTrack, TellsTimes, TellsSamples, TellsSampleCount, TellsChangeCount};
 ghost use Rattle.tavitrozy.specs.Codes.{clipCode, timeCode, valueCode, untimedCode, TellsClip, TellsTime, TellsValue, TellsUntimed, nameCode, SaysName};
 
 // A clip is active, unless `found` is false.
@@ -279,6 +279,34 @@ pub extern "C" fn tavitrozy_stage_samples(
     ensures { λ r. ⌜ TellsSamples resolver (samplesWere times values marks ends) (was outtimes) (after outtimes) (was outmarks) (after outmarks) r ⌝ }
 {
     resolver.stage_samples(times, values, marks, ends, outtimes, outmarks)
+}
+
+#[no_mangle]
+pub extern "C" fn tavitrozy_stage_sample_count(
+    resolver: Resolver,
+    times: &[f64],
+    values: &[f64],
+    marks: &[u8],
+    ends: &[u64],
+) -> Counted
+    requires { ⌜ Made resolver ⌝ }
+    ensures { λ r. ⌜ TellsSampleCount resolver (samplesWere times values marks ends) r ⌝ }
+{
+    resolver.stage_sample_count(times, values, marks, ends)
+}
+
+#[no_mangle]
+pub extern "C" fn tavitrozy_change_count(
+    resolver: Resolver,
+    times: &[f64],
+    values: &[f64],
+    marks: &[u8],
+    ends: &[u64],
+) -> Counted
+    requires { ⌜ Made resolver ⌝ }
+    ensures { λ r. ⌜ TellsChangeCount resolver (samplesWere times values marks ends) r ⌝ }
+{
+    resolver.change_count(times, values, marks, ends)
 }
 
 #[no_mangle]
