@@ -27,6 +27,8 @@ pub mod Inverse
 pub mod WindowTimes
 -- "Stage sample times are finite, strictly ascending, every start among them."
 pub mod StageTimes
+-- The neighbours in the sorted list without equals: the value by them is the same
+pub mod InOrder
 -- Cells that are computed
 pub mod Figures
 -- A set and samples as plain lists

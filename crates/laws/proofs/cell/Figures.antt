@@ -13,9 +13,9 @@ use Rattle.definitions.specs.ClipSet.{ClipSet, stage, nanDefault, equalKnots}
 use Rattle.definitions.specs.Timing.{lastAtMost, activePosition, onSegment, mapTime, mapStageToClip}
 use Rattle.definitions.specs.Samples.{Samples, clipBegin, clipEnd, clipTimes, heldPlace, unlikeLengths, samples1, samples2, badMarks, closes, samples9, samplesNumber}
 use Rattle.definitions.specs.declared.Source.the-variants.{Sample as sample}
-use Rattle.definitions.specs.Value.{blockedAt, contributes, readClip, directSource, window, stageTimesForClipTime, windowSampleTimes, gathered, lowerNeighbour, upperNeighbour, jump}
+use Rattle.definitions.specs.Value.{blockedAt, contributes, readClip, directSource, window, stageTimesForClipTime, windowSampleTimes, gathered, lowerNeighbour, upperNeighbour, jump, valueInSet}
 use Rattle.definitions.specs.StageSamples.{stageSampleTimes}
-use Rattle.definitions.specs.Facts.{StageSampleTimesAre}
+use Rattle.definitions.specs.Facts.{StageSampleTimesAre, valueInOrder}
 use Rattle.laws.specs.Facts.{Given}
 use Rattle.laws.specs.cell.Knots.{flat, segment, lineOf}
 use Rattle.laws.proofs.cell.Direct.{SoundSet, SoundSamples}
@@ -23,6 +23,7 @@ use Rattle.laws.specs.cell.Stretches.{heldFrom}
 use Rattle.laws.specs.cell.Cells.{constant, reading, directCell, cellOf}
 use Rattle.laws.proofs.cell.Tracks.{SoundValues}
 use Rattle.laws.proofs.cell.StageTimes.{stage-sample-times}
+use Rattle.laws.proofs.cell.InOrder.{value-in-order}
 
 abbrev frac : ℕ → ℕ → Float
 frac a b = round binary64 false a b
@@ -96,6 +97,10 @@ given = record {
 
 times-so : StageSampleTimesAre (set two saw) (stageSampleTimes (set two saw) samples)
 times-so = stage-sample-times (set two saw) samples given
+
+value-so : valueInSet (set two saw) samples (stage (frac 5 2)) ≡ valueInOrder (set two saw) samples (stage (frac 5 2))
+unfolding fits round
+value-so = value-in-order (set two saw) samples given (stage (frac 5 2)) (record { fitting = tt; finitely = tt })
 
 -- ---- the cells at 2.5. The inverse time of 7.6 is 2.0999999999999996, whose clip time is below 7.6.
 
