@@ -23,6 +23,12 @@ pub mod Tracks
 pub mod Neighbours
 -- The inverse time in a segment is finite and monotone in the sample
 pub mod Inverse
+-- The times of a window are finite
+pub mod WindowTimes
+-- "Stage sample times are finite, strictly ascending, every start among them."
+pub mod StageTimes
+-- The neighbours in the sorted list without equals: the value by them is the same
+pub mod InOrder
 -- Cells that are computed
 pub mod Figures
 -- A set and samples as plain lists

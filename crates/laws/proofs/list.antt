@@ -3,4 +3,5 @@ pub mod Tests
 pub mod Every
 pub mod Places
 pub mod Sorting
+pub mod InOrder
 pub mod Insertion

@@ -3,3 +3,5 @@ pub mod cell
 pub mod set
 pub mod list
 pub mod track
+-- What document 01 claims of its definitions
+pub mod Facts

@@ -10,12 +10,14 @@ use lib.ListN.{length, take, drop, length-append, length-drop}
 use lib.Seq.{length-take-le}
 use lib.Ieee.{Float, nearest}
 use lib.Ieee.Scale.{finite}
+use lib.Ieee.Bits.{is-true}
 use lib.Ieee.Positive.{num, den, den-pos}
 use lib.Ieee.Nearest.{closest, closest-mono}
 use Rattle.gf.specs.Doubles.{storable, truncated, signBit}
 use Rattle.gf.proofs.Exactly.{within-finite}
 use Rattle.definitions.specs.declared.ClipTime.{ClipTime}
 use Rattle.definitions.specs.Names.{HashPattern, minus, dot, digits, places, padded, wholeBody, decimals, fractionBody, body, format, name, split, readable}
+use Rattle.definitions.specs.Facts.{NamesAreShort}
 use Rattle.names.specs.declared.pattern.Pattern.{Pattern}
 use Rattle.names.specs.Pattern.{widthOf, withDot, Parses}
 use Rattle.names.proofs.PatternLaws.{found, found-parses, readable-limits}
@@ -104,8 +106,7 @@ module _ (l : List ℕ) (t : ClipTime) (few : length l ≤ 255) (small : T (stor
       let b = body (p .width) (widthOf (p .fraction)) (t .0) in
       rw (sym (name-parts l p t is)) (omega (arith, length-parts l p b is, body-le (p .width) (t .0) one small (p .fraction), is .joined, is .held))
 
-  -- where 1, 2 and 6 do not apply
-  pub at-most-268 : readable (split l) ≡ true → length (name l t) ≤ 268
-  at-most-268 r =
-      let is = found-parses l in
-      name-le (found l) is (readable-limits l (found l) (ap readable (is .is) ∙ r) .0)
+pub names-are-short : NamesAreShort
+names-are-short l t few small r =
+    let is = found-parses l in
+    name-le l t few small (found l) is (readable-limits l (found l) (ap readable (is .is) ∙ is-true (readable (split l)) r) .0)

@@ -1,11 +1,11 @@
 -- What stands after a call, by its number; one law for each return of an operation. Assumes nothing.
 use Prim.Native.Nat.{ℕ, zero, suc, min}
-use mathlib.Core.Path.{_≡_, refl, sym, ap, _∙_, subst}
+use mathlib.Core.Path.{_≡_, refl, sym, ap, ap₂, _∙_, subst}
 use mathlib.Core.Bool.{Bool, true, false, not, cond}
 use native.Mathlib.Omega.{arith}
-use mathlib.Core.List.{List, []}
-use lib.ListN.{length, take}
-use lib.Seq.{length-take-le}
+use mathlib.Core.List.{List, [], _∷_, map}
+use lib.ListN.{length, take, drop}
+use lib.Seq.{length-take-le, take-append-seam}
 use lib.Dec.{ltb}
 use mathlib.Core.Option.{Option, none, some}
 use lib.Ieee.{Float}
@@ -15,8 +15,9 @@ use Rattle.definitions.specs.ClipSet.{ClipSet, Model, Standing, noSet, standing
 use Rattle.definitions.specs.Explicit.{ExplicitFields, explicitNumber, explicitSet}
 use Rattle.definitions.specs.Template.{TemplateFields, templateNumber, templateSet}
 use Rattle.definitions.specs.Retime.{movedNumber, retimeNumber, retimeStageTimes}
-use Rattle.definitions.specs.Lists.{_if_else_, _then_}
-use Rattle.definitions.specs.StageSamples.{StageSample}
+use Rattle.definitions.specs.Lists.{_if_else_, _then_, writtenOver}
+use Rattle.definitions.specs.StageSamples.{StageSample, stageSampleTimes}
+use Rattle.definitions.specs.Facts.{StageSampleTimesAre}
 use Rattle.sdf.specs.declared.Counted.{Counted}
 use Rattle.definitions.specs.Samples.{Samples, samplesNumber}
 use Rattle.sdf.specs.Judged.{Judged}
@@ -29,6 +30,7 @@ use Rattle.definitions.specs.Track.{Track, TrackOf, Outputs, slots, bakeNumber}
 use Rattle.laws.specs.cell.Lent.{setOf, samplesOf, AcceptedLists}
 use Rattle.laws.proofs.cell.Lent.{active-times, knot-times, sound-set, sound-samples}
 use Rattle.laws.proofs.cell.Tracks.{track-is}
+use Rattle.laws.proofs.cell.StageTimes.{stage-sample-times}
 use Rattle.track.specs.declared.bake.Baked.{Baked}
 use Rattle.track.specs.Bakes.{trackOf, bakeCode, BakeIs}
 use Rattle.track.proofs.Bakes.{bakes}
@@ -231,6 +233,10 @@ module _ (d : Resolver) {times values : List Float} {marks ends : List ℕ} {n :
     };
   }
 
+  -- "Stage sample times are finite, strictly ascending, every start among them."
+  pub times-are-so : StageSampleTimesAre (setIn (d .set)) (stageSampleTimes (setIn (d .set)) (samplesOf times values marks ends))
+  times-are-so = stage-sample-times (setIn (d .set)) (samplesOf times values marks ends) (record { sound = stands-sound d m e; doubles = j .times-fit; accepted = sym (judged-number d j) ∙ z })
+
   pub bakes-set : (before after : Outputs) (r : Baked)
       → BakeIs (lentSet (length ends) (d .set .counts) (d .set .starts) (d .set .numbers) (d .set .xs) (d .set .ys) (d .set .blocks) (d .set .manifest)) (samplesOf times values marks ends) before after r
       → BakesTrack d (samplesOf times values marks ends) before r after
@@ -365,13 +371,37 @@ counts-code {n = n} {r = r} k (e, f) = record { reply = refused n; counts = k; c
 
 -- ---- the questions whose reply is a list, by their replies
 
-pub times-refused : (d : Resolver) (s : Samples) (before : List Float) (r : Counted) (n : ℕ) → (r .number ≡ n) × (r .count ≡ 0) → refused n ≡ askStageSampleTimes (model d) s (length before) → TellsTimes d s before before r
-times-refused d s before r n (e, f) q = record { count = counted-refused r n e f ∙ ap counted q; times = ap (λ (x : Reply (List Float)). listed itself x before) q }
+pub times-refused : (d : Resolver) (s : Samples) (before : List Float) (r : Counted) (n : ℕ) → (r .number ≡ n) × (r .count ≡ 0) → (n ≡ 0 → ⊥) → refused n ≡ askStageSampleTimes (model d) s (length before) → TellsTimes d s before before r
+times-refused d s before r n (e, f) h q = record {
+  count = counted-refused r n e f ∙ ap counted q;
+  times = ap (λ (x : Reply (List Float)). listed itself x before) q;
+  are = λ st p z. absurd (h (sym e ∙ z));
+}
 
-pub times-replied : (d : Resolver) (s : Samples) (l l′ before after : List Float) (r : Counted) → l ≡ l′ → ListsTimes l before after r → reply (roomNumber (length before) (length l′)) l′ ≡ askStageSampleTimes (model d) s (length before) → TellsTimes d s before after r
-times-replied d s l l′ before after r e p q =
+-- where it is replied to, the list stands at the front
+list-written : (l before after : List Float) (r : Counted) → ListsTimes l before after r → r .number ≡ 0 → take (r .count) after ≡ l
+list-written l before after r p z = go (roomNumber (length before) (length l)) (p .count) (p .times)
+  where
+    themselves : (l : List Float) → map itself l ≡ l
+    themselves [] = refl
+    themselves (x ∷ l) = ap (λ (k : List Float). x ∷ k) (themselves l)
+
+    go : (n : ℕ) → r ≡ counted (reply n l) → after ≡ listed itself (reply n l) before → take (r .count) after ≡ l
+    go zero c t = ap₂ take (ap (λ (x : Counted). x .count) c) (t ∙ ap (λ (k : List Float). writtenOver k before) (themselves l)) ∙ take-append-seam l (drop (length l) before)
+    go (suc n) c t = let e : suc n ≡ 0 = sym (ap (λ (x : Counted). x .number) c) ∙ z in absurd (omega arith)
+
+pub times-replied : (d : Resolver) (s : Samples) (l l′ before after : List Float) (r : Counted) → l ≡ l′ → ListsTimes l before after r → reply (roomNumber (length before) (length l′)) l′ ≡ askStageSampleTimes (model d) s (length before)
+    → d .stands ≡ true → StageSampleTimesAre (setIn (d .set)) l′ → TellsTimes d s before after r
+times-replied d s l l′ before after r e p q b are =
     let k = subst (λ (x : List Float). ListsTimes x before after r) e p in
-    record { count = k .count ∙ ap counted q; times = k .times ∙ ap (λ (x : Reply (List Float)). listed itself x before) q }
+    record {
+      count = k .count ∙ ap counted q;
+      times = k .times ∙ ap (λ (x : Reply (List Float)). listed itself x before) q;
+      are = λ st m z. subst (λ (x : Standing). StageSampleTimesAre (x .set) (take (r .count) after)) (same st (sym (stands-as d b) ∙ m)) (subst (StageSampleTimesAre (setIn (d .set))) (sym (list-written l′ before after r k z)) are);
+    }
+  where
+    same : (st : Standing) → standing (standingIn d) ≡ standing st → standingIn d ≡ st
+    same st p = cc
 
 pub list-refused : (d : Resolver) (s : Samples) (ts : List Float) (ms : List ℕ) (r : Counted) (n : ℕ) → (r .number ≡ n) × (r .count ≡ 0) → refused n ≡ askStageSamples (model d) s (min (length ts) (length ms)) → TellsSamples d s ts ts ms ms r
 list-refused d s ts ms r n (e, f) q = record {

@@ -4,7 +4,7 @@ use mathlib.Core.Bool.{Bool}
 use mathlib.Core.Option.{Option, none, some}
 use Prim.Native.Nat.{ℕ, min}
 use mathlib.Core.List.{List}
-use lib.ListN.{length}
+use lib.ListN.{length, take}
 use lib.Ieee.{Float}
 use Rattle.definitions.specs.declared.LayerOffset.{LayerOffset}
 use Rattle.definitions.specs.declared.StageTime.{StageTime}
@@ -12,12 +12,13 @@ use Rattle.definitions.specs.declared.ClipTime.{ClipTime}
 use Rattle.definitions.specs.Questions.{Reply, refused, replied, askActiveClip, askClipTime, askValue, askUntimed, askStageSampleTimes, askStageSamples, askStageSampleCount}
 use Rattle.definitions.specs.declared.Answer.{Answer}
 use Rattle.sdf.specs.declared.Counted.{Counted}
-use Rattle.definitions.specs.ClipSet.{noSet, standing}
+use Rattle.definitions.specs.ClipSet.{Standing, noSet, standing}
 use Rattle.definitions.specs.Explicit.{ExplicitFields, explicitNumber}
 use Rattle.definitions.specs.Template.{TemplateFields, templateNumber}
 use Rattle.definitions.specs.Retime.{retimeNumber}
 use Rattle.definitions.specs.Samples.{Samples}
 use Rattle.definitions.specs.Track.{Outputs}
+use Rattle.definitions.specs.Facts.{StageSampleTimesAre}
 use Rattle.definitions.specs.Calls as calls
 use Rattle.definitions.specs.Calls.{explicit, template, retime, step, accepted}
 use Rattle.definitions.specs.declared.ValueState.{ValueState}
@@ -104,6 +105,8 @@ TellsUntimed d s r = untimedReply r ≡ askUntimed (model d) s
 pub record TellsTimes (d : Resolver) (s : Samples) (before after : List Float) (r : Counted) : Type 0 where
   pub count : r ≡ counted (askStageSampleTimes (model d) s (length before))
   pub times : after ≡ listed itself (askStageSampleTimes (model d) s (length before)) before
+  -- where it is replied to, those written are "finite, strictly ascending, every start among them"
+  pub are : (st : Standing) → model d ≡ standing st → r .number ≡ 0 → StageSampleTimesAre (st .set) (take (r .count) after)
 
 pub record TellsSamples (d : Resolver) (s : Samples) (times times′ : List Float) (marks marks′ : List ℕ) (r : Counted) : Type 0 where
   pub count : r ≡ counted (askStageSamples (model d) s (min (length times) (length marks)))

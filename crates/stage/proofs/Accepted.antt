@@ -18,6 +18,7 @@ use Rattle.definitions.specs.Samples.{Samples, clipTimes, heldPlace}
 use Rattle.definitions.specs.Value.{windowSampleTimes}
 use Rattle.definitions.specs.StageSamples.{StageSample, dedup, timesOfClip, stageSampleTimes, readMark, markIn, suppliedAt, stageSamples}
 use Rattle.laws.specs.list.Every.{Every}
+use Rattle.laws.proofs.list.Every.{gather-append}
 use Rattle.laws.specs.set.Stored.{Stored}
 use Rattle.laws.specs.cell.Lent.{start, activeOf, knotsOf, setOf, samplesOf, AcceptedLists}
 use Rattle.laws.proofs.cell.Lent.{zip-here, zip-length, active-times, knot-times}
@@ -27,7 +28,6 @@ use Rattle.window.proofs.Windows.{window-times}
 use Rattle.stage.specs.Whole.{wholeTimes}
 use Rattle.stage.specs.Times.{gatheredTimes, timesOf, AcceptedTimes}
 use Rattle.stage.specs.Marks.{unblocked}
-use Rattle.stage.proofs.Times.{gather-append}
 
 gather-same : (f g : ℕ → List Float) (n : ℕ) → ((p : ℕ) → p < n → f p ≡ g p) → gather f (below n) ≡ gather g (below n)
 gather-same f g zero h = refl

@@ -18,7 +18,7 @@ use Rattle.definitions.specs.Doubles.{FiniteDouble}
 use Rattle.definitions.specs.Timing.{lastAtMost}
 use Rattle.laws.proofs.list.Tests.{holds, is-true, both-l, both-r}
 use Rattle.laws.specs.list.Every.{Every}
-use Rattle.laws.proofs.list.Every.{every-at, every-map, every-zip, every-append, every-left, every-right, every-gather}
+use Rattle.laws.proofs.list.Every.{every-at, every-map, every-zip, every-append, every-left, every-right, every-gather, every-below}
 use Rattle.laws.proofs.list.Places.{atMost, at-most-is, last-is, last-later}
 use Rattle.laws.specs.list.Places.{Fits}
 use Rattle.window.specs.declared.Bound.{Bound}
@@ -29,7 +29,7 @@ use Rattle.window.specs.Windows.{minOf, maxOf}
 use Rattle.window.proofs.nearest.Beside.{climb}
 use Rattle.stage.specs.Whole.{wholeTimes, nextStart}
 use Rattle.stage.specs.Times.{gatheredTimes, AcceptedTimes, NextTime}
-use Rattle.stage.proofs.Times.{every-below, part-each, part-first, part-finite, part-in, times-finite, next-time}
+use Rattle.stage.proofs.Times.{part-each, part-first, part-finite, part-in, times-finite, next-time}
 use Rattle.stage.proofs.First.{FirstIs, Before, first-of-all, upper-first, first-next}
 use Rattle.stage.specs.First.{zeroOf, withZero}
 use Rattle.stage.specs.Zeros.{minusGathered}

@@ -10,15 +10,15 @@ use lib.Dec.{T, ltb}
 use lib.Ieee.{Float, binary64, toBits, eq, lt, le}
 use borrow.Author.Tests.{ltb-true, ltb-false}
 use Rattle.gf.specs.Doubles.{key, totalKey}
-use Rattle.gf.proofs.KeyLaws.{key→le, key→eq, key→lt, lt→key, eq→key, lt→le, le→key, lt-le-trans, finite-no-nan, bits-lt}
+use Rattle.gf.proofs.KeyLaws.{lt→le, lt-le-trans, bits-lt}
 use Rattle.gf.proofs.Units.{same-bits}
 use Rattle.definitions.specs.Lists.{keep, sortBy}
 use Rattle.definitions.specs.Doubles.{FiniteDouble}
 use Rattle.definitions.specs.StageSamples.{dropEqual, dedup}
-use Rattle.laws.specs.list.Every.{Every, Chain, ChainFrom}
-use Rattle.laws.proofs.set.Stored.{total→key}
-use Rattle.laws.proofs.list.Sorting.{every-sort, sort-every, sort-sorted}
-use Rattle.laws.proofs.list.Every.{every-map, every-zip, every-keep}
+use Rattle.laws.specs.list.Every.{Every}
+use Rattle.laws.proofs.list.Sorting.{every-sort, sort-every}
+use Rattle.laws.proofs.list.Every.{every-map, every-zip, every-keep, kept-pass}
+use Rattle.laws.proofs.list.InOrder.{total-le, key-lt, key-eq, eq-key, apart-lt, Rising, sorted-rising, every-dedup}
 use Rattle.laws.specs.list.Places.{Fits}
 use Rattle.window.specs.declared.Bound.{Bound}
 use Rattle.window.specs.declared.Bound.the-variants.{At, Nothing}
@@ -27,14 +27,6 @@ use Rattle.window.proofs.BoundsLaws.{every-in, in-every}
 use Rattle.stage.specs.Ordered.{after}
 
 -- ---- lists
-
-kept-pass : (p : Float → Bool) (l : List Float) → Every (λ (x : Float). T (p x)) (keep p l)
-kept-pass p [] = tt
-kept-pass p (x ∷ l) = go (p x) (λ h. h) (kept-pass p l)
-  where
-    go : (b : Bool) → (T b → T (p x)) → Every (λ (y : Float). T (p y)) (keep p l) → Every (λ (y : Float). T (p y)) (cond b (x ∷ keep p l) (keep p l))
-    go true h r = (h tt, r)
-    go false h r = r
 
 keep-all : (p : Float → Bool) (l : List Float) → Every (λ (x : Float). T (p x)) l → keep p l ≡ l
 keep-all p [] h = refl
@@ -75,26 +67,7 @@ in-keep p x (y ∷ l) (inr i) h = go (p y) (in-keep p x l i h)
     go true r = inr r
     go false r = r
 
--- ---- comparisons of finite doubles
-
-module _ (x y : Float) (f : FiniteDouble x) (g : FiniteDouble y) where
-  total-le : totalKey x ≤ totalKey y → T (le x y)
-  total-le h = key→le x y (f .fitting) (g .fitting) (finite-no-nan x (f .finitely)) (finite-no-nan y (g .finitely)) (total→key x y (f .fitting) (g .fitting) h)
-
-  key-lt : T (lt x y) → key x < key y
-  key-lt h = lt→key x y (f .fitting) (g .fitting) (finite-no-nan x (f .finitely)) (finite-no-nan y (g .finitely)) h
-
-  lt-key : key x < key y → T (lt x y)
-  lt-key h = key→lt x y (f .fitting) (g .fitting) (finite-no-nan x (f .finitely)) (finite-no-nan y (g .finitely)) h
-
-  key-le : T (le x y) → key x ≤ key y
-  key-le h = le→key x y (f .fitting) (g .fitting) (finite-no-nan x (f .finitely)) (finite-no-nan y (g .finitely)) h
-
-  key-eq : T (eq x y) → key x ≡ key y
-  key-eq h = eq→key x y (f .fitting) (g .fitting) (finite-no-nan x (f .finitely)) (finite-no-nan y (g .finitely)) h
-
-  eq-key : key x ≡ key y → T (eq x y)
-  eq-key h = key→eq x y (f .fitting) (g .fitting) (finite-no-nan x (f .finitely)) (finite-no-nan y (g .finitely)) h
+-- ---- tests
 
 same-bool : (a b : Bool) → (T a → T b) → (T b → T a) → a ≡ b
 same-bool true true f g = refl
@@ -126,21 +99,6 @@ total-same x y p q h =
 
 -- ---- a sorted list
 
--- each entry is not above any behind it
-abbrev Rising : List Float → Type 0
-Rising [] = Unit {0}
-Rising (x ∷ l) = Every (λ (y : Float). totalKey x ≤ totalKey y) l × Rising l
-
-rising-from : (x : Float) (l : List Float) → ChainFrom (λ (a b : Float). totalKey a ≤ totalKey b) x l → Rising (x ∷ l)
-rising-from x [] c = (tt, tt)
-rising-from x (y ∷ l) c =
-    let r = rising-from y l (c .1) in
-    ((c .0, every-map (λ (z : Float). totalKey y ≤ totalKey z) (λ (z : Float). totalKey x ≤ totalKey z) (λ z h. omega (arith, c .0)) l (r .0)), r)
-
-rising-chain : (l : List Float) → Chain (λ (a b : Float). totalKey a ≤ totalKey b) l → Rising l
-rising-chain [] c = tt
-rising-chain (x ∷ l) c = rising-from x l c
-
 rising-keep : (p : Float → Bool) (l : List Float) → Rising l → Rising (keep p l)
 rising-keep p [] r = tt
 rising-keep p (x ∷ l) r = go (p x) (rising-keep p l (r .1))
@@ -150,20 +108,6 @@ rising-keep p (x ∷ l) r = go (p x) (rising-keep p l (r .1))
     go false k = k
 
 -- ---- equals dropped
-
-every-drop-equal : (P : Float → Type 0) (x : Float) (l : List Float) → Every P l → Every P (dropEqual x l)
-unfolding dropEqual
-every-drop-equal P x [] h = tt
-every-drop-equal P x (y ∷ l) h = go (eq x y)
-  where
-    go : (b : Bool) → Every P (cond b l (y ∷ l))
-    go true = h .1
-    go false = h
-
-every-dedup : (P : Float → Type 0) (l : List Float) → Every P l → Every P (dedup l)
-unfolding dedup
-every-dedup P [] h = tt
-every-dedup P (x ∷ l) h = (h .0, every-drop-equal P x (dedup l) (every-dedup P l (h .1)))
 
 module _ (h : Float) (fh : FiniteDouble h) where
   -- of one number the same equals are dropped
@@ -190,16 +134,13 @@ module _ (h : Float) (fh : FiniteDouble h) where
           ∙ rest
           ∙ ap (λ (b : Bool). dedup (cond b (y ∷ keep (λ (x : Float). lt h x) l) (keep (λ (x : Float). lt h x) l))) (sym n)
       go false e rest =
-          let u : T (lt h y) = lt-key h y fh (f .0) (apart (key h) (key y) (key-le h y fh (f .0) (m .0)) (λ q. subst T e (eq-key h y fh (f .0) q))) in
+          let u : T (lt h y) = apart-lt h y fh (f .0) (m .0) (λ q. subst T e q) in
           let a : keep (λ (x : Float). lt h x) l ≡ l =
           keep-all (λ (x : Float). lt h x) l
           (every-zip FiniteDouble (λ (z : Float). totalKey y ≤ totalKey z) (λ (z : Float). T (lt h z))
           (λ z fz q. lt-le-trans h y z (fh .fitting) (f .0 .fitting) (fz .fitting) u (total-le y z (f .0) fz q)) l (f .1) (r .0)) in
           ap (λ (b : Bool). cond b (dropEqual y (dedup l)) (y ∷ dropEqual y (dedup l))) e
           ∙ ap₂ (λ (b : Bool) (k : List Float). dedup (cond b (y ∷ k) k)) (sym (is-true (lt h y) u)) (sym a)
-        where
-          apart : (a b : ℕ) → a ≤ b → (a ≡ b → ⊥) → a < b
-          apart a b p q = omega arith
 
   -- the least of a sorted list is its first
   first-least : (l : List Float) → Every FiniteDouble l → Rising l → Every (λ (y : Float). totalKey h ≤ totalKey y) l → In h l → dedup l ≡ h ∷ dedup (keep (λ (x : Float). lt h x) l)
@@ -230,9 +171,6 @@ NextIs l t (At h) = In h l × T (lt t h) × Every (λ (x : Float). T (lt t x) �
 NextIs l t Nothing = Every (λ (x : Float). T (lt t x) → ⊥) l
 
 module _ (l : List Float) (f : Every FiniteDouble l) where
-  sorted-rising : Rising (sortBy totalKey l)
-  sorted-rising = rising-chain (sortBy totalKey l) (sort-sorted totalKey l)
-
   sorted-finite : Every FiniteDouble (sortBy totalKey l)
   sorted-finite = every-sort totalKey FiniteDouble l f
 
@@ -252,7 +190,7 @@ module _ (l : List Float) (f : Every FiniteDouble l) where
         let fh = in-every FiniteDouble h l f (n .0) in
         let s = sortBy totalKey l in
         let k = keep (λ (x : Float). lt t x) s in
-        first-least h fh k (every-keep FiniteDouble (λ (x : Float). lt t x) s sorted-finite) (rising-keep (λ (x : Float). lt t x) s sorted-rising)
+        first-least h fh k (every-keep FiniteDouble (λ (x : Float). lt t x) s sorted-finite) (rising-keep (λ (x : Float). lt t x) s (sorted-rising l))
         (every-zip (λ (x : Float). T (lt t x)) (λ (x : Float). T (lt t x) → totalKey h ≤ totalKey x) (λ (x : Float). totalKey h ≤ totalKey x) (λ x p q. q p) k (kept-pass (λ (x : Float). lt t x) s)
         (every-keep (λ (x : Float). T (lt t x) → totalKey h ≤ totalKey x) (λ (x : Float). lt t x) s (every-sort totalKey (λ (x : Float). T (lt t x) → totalKey h ≤ totalKey x) l (n .2))))
         (in-keep (λ (x : Float). lt t x) h s (in-every (λ (x : Float). In x s) h l (sort-every totalKey (λ (x : Float). In x s) l (every-in s)) (n .0)) (n .1))

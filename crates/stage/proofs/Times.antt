@@ -1,11 +1,8 @@
 -- The stage sample times by the lists that decide them: they are finite, and the next one is the next of the times of all windows. Assumes nothing.
-use mathlib.Core.Path.{_≡_, refl, sym, ap, _∙_, subst}
-use mathlib.Core.Logic.{inl, inr}
-use mathlib.Core.Bool.{Bool, true, false, _&&_, cond}
-use mathlib.Core.List.{List, [], _∷_, _++_, append-assoc}
-use Prim.Native.Nat.{ℕ, zero, suc, _-_, _<_}
-use native.Mathlib.Omega.{arith}
-use native.Mathlib.Decide.{decLe}
+use mathlib.Core.Path.{_≡_, sym, subst}
+use mathlib.Core.Bool.{Bool, true, false, cond}
+use mathlib.Core.List.{List, [], _∷_}
+use Prim.Native.Nat.{ℕ, _-_, _<_}
 use lib.Dec.{T}
 use lib.ListN.{length, getD, drop}
 use lib.Ieee.{Float, nan, fits, lt, le}
@@ -20,12 +17,11 @@ use Rattle.definitions.specs.ClipSet.{clip}
 use Rattle.definitions.specs.Samples.{clipBegin, clipEnd}
 use Rattle.definitions.specs.Value.{spans, inverse, onPair, stageTimesForClipTime}
 use Rattle.laws.specs.list.Every.{Every}
-use Rattle.laws.proofs.list.Every.{every-at, every-map, every-append, every-left, every-right, every-gather, every-take, every-drop}
+use Rattle.laws.proofs.list.Every.{every-at, every-map, every-append, every-gather, every-take, every-drop, every-below, every-part}
 use Rattle.laws.specs.set.Stored.{Stored}
 use Rattle.laws.proofs.set.Stored.{stored-finite}
-use Rattle.laws.proofs.list.Tests.{both-l, both-r, or-split}
 use Rattle.laws.specs.list.Places.{Fits}
-use Rattle.laws.proofs.cell.Inverse.{inverse-fin-up, inverse-fin-down}
+use Rattle.laws.proofs.cell.Inverse.{inverse-spanned}
 use Rattle.laws.specs.cell.Lent.{knotsOf}
 use Rattle.window.specs.declared.Bound.{Bound}
 use Rattle.window.specs.declared.Bound.the-variants.{At, Nothing}
@@ -41,26 +37,6 @@ use Rattle.stage.specs.Whole.{wholeTimes}
 use Rattle.stage.proofs.Ordered.{NextIs, after-all, after-none, after-next}
 use Rattle.stage.specs.Times.{gatheredTimes, timesOf, timesAfter, AcceptedTimes, NextTime}
 
--- ---- lists by places
-
-pub gather-append : {A : Type 0} (f : A → List Float) (a b : List A) → gather f (a ++ b) ≡ gather f a ++ gather f b
-gather-append f [] b = refl
-gather-append f (x ∷ a) b = ap (λ (l : List Float). f x ++ l) (gather-append f a b) ∙ sym (append-assoc (f x) (gather f a) (gather f b))
-
-pub every-below : (n : ℕ) → Every (λ (p : ℕ). p < n) (below n)
-every-below zero = tt
-every-below (suc n) = every-append (λ (p : ℕ). p < suc n) (below n) (n ∷ []) (every-map (λ (p : ℕ). p < n) (λ (p : ℕ). p < suc n) (λ p h. omega arith) (below n) (every-below n)) (omega arith, tt)
-
--- what holds of all times holds of one window's
-every-part : (P : Float → Type 0) (f : ℕ → List Float) (n q : ℕ) → q < n → Every P (gather f (below n)) → Every P (f q)
-every-part P f zero q l h = absurd (omega arith)
-every-part P f (suc n) q l h =
-    let k = subst (Every P) (gather-append f (below n) (n ∷ [])) h in
-    elim (decLe n q) [
-      | yes e ↦ let z : n ≡ q = omega arith in subst (λ (i : ℕ). Every P (f i)) z (every-left P (f n) [] (every-right P (gather f (below n)) (f n ++ []) k))
-      | no e ↦ every-part P f n q (omega arith) (every-left P (gather f (below n)) (f n ++ []) k)
-    ]
-
 -- ---- the times are finite, and none is before -2^40
 
 abbrev pub Timely : Float → Type 0
@@ -74,33 +50,9 @@ unfolding fits
 power-fits = tt
 
 -- an inverse time is not before the knot that it is measured from
-inverse-from : (q : Knot × Knot) (c : Float) → SoundSegment q → T (spans (q .0 .y) (q .1 .y) c) → T (finite (inverse (q .0) (q .1) c)) × T (le (q .0 .x) (inverse (q .0) (q .1) c))
-inverse-from q c s h = elim (or-split (up && from && to) (down && under && over) h) [
-  | inl u ↦ inverse-fin-up (q .0) (q .1) (s .first) (s .second) (s .wide) (both-l up from (both-l (up && from) to u)) c (both-r up from (both-l (up && from) to u)) (both-r (up && from) to u)
-  | inr u ↦ inverse-fin-down (q .0) (q .1) (s .first) (s .second) (s .wide) (both-l down under (both-l (down && under) over u)) c (both-r down under (both-l (down && under) over u)) (both-r (down && under) over u)
-]
-  where
-    up : Bool
-    up = lt (q .0 .y) (q .1 .y)
-
-    from : Bool
-    from = le (q .0 .y) c
-
-    to : Bool
-    to = le c (q .1 .y)
-
-    down : Bool
-    down = lt (q .1 .y) (q .0 .y)
-
-    under : Bool
-    under = le (q .1 .y) c
-
-    over : Bool
-    over = le c (q .0 .y)
-
 inverse-timely : (q : Knot × Knot) (c : Float) → SoundSegment q → T (spans (q .0 .y) (q .1 .y) c) → Timely (inverse (q .0) (q .1) c)
 inverse-timely q c s h =
-    let f = inverse-from q c s h in (
+    let f = inverse-spanned (q .0) (q .1) (s .first) (s .second) (s .wide) c h in (
       record { fitting = inverse-fits q c; finitely = f .0 },
       le-trans (power true 40) (q .0 .x) (inverse (q .0) (q .1) c) power-fits (s .first .fx) (inverse-fits q c) (within-lo 40 (q .0 .x) (s .first .bx)) (f .1),
     )

@@ -22,7 +22,7 @@ use Rattle.definitions.specs.Timing.{lastAtMost}
 use Rattle.definitions.specs.Value.{spans, inverse, onPair, stageTimesForClipTime}
 use Rattle.laws.proofs.list.Tests.{is-true, is-false, both, both-l, both-r, or-l, or-r, or-split}
 use Rattle.laws.specs.list.Every.{Every}
-use Rattle.laws.proofs.list.Every.{every-at, any-with, every-map, every-zip, every-append, every-left, every-right, every-keep, every-kept, every-by, every-gather}
+use Rattle.laws.proofs.list.Every.{every-at, any-with, every-map, every-zip, every-append, every-left, every-right, every-keep, every-kept, every-by, every-gather, every-below}
 use Rattle.laws.proofs.list.Places.{atMost, at-most-length, beyond, up-to, last-is, last-inside}
 use Rattle.laws.specs.list.Places.{Fits}
 use Rattle.laws.specs.cell.Lent.{knotsOf}
@@ -40,7 +40,7 @@ use Rattle.stage.proofs.Ordered.{total-same}
 use Rattle.stage.specs.Whole.{wholeTimes, Windows}
 use Rattle.stage.proofs.Whole.{own-from, own-below}
 use Rattle.stage.specs.Times.{gatheredTimes, AcceptedTimes}
-use Rattle.stage.proofs.Times.{every-below, part-first, part-in}
+use Rattle.stage.proofs.Times.{part-first, part-in}
 use Rattle.stage.specs.Zeros.{isMinusZero, anyMinusZero, samplesAtZero, minusGathered, Sampled}
 
 -- the cases of the program: no start and no knot

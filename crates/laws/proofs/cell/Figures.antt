@@ -4,20 +4,26 @@ use mathlib.Core.Bool.{false}
 use mathlib.Core.List.{List, [], _∷_}
 use mathlib.Core.Option.{some}
 use Prim.Native.Nat.{ℕ}
-use lib.Ieee.{Float, binary64, fits, round, add, sub, mul, div, neg, lt, le, eq, ofBits}
+use native.Mathlib.Omega.{arith}
+use lib.Ieee.{Float, binary64, fits, round, add, sub, mul, div, neg, lt, le, eq, ofBits, isNan}
 use Rattle.gf.specs.Doubles.{within, lerp, share}
 use Rattle.definitions.specs.declared.Knot.{Knot}
 use Rattle.definitions.specs.declared.Start.{Start}
-use Rattle.definitions.specs.ClipSet.{ClipSet, stage}
+use Rattle.definitions.specs.ClipSet.{ClipSet, stage, nanDefault, equalKnots}
 use Rattle.definitions.specs.Timing.{lastAtMost, activePosition, onSegment, mapTime, mapStageToClip}
-use Rattle.definitions.specs.Samples.{Samples, clipBegin, clipEnd, clipTimes, heldPlace}
+use Rattle.definitions.specs.Samples.{Samples, clipBegin, clipEnd, clipTimes, heldPlace, unlikeLengths, samples1, samples2, badMarks, closes, samples9, samplesNumber}
 use Rattle.definitions.specs.declared.Source.the-variants.{Sample as sample}
-use Rattle.definitions.specs.Value.{blockedAt, contributes, readClip, directSource, window, stageTimesForClipTime, windowSampleTimes, gathered, lowerNeighbour, upperNeighbour, jump}
+use Rattle.definitions.specs.Value.{blockedAt, contributes, readClip, directSource, window, stageTimesForClipTime, windowSampleTimes, gathered, lowerNeighbour, upperNeighbour, jump, valueInSet}
+use Rattle.definitions.specs.StageSamples.{stageSampleTimes}
+use Rattle.definitions.specs.Facts.{StageSampleTimesAre, valueInOrder}
+use Rattle.laws.specs.Facts.{Given}
 use Rattle.laws.specs.cell.Knots.{flat, segment, lineOf}
 use Rattle.laws.proofs.cell.Direct.{SoundSet, SoundSamples}
 use Rattle.laws.specs.cell.Stretches.{heldFrom}
 use Rattle.laws.specs.cell.Cells.{constant, reading, directCell, cellOf}
 use Rattle.laws.proofs.cell.Tracks.{SoundValues}
+use Rattle.laws.proofs.cell.StageTimes.{stage-sample-times}
+use Rattle.laws.proofs.cell.InOrder.{value-in-order}
 
 abbrev frac : ℕ → ℕ → Float
 frac a b = round binary64 false a b
@@ -65,6 +71,36 @@ sound-samples = record { times = (tt, (tt, tt)) }
 sound-values : SoundValues (set two saw) samples
 unfolding fits round
 sound-values = record { values = (tt, (tt, tt)); default = tt }
+
+-- what 01's facts ask: a well-formed set, and samples that are accepted for it
+given : Given (set two saw) samples
+unfolding fits round within le lt eq neg isNan equalKnots nanDefault samplesNumber samples1 unlikeLengths samples2 samples9 badMarks closes clipBegin clipEnd clipTimes
+given = record {
+  sound = record {
+    few-clips = omega arith;
+    few-active = omega arith;
+    few-knots = omega arith;
+    few-blocks = omega arith;
+    times = (record { fitting = tt; inside = tt }, (record { fitting = tt; inside = tt }, tt));
+    strictly = (tt, tt);
+    named = (omega arith, (omega arith, tt));
+    xs = (record { fitting = tt; inside = tt }, (record { fitting = tt; inside = tt }, (record { fitting = tt; inside = tt }, tt)));
+    ys = (record { fitting = tt; inside = tt }, (record { fitting = tt; inside = tt }, (record { fitting = tt; inside = tt }, tt)));
+    weakly = (tt, (tt, tt));
+    no-three = refl;
+    blocks = tt;
+    default = record { mark = omega arith; number = refl; fitting = tt };
+  };
+  doubles = (tt, (tt, tt));
+  accepted = refl;
+}
+
+times-so : StageSampleTimesAre (set two saw) (stageSampleTimes (set two saw) samples)
+times-so = stage-sample-times (set two saw) samples given
+
+value-so : valueInSet (set two saw) samples (stage (frac 5 2)) ≡ valueInOrder (set two saw) samples (stage (frac 5 2))
+unfolding fits round
+value-so = value-in-order (set two saw) samples given (stage (frac 5 2)) (record { fitting = tt; finitely = tt })
 
 -- ---- the cells at 2.5. The inverse time of 7.6 is 2.0999999999999996, whose clip time is below 7.6.
 

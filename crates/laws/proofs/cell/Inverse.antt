@@ -1,7 +1,8 @@
 -- The inverse time of a sample in a segment: it is finite, at or above the segment's lower x, and it keeps or turns the samples' order as the segment
 -- rises or falls. So in one segment the samples whose inverse time is above t are those from one place on, or up to one. Assumes nothing.
 use mathlib.Core.Path.{_≡_, refl, sym, ap, ap₂, _∙_, subst}
-use mathlib.Core.Bool.{Bool, true, false, not}
+use mathlib.Core.Logic.{inl, inr}
+use mathlib.Core.Bool.{Bool, true, false, not, _&&_}
 use Prim.Native.Nat.{ℕ, zero, suc, _+_, _*_, _≤_}
 use native.Mathlib.Nat.{mul-pos, mul-comm, add-comm, le-of-eq}
 use lib.Dec.{T}
@@ -15,7 +16,8 @@ use Rattle.gf.proofs.Ops.{nought, sub-over, sub-under, sub-rounds, sub-mono, ad
 use Rattle.gf.proofs.Exactly.{one, nought-fits, sub-nonneg, sub-nonpos, sub-positive, div-nonneg, div-le-one, mul-nonneg, mul-le-self, add-ge-self, within-finite, within-more, add-within, sub-within}
 use Rattle.gf.specs.Doubles.{within, power}
 use Rattle.definitions.specs.declared.Knot.{Knot}
-use Rattle.definitions.specs.Value.{inverse}
+use Rattle.definitions.specs.Value.{spans, inverse}
+use Rattle.laws.proofs.list.Tests.{both-l, both-r, or-split}
 use Rattle.laws.specs.list.Places.{Fits}
 use Rattle.laws.specs.cell.Knots.{SoundKnot}
 
@@ -252,3 +254,29 @@ module _ (a b : Knot) (A : SoundKnot a) (B : SoundKnot b) (wide : T (le (a .x) (
         shifted-mono (share d) (share c) (share-down d r s) (share-down c p q)
         (rw (sym (div-neg (sub binary64 d (a .y)) (sub binary64 (b .y) (a .y))), sym (div-neg (sub binary64 c (a .y)) (sub binary64 (b .y) (a .y))))
         (div-mono binary64 (drop d r s) (drop c p q) fall (drop-fin d r s) (drop-fin c p q) (neg-le (sub binary64 c (a .y)) (sub binary64 d (a .y)) (sub-mono binary64 c d (a .y) (c-fin-down c p q) (c-fin-down d r s) h ay-fin)) fall-pos))
+
+-- ---- a segment that spans the sample, whichever way it goes
+
+pub inverse-spanned : (a b : Knot) → SoundKnot a → SoundKnot b → T (le (a .x) (b .x)) → (c : Float) → T (spans (a .y) (b .y) c) → T (finite (inverse a b c)) × T (le (a .x) (inverse a b c))
+inverse-spanned a b A B wide c h = elim (or-split (up && from && to) (down && under && over) h) [
+  | inl u ↦ inverse-fin-up a b A B wide (both-l up from (both-l (up && from) to u)) c (both-r up from (both-l (up && from) to u)) (both-r (up && from) to u)
+  | inr u ↦ inverse-fin-down a b A B wide (both-l down under (both-l (down && under) over u)) c (both-r down under (both-l (down && under) over u)) (both-r (down && under) over u)
+]
+  where
+    up : Bool
+    up = lt (a .y) (b .y)
+
+    from : Bool
+    from = le (a .y) c
+
+    to : Bool
+    to = le c (b .y)
+
+    down : Bool
+    down = lt (b .y) (a .y)
+
+    under : Bool
+    under = le (b .y) c
+
+    over : Bool
+    over = le c (a .y)

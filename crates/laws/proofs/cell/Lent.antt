@@ -50,7 +50,7 @@ knot-times (x ∷ xs) (y ∷ ys) e = ap (λ (l : List Float). x ∷ l) (knot-tim
 
 -- ---- the laws' premises
 
-chain-ascending : (xs : List Float) → Chain Lt xs → T (ascending xs)
+pub chain-ascending : (xs : List Float) → Chain Lt xs → T (ascending xs)
 chain-ascending [] c = tt
 chain-ascending (x ∷ xs) c = go x xs c
   where

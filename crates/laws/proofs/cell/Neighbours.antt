@@ -17,7 +17,7 @@ use Rattle.definitions.specs.Timing.{activePosition}
 use Rattle.definitions.specs.Samples.{Samples}
 use Rattle.definitions.specs.Value.{directSource, gathered, lowerNeighbour, upperNeighbour, maximum, minimum, greatest, jump}
 use Rattle.laws.specs.list.Every.{Every}
-use Rattle.laws.proofs.list.Every.{any-with, every-zip, every-keep, every-kept}
+use Rattle.laws.proofs.list.Every.{any-with, every-zip, every-keep, kept-pass, every-kept}
 use Rattle.laws.specs.list.Places.{Fits, Number}
 use Rattle.laws.proofs.cell.Places.{le-same, lt-same}
 use Rattle.laws.specs.cell.Knots.{SoundKnot}
@@ -87,14 +87,6 @@ every-none : {A : Type 0} (l : List A) → Every (λ (y : A). ⊥) l → l ≡ [
 every-none [] h = refl
 every-none (x ∷ l) h = absurd (h .0)
 
-kept-pass : (p : Float → Bool) (l : List Float) → Every (λ (x : Float). T (p x)) (keep p l)
-kept-pass p [] = tt
-kept-pass p (x ∷ l) = go (p x) (λ h. h) (kept-pass p l)
-  where
-    go : (b : Bool) → (T b → T (p x)) → Every (λ (y : Float). T (p y)) (keep p l) → Every (λ (y : Float). T (p y)) (cond b (x ∷ keep p l) (keep p l))
-    go true h r = (h tt, r)
-    go false h r = r
-
 -- ---- the neighbours
 
 module _ (times : List Float) (fit : Every Fits times) (t : Float) (ft : Fits t) where
@@ -121,6 +113,10 @@ module _ (times : List Float) (fit : Every Fits times) (t : Float) (ft : Fits t)
           let b = alike-eq (w .0) l (w .2 .0) (L .fits) (w .1) in
           let c = w .2 .1 (le-trans (w .0) l t (w .2 .0) (L .fits) ft (b .0) (L .upto)) in
           (m, refl, (le-trans l (w .0) m (L .fits) (w .2 .0) fm (b .1) c, a))
+
+  pub lower-fits : (m : Float) → lowerNeighbour times t ≡ some m → Fits m
+  unfolding lowerNeighbour
+  lower-fits m q = maximum-one Fits m earlier (every-keep Fits (λ (x : Float). le x t) times fit) q
 
   pub lower-none : Every (λ (x : Float). T (le x t) → ⊥) times → lowerNeighbour times t ≡ none
   unfolding lowerNeighbour
@@ -150,6 +146,10 @@ module _ (times : List Float) (fit : Every Fits times) (t : Float) (ft : Fits t)
           let b = alike-eq (w .0) h (w .2 .0) (U .fits) (w .1) in
           let c = w .2 .1 (lt-le-trans t h (w .0) ft (U .fits) (w .2 .0) (U .above) (b .1)) in
           (m, refl, (a, le-trans m (w .0) h fm (w .2 .0) (U .fits) c (b .0)))
+
+  pub upper-fits : (m : Float) → upperNeighbour times t ≡ some m → Fits m
+  unfolding upperNeighbour
+  upper-fits m q = minimum-one Fits m later (every-keep Fits (λ (x : Float). lt t x) times fit) q
 
   pub upper-none : Every (λ (x : Float). T (lt t x) → ⊥) times → upperNeighbour times t ≡ none
   unfolding upperNeighbour
@@ -193,18 +193,12 @@ module _ (set : ClipSet) (s : Samples) (S : SoundSet set) (A : SoundSamples s) (
     by-jump b e =
         let m = lower-found times fit t ft l L in
         let k = upper-found times fit t ft h U in
-        let fm : Fits (m .0) = fits-of (m .0) (m .1) in
-        let fk : Fits (k .0) = above-of (k .0) (k .1) in
+        let fm : Fits (m .0) = lower-fits times fit t ft (m .0) (m .1) in
+        let fk : Fits (k .0) = upper-fits times fit t ft (k .0) (k .1) in
         held-by (some (m .0)) (some (k .0)) (m .1) (k .1)
         ∙ ap (λ (c : Bool). cellBy set s (stage t) (cond c none (some (m .0)))) (sym (jump-alike l (m .0) h (k .0) (L .fits) fm (U .fits) fk (m .2) (k .2) (set .knots) (S .knots)) ∙ e)
         ∙ go b (m .0) (direct-alike set s S A l (m .0) (L .fits) fm (m .2))
       where
-        fits-of : (m : Float) → lowerNeighbour times t ≡ some m → Fits m
-        fits-of m q = maximum-one Fits m (keep (λ (x : Float). le x t) times) (every-keep Fits (λ (x : Float). le x t) times fit) (unfold lowerNeighbour in q)
-
-        above-of : (m : Float) → upperNeighbour times t ≡ some m → Fits m
-        above-of m q = minimum-one Fits m (keep (λ (x : Float). lt t x) times) (every-keep Fits (λ (x : Float). lt t x) times fit) (unfold upperNeighbour in q)
-
         go : (b : Bool) (m : Float) → directSource set s (stage l) ≡ directSource set s (stage m) → cellBy set s (stage t) (cond b none (some m)) ≡ cond b (directCell set s (stage t)) (constant (directSource set s (stage l)))
         go true m d = refl
         go false m d = ap constant (sym d)

@@ -77,7 +77,7 @@ inf-above (inf s) h = absurd h
 inf-above (fin s m e) h = tt
 
 -- what holds of every start's time holds of one of them
-every-start : (P : Float → Type 0) (active : List Start) (i : ℕ) → Every P (activeTimes active) → Every P (startOf (getElem? active i))
+pub every-start : (P : Float → Type 0) (active : List Start) (i : ℕ) → Every P (activeTimes active) → Every P (startOf (getElem? active i))
 every-start P [] i h = tt
 every-start P (a ∷ rest) zero h = (h .0, tt)
 every-start P (a ∷ rest) (suc i) h = every-start P rest i (h .1)

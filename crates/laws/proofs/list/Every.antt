@@ -1,16 +1,17 @@
 -- A property of every entry of a list, and a relation between neighbours: by entries, by places, and through `map`. Assumes nothing.
-use mathlib.Core.Path.{_≡_, refl}
+use mathlib.Core.Path.{_≡_, refl, sym, ap, _∙_, subst}
 use mathlib.Core.Logic.{inl, inr}
 use Prim.Native.Nat.{ℕ, zero, suc, _≤_, _<_, zero-le, suc-le-suc}
 use native.Mathlib.Nat.{not-suc-le-zero, le-of-suc-le-suc}
 use mathlib.Core.Bool.{Bool, true, false, not, cond}
 use native.Mathlib.Omega.{arith}
-use mathlib.Core.List.{List, [], _∷_, _++_, map}
+use native.Mathlib.Decide.{decLe}
+use mathlib.Core.List.{List, [], _∷_, _++_, map, append-assoc}
 use lib.Dec.{T}
 use lib.ListN.{length, getD, take, drop}
 use lib.Ieee.Fits.{and-l, and-r}
-use Rattle.definitions.specs.Lists.{any, all, keep, gather, pairsFrom, pairs, zipWith}
-use Rattle.laws.proofs.list.Tests.{or-false, or-split, not-false}
+use Rattle.definitions.specs.Lists.{any, all, keep, gather, below, pairsFrom, pairs, zipWith}
+use Rattle.laws.proofs.list.Tests.{both, or-false, or-split, not-false}
 use Rattle.laws.specs.list.Every.{Every, ChainFrom, Chain}
 
 module _ {A : Type 0} where
@@ -51,6 +52,10 @@ module _ {A : Type 0} where
   pub any-not-every : (p : A → Bool) (xs : List A) → any (λ (x : A). not (p x)) xs ≡ false → Every (λ (x : A). T (p x)) xs
   any-not-every p xs e = every-map (λ (x : A). not (p x) ≡ false) (λ (x : A). T (p x)) (λ x h. not-false (p x) h) xs (any-every (λ (x : A). not (p x)) xs e)
 
+  pub every-all : (p : A → Bool) (xs : List A) → Every (λ (x : A). T (p x)) xs → T (all p xs)
+  every-all p [] h = tt
+  every-all p (x ∷ xs) h = both (p x) (all p xs) (h .0) (every-all p xs (h .1))
+
   pub all-every : (p : A → Bool) (xs : List A) → T (all p xs) → Every (λ (x : A). T (p x)) xs
   all-every p [] h = tt
   all-every p (x ∷ xs) h = (and-l (p x) (all p xs) h, all-every p xs (and-r (p x) (all p xs) h))
@@ -82,6 +87,15 @@ module _ {A : Type 0} where
       go : (b : Bool) → Every P (keep f xs) → Every P (cond b (x ∷ keep f xs) (keep f xs))
       go true r = (h .0, r)
       go false r = r
+
+  -- the entries that are kept pass
+  pub kept-pass : (f : A → Bool) (l : List A) → Every (λ (x : A). T (f x)) (keep f l)
+  kept-pass f [] = tt
+  kept-pass f (x ∷ l) = go (f x) (λ h. h) (kept-pass f l)
+    where
+      go : (b : Bool) → (T b → T (f x)) → Every (λ (y : A). T (f y)) (keep f l) → Every (λ (y : A). T (f y)) (cond b (x ∷ keep f l) (keep f l))
+      go true h r = (h tt, r)
+      go false h r = r
 
   -- what holds of the entries that pass
   pub every-kept : (P : A → Type 0) (f : A → Bool) (l : List A) → Every P (keep f l) → Every (λ (x : A). T (f x) → P x) l
@@ -202,6 +216,10 @@ module _ {A B : Type 0} where
   every-gather P Q f g [] h = tt
   every-gather P Q f g (x ∷ xs) h = every-append Q (f x) (gather f xs) (g x (h .0)) (every-gather P Q f g xs (h .1))
 
+  pub gather-append : (f : A → List B) (a b : List A) → gather f (a ++ b) ≡ gather f a ++ gather f b
+  gather-append f [] b = refl
+  gather-append f (x ∷ a) b = ap (λ (l : List B). f x ++ l) (gather-append f a b) ∙ sym (append-assoc (f x) (gather f a) (gather f b))
+
   -- for each of two lists in either order
   pub every-swap : (R : A → B → Type 0) (a : List A) (b : List B) → Every (λ (x : A). Every (λ (y : B). R x y) b) a → Every (λ (y : B). Every (λ (x : A). R x y) a) b
   every-swap R a [] h = tt
@@ -214,3 +232,19 @@ module _ {A B : Type 0} where
       rests : (l : List A) → Every (λ (x : A). R x y × Every (λ (z : B). R x z) b) l → Every (λ (x : A). Every (λ (z : B). R x z) b) l
       rests [] k = tt
       rests (x ∷ l) k = (k .0 .1, rests l (k .1))
+
+-- ---- for each of 0, 1, .., n - 1
+
+pub every-below : (n : ℕ) → Every (λ (p : ℕ). p < n) (below n)
+every-below zero = tt
+every-below (suc n) = every-append (λ (p : ℕ). p < suc n) (below n) (n ∷ []) (every-map (λ (p : ℕ). p < n) (λ (p : ℕ). p < suc n) (λ p h. omega arith) (below n) (every-below n)) (omega arith, tt)
+
+-- what holds of all that is gathered holds of each part
+pub every-part : {B : Type 0} (P : B → Type 0) (f : ℕ → List B) (n q : ℕ) → q < n → Every P (gather f (below n)) → Every P (f q)
+every-part P f zero q l h = absurd (not-suc-le-zero l)
+every-part P f (suc n) q l h =
+    let k = subst (Every P) (gather-append f (below n) (n ∷ [])) h in
+    elim (decLe n q) [
+      | yes e ↦ let z : n ≡ q = omega arith in subst (λ (i : ℕ). Every P (f i)) z (every-left P (f n) [] (every-right P (gather f (below n)) (f n ++ []) k))
+      | no e ↦ every-part P f n q (omega arith) (every-left P (gather f (below n)) (f n ++ []) k)
+    ]

@@ -1,5 +1,6 @@
 -- `resolver::Resolver::stage_sample_times` meets its contract: 20, the samples' number, else the list. Assumes nothing.
 use mathlib.Core.Path.{sym, ap, _∙_}
+use native.Mathlib.Omega.{arith}
 use lib.ListN.{length}
 use borrow.Author.Needs.{needs}
 use borrow.Author.Tests.{not-true, not-false}
@@ -10,7 +11,7 @@ use Rattle.definitions.specs.StageSamples.{stageSampleTimes}
 use Rattle.definitions.specs.Questions.{askStageSampleTimes, roomNumber}
 use Rattle.laws.specs.cell.Lent.{samplesOf}
 use Rattle.standing.proofs.Asked.{times-asked, times-are}
-use Rattle.resolver.proofs.Laws.{asked-20, judged-number, samples-refused, samples-passed, times-refused, times-replied, lent-is, is-asked}
+use Rattle.resolver.proofs.Laws.{asked-20, judged-number, samples-refused, samples-passed, times-refused, times-replied, lent-is, is-asked, times-are-so}
 use Rattle.resolver.proofs.Resolver.stage_sample_times.Statement.{statement}
 use Rattle.resolver.proofs.Resolver.stage_sample_times.Tie as tie
 
@@ -28,14 +29,14 @@ returns : tie.Need-returns
 unfolding askStageSampleTimes
 returns c =
     let s = c .before .before .before .before .before .before .before in
-    times-refused (s .args .t1) (lent s) (now (s .args .out)) _ 20 (c .refused-list .ensures) (asked-20 _ (s .args .t1) (not-true _ (c .before .if1 .taken)))
+    times-refused (s .args .t1) (lent s) (now (s .args .out)) _ 20 (c .refused-list .ensures) (λ z. omega arith) (asked-20 _ (s .args .t1) (not-true _ (c .before .if1 .taken)))
 
 returns-2 : tie.Need-returns-2
 unfolding askStageSampleTimes
 returns-2 c =
     let p = c .before in
     let s = p .before .before .before .before .before .before .before .before in
-    times-refused (s .args .t1) (lent s) (now (s .args .out)) _ _ (c .refused-list2 .ensures)
+    times-refused (s .args .t1) (lent s) (now (s .args .out)) _ _ (c .refused-list2 .ensures) (p .if2 .taken)
     (samples-refused (lent s) (λ (x : ClipSet). roomNumber (length (now (s .args .out))) (length (stageSampleTimes x (lent s)))) (λ (x : ClipSet). stageSampleTimes x (lent s)) (s .args .t1) (not-false _ (p .before .before .if1 .left)) _ (judged-number (s .args .t1) (p .before .samples-number .ensures)) (p .if2 .taken))
 
 stage-sample-times-requires : tie.Need-stage-sample-times-requires
@@ -56,6 +57,7 @@ returns-3 c =
     ∙ ap (λ (x : ClipSet). stageSampleTimes x (lent s)) (lent-is (s .args .t1) (s .pre) stands (p .before .samples-number .ensures) (p .if2 .left)))
     (w .stage-sample-times .ensures)
     (samples-passed (lent s) (λ (x : ClipSet). roomNumber (length (now (s .args .out))) (length (stageSampleTimes x (lent s)))) (λ (x : ClipSet). stageSampleTimes x (lent s)) (s .args .t1) stands (sym (judged-number (s .args .t1) (p .before .samples-number .ensures)) ∙ p .if2 .left))
+    stands (times-are-so (s .args .t1) (s .pre) stands (p .before .samples-number .ensures) (p .if2 .left))
 
 pub stage-sample-times-spec : {M : Type 1} → statement M
 stage-sample-times-spec =
