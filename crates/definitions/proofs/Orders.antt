@@ -24,7 +24,7 @@ use Rattle.definitions.specs.Value.{says, blockedAt, contributes, readCl
 use Rattle.definitions.specs.StageSamples.{dropEqual, dedup, stageSampleTimes, suppliedAt, stageSamples, anySamples, untimedAnswer}
 use Rattle.definitions.specs.Normalize.{timeSamples, merge, mergeEqual, normalizeTimeSamples, normalizeNumber}
 use Rattle.definitions.specs.Track.{bakeNumber}
-use Rattle.definitions.specs.Questions.{Reply, refused, replied, askActiveClip, askClipTime, askValue, askStageSampleTimes, askStageSamples, askUntimed}
+use Rattle.definitions.specs.Questions.{Reply, refused, replied, askActiveClip, askClipTime, askValue, askStageSampleTimes, askStageSamples, askStageSampleCount, askUntimed}
 use Rattle.definitions.proofs.Sets.{n, frac, bytes, holds, fields, templated, noDefault, two, one}
 
 -- ---- how a row is written: both tests hold of the call, and it gets this number
@@ -162,11 +162,12 @@ table =
     ∷ row true (samples9 falls) (numberOf (askValue noSet falls (stage (n 0)))) 20
     ∷ row (samples9 falls) (not (finite nan)) (numberOf (askValue (stands two) falls (stage nan))) 9
     ∷ row true (samples9 falls) (numberOf (askUntimed noSet falls)) 20
-    -- stage sample times, stage samples, the bake: 20, the samples' numbers, 22
+    -- stage sample times, stage samples, their count, the bake: 20, the samples' numbers, 22
     ∷ row true (samples9 falls) (numberOf (askStageSampleTimes noSet falls 0)) 20
     ∷ row (samples9 falls) (ltb 0 (length (stageSampleTimes (explicitSet two) falls))) (numberOf (askStageSampleTimes (stands two) falls 0)) 9
     ∷ row true (samples9 falls) (numberOf (askStageSamples noSet falls 0)) 20
     ∷ row (samples9 falls) (ltb 0 (length (stageSamples (explicitSet two) falls))) (numberOf (askStageSamples (stands two) falls 0)) 9
+    ∷ row true (samples9 falls) (numberOf (askStageSampleCount noSet falls)) 20
     ∷ row true (samples9 falls) (bakeNumber noSet falls 0 1) 20
     ∷ row (samples9 falls) (ltb 0 1) (bakeNumber (stands two) falls 0 1) 9
     -- a name: 1, 2, 6, 22
@@ -189,5 +190,5 @@ unfolding
     contributes readClip firstReading interpolateMissingValue directSource window stageTimesForClipTime windowSampleTimes gathered lowerNeighbour
     upperNeighbour jump readingTime valueSource valueInSet apply isIdentity movedNumber moved sorted retimeStageTimes retimeNumber dropEqual dedup
     stageSampleTimes suppliedAt stageSamples anySamples untimedAnswer timeSamples merge mergeEqual normalizeTimeSamples normalizeNumber bakeNumber
-    askActiveClip askClipTime askValue askStageSampleTimes askStageSamples askUntimed
+    askActiveClip askClipTime askValue askStageSampleTimes askStageSamples askStageSampleCount askUntimed
 in-order = refl
