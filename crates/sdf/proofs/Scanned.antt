@@ -1,12 +1,12 @@
 -- What the tests over lent samples come to at a place of their lists. Assumes nothing.
-use mathlib.Core.Path.{_≡_, refl, sym, ap, ap₂, _∙_, subst}
+use mathlib.Core.Path.{_≡_, refl, sym, ap, ap₂, _∙_}
 use mathlib.Core.Bool.{Bool, true, false, _&&_, _||_, cond, true≢false}
 use mathlib.Core.List.{List, [], _∷_, _++_}
 use Prim.Native.Nat.{ℕ, _+_, _-_, _≤_, _<_}
 use native.Mathlib.Numerals.{add-one}
-use native.Mathlib.Nat.{le-trans, le-of-eq}
+use native.Mathlib.Nat.{le-trans, le-of-eq, lt-irrefl, lt-of-lt-of-le}
 use native.Mathlib.Omega.{arith}
-use borrow.Author.Tests.{ltb-true, ltb-false}
+use borrow.Author.Tests.{ltb-true, ltb-false, le-leb, lt-leb}
 use lib.Dec.{T, leb, ltb, eqb, eqb→eq, leb→le}
 use lib.ListN.{length, getD, take, drop}
 use lib.Ieee.{Float, nan, isNan}
@@ -14,6 +14,7 @@ use Rattle.definitions.specs.Lists.{any, all, zipWith, below}
 use Rattle.definitions.specs.ClipSet.{markValue, markBlock}
 use Rattle.definitions.specs.Samples.{nanValue, closes, clipBegin, clipEnd}
 use lib.Ieee.Fits.{and-l, and-r}
+use Rattle.laws.proofs.list.Tests.{is-false}
 use Rattle.sdf.specs.Parts.{part}
 use Rattle.lists.proofs.Fronts.{front, no-front}
 
@@ -43,10 +44,29 @@ module _ (vs : List Float) (ms : List ℕ) where
 
 -- ---- the ends
 
+closed-below : (e : ℕ) (ends : List ℕ) (count : ℕ) → T (closes e ends count) → e ≤ count
+unfolding closes
+closed-below e [] count h = le-of-eq (eqb→eq e count h)
+closed-below e (d ∷ ends) count h =
+    le-trans (leb→le e d (and-l (leb e d) (closes d ends count) h)) (closed-below d ends count (and-r (leb e d) (closes d ends count) h))
+
 module _ (ends : List ℕ) (count : ℕ) where
-  pub closes-on : (end i : ℕ) → i < length ends → closes end (drop i ends) count ≡ (leb end (getD ends i 0) && closes (getD ends i 0) (drop (i + 1) ends) count)
+  closes-on : (end i : ℕ) → i < length ends → closes end (drop i ends) count ≡ (leb end (getD ends i 0) && closes (getD ends i 0) (drop (i + 1) ends) count)
   unfolding closes
   closes-on end i h = ap (λ (l : List ℕ). closes end l count) (front ends i 0 h)
+
+  -- the end at i falls behind the one before, lies beyond the list, or is the next to go on from
+  pub closes-before : (end i : ℕ) → i < length ends → getD ends i 0 < end → closes end (drop i ends) count ≡ false
+  closes-before end i h k = closes-on end i h ∙ ap (λ (b : Bool). b && closes (getD ends i 0) (drop (i + 1) ends) count) (lt-leb end (getD ends i 0) k)
+
+  pub closes-beyond : (end i : ℕ) → i < length ends → count < getD ends i 0 → closes end (drop i ends) count ≡ false
+  closes-beyond end i h k =
+      let d = getD ends i 0 in
+      let rest : closes d (drop (i + 1) ends) count ≡ false = is-false _ (λ c. lt-irrefl count (lt-of-lt-of-le k (closed-below d (drop (i + 1) ends) count c))) in
+      closes-on end i h ∙ ap (λ (b : Bool). leb end d && b) rest ∙ and-no (leb end d)
+
+  pub closes-next : (end i : ℕ) → i < length ends → end ≤ getD ends i 0 → closes end (drop i ends) count ≡ closes (getD ends i 0) (drop (i + 1) ends) count
+  closes-next end i h k = closes-on end i h ∙ ap (λ (b : Bool). b && closes (getD ends i 0) (drop (i + 1) ends) count) (le-leb end (getD ends i 0) k)
 
   pub closes-end : (end i : ℕ) → length ends ≤ i → closes end (drop i ends) count ≡ eqb end count
   unfolding closes
@@ -95,21 +115,6 @@ no-nan (v ∷ vs) (m ∷ ms) e = go (isNan v) refl e (no-nan vs ms)
     go false f g rest = rest g ∙ sym (ap (λ (b : Bool). b || any (λ (b : Bool). b) (zipWith nanValue vs ms)) (number-no-nan v m f))
 
 -- ---- the clips' parts
-
-pub closed-below : (e : ℕ) (ends : List ℕ) (count : ℕ) → T (closes e ends count) → e ≤ count
-unfolding closes
-closed-below e [] count h = le-of-eq (eqb→eq e count h)
-closed-below e (d ∷ ends) count h =
-    le-trans (leb→le e d (and-l (leb e d) (closes d ends count) h)) (closed-below d ends count (and-r (leb e d) (closes d ends count) h))
-
--- the end at i lies between the one before and the list's length, and the later ones close from it
-pub closed-next : (ends : List ℕ) (count e i : ℕ) → i < length ends → T (closes e (drop i ends) count)
-    → (e ≤ getD ends i 0) × (getD ends i 0 ≤ count) × T (closes (getD ends i 0) (drop (i + 1) ends) count)
-closed-next ends count e i l h =
-    let d = getD ends i 0 in
-    let both : T (leb e d && closes d (drop (i + 1) ends) count) = subst T (closes-on ends count e i l) h in
-    let rest = and-r (leb e d) (closes d (drop (i + 1) ends) count) both in
-    (leb→le e d (and-l (leb e d) (closes d (drop (i + 1) ends) count) both), closed-below d (drop (i + 1) ends) count rest, rest)
 
 pub begin-next : (ends : List ℕ) (i : ℕ) → clipBegin ends (i + 1) ≡ getD ends i 0
 unfolding clipBegin

@@ -3,7 +3,7 @@ use definitions::limits::SAMPLES;
 ghost use mathlib.Core.Path.{_≡_};
 ghost use mathlib.Core.Bool.{Bool, not, _&&_, _||_, cond};
 ghost use Prim.Native.Nat.{_-_, _≤_};
-ghost use lib.Dec.{T, ltb};
+ghost use lib.Dec.{ltb};
 ghost use lib.ListN.{length, getD, take, drop};
 ghost use lib.Ieee.{nan, isNan, lt};
 ghost use Rattle.gf.specs.Doubles.{storable};
@@ -122,23 +122,6 @@ pub fn bad_marks(marks: &[u8]) -> bool
     1 < largest
 }
 
-// No end falls behind the one before, and the last is the list's length.
-pub fn closes(ends: &[u64], count: usize) -> bool
-    ensures { λ r. ⌜ r ≡ Samples.closes 0 (was ends) count ⌝ }
-{
-    let mut end: u64 = 0;
-    let mut i: usize = 0;
-    while i < ends.len() {
-        let next = ends[i];
-        if next < end {
-            return false;
-        }
-        end = next;
-        i += 1;
-    }
-    end == count as u64
-}
-
 // 0 where a time is below the one after it, else 1.
 fn fall(time: f64, next: f64) -> u64
     ensures { λ r. ⌜ r ≡ cond (lt time next) 0 1 ⌝ }
@@ -197,11 +180,10 @@ fn unstorable_bound(times: &[f64], begin: usize, end: usize) -> bool
     !gf::is_storable(times[end - 1])
 }
 
-// The times ascend within each clip, and all may be stored: as many fall as do between two clips, and times that ascend lie
-// between their first and their last.
-fn parts_sound(times: &[f64], ends: &[u64]) -> bool
-    requires { ⌜ T (Samples.closes 0 (now ends) (length (now times))) ⌝ }
-    ensures { λ r. ⌜ r ≡ (Parts.partsAscend (was times) (was ends) && not (anyUnstorable (was times))) ⌝ }
+// The ends close the list, the times ascend within each clip, and all may be stored: as many times fall as do between two clips,
+// and times that ascend lie between their first and their last. An end is a place of the list only once it is known to be inside.
+pub fn sound(times: &[f64], ends: &[u64]) -> bool
+    ensures { λ r. ⌜ r ≡ (Samples.closes 0 (was ends) (length (was times)) && (Parts.partsAscend (was times) (was ends) && not (anyUnstorable (was times)))) ⌝ }
 {
     let all = falls(times);
     let mut between: u64 = 0;
@@ -209,6 +191,12 @@ fn parts_sound(times: &[f64], ends: &[u64]) -> bool
     let mut i: usize = 0;
     while i < ends.len() {
         let end = ends[i] as usize;
+        if end < begin {
+            return false;
+        }
+        if end > times.len() {
+            return false;
+        }
         if unstorable_bound(times, begin, end) {
             return false;
         }
@@ -216,15 +204,8 @@ fn parts_sound(times: &[f64], ends: &[u64]) -> bool
         begin = end;
         i += 1;
     }
-    all == between
-}
-
-// The ends close the list, the times ascend within each clip, and all may be stored.
-pub fn sound(times: &[f64], ends: &[u64]) -> bool
-    ensures { λ r. ⌜ r ≡ (Samples.closes 0 (was ends) (length (was times)) && (Parts.partsAscend (was times) (was ends) && not (anyUnstorable (was times)))) ⌝ }
-{
-    if !closes(ends, times.len()) {
+    if begin != times.len() {
         return false;
     }
-    parts_sound(times, ends)
+    all == between
 }
