@@ -235,6 +235,25 @@ fn normalize_table() {
     println!("| {} | {} | {:.2} | 2 | {} |", time(rust), time(library), library / rust, verdict(library / rust <= 2.0));
 }
 
+/// Table 5: reads of set A's track, the longest, at times of its changes, more of them than a processor's predictor learns.
+fn read_table(cases: &[Case]) {
+    let case = cases.iter().find(|case| case.name == "A").expect("set A");
+    let track = Library::new(&case.set, &case.samples).bake(LONGEST);
+    let mut random = Random(5);
+    let asked: Vec<f64> = (0..1 << 16).map(|_| track.times[random.bits() as usize % track.times.len()]).collect();
+    let ask_plain = &mut |i: usize| {
+        let found = track.times.partition_point(|&time| time <= asked[i]);
+        let entry =
+            found.checked_sub(1).map_or((track.head.mark, track.head.value), |at| (track.marks[at], track.values[at]));
+        _ = black_box(entry);
+    };
+    let ask_library = &mut |i: usize| _ = black_box(track.read(tavitrozy::StageTime(asked[i])));
+    let taken = take_turns(asked.len(), &mut [ask_plain, ask_library]);
+    println!("\n## Reading a track\n\n| changes | plain Rust | library | target | met |\n|---|---|---|---|---|");
+    let (plain, library, met) = (time(taken[0]), time(taken[1]), verdict(taken[1] <= 2e-7));
+    println!("| {} | {plain} | {library} | 200 ns | {met} |", track.times.len());
+}
+
 fn machine() {
     let told = std::fs::read_to_string("/proc/cpuinfo").unwrap_or_default();
     let name = told.lines().find_map(|line| line.strip_prefix("model name")).unwrap_or("unknown");
@@ -250,6 +269,7 @@ fn main() {
     match arguments.iter().map(String::as_str).collect::<Vec<_>>()[..] {
         ["bake", side, name, room] => tell_bake(side, name, room.parse().expect("a count"), &limits),
         ["check", cases, replies] => check::by_replies(cases, replies),
+        ["read"] => read_table(&sets::read(&limits)),
         _ => {
             machine();
             let cases: Vec<Case> = sets::read(&limits).into_iter().chain(sets::everyday()).collect();
@@ -257,6 +277,7 @@ fn main() {
             bake_table(&cases, &values, limit);
             growth_tables(limit);
             normalize_table();
+            read_table(&cases);
         }
     }
 }

@@ -4,104 +4,111 @@ use Prim.Native.Nat.{ℕ, zero, suc, _+_, _-_, _/_, _≤_, _<_, zero-le, suc-le-
 use native.Mathlib.Nat.{not-suc-le-zero, le-of-suc-le-suc}
 use native.Mathlib.Decide.{decLe}
 use native.Mathlib.Omega.{arith}
-use mathlib.Core.Path.{_≡_, refl, sym, ap, ap₂, _∙_, subst}
-use mathlib.Core.Bool.{Bool, true, false, _&&_, cond}
-use mathlib.Core.List.{List, [], _∷_, map}
+use mathlib.Core.Path.{_≡_, refl, sym, ap, _∙_, subst}
+use mathlib.Core.Bool.{Bool, true, false, cond}
+use mathlib.Core.List.{List, [], _∷_}
 use lib.Dec.{T, ltb, leb·suc-suc}
 use lib.ListN.{length, getD}
 use lib.Ieee.{Float, nan, binary64, fits, lt, le}
 use lib.Ieee.Fits.{and-l, and-r}
 use borrow.Author.Tests.{lt-ltb, le-ltb}
 use Rattle.gf.proofs.KeyLaws.{le-trans, lt→le}
-use Rattle.definitions.specs.Lists.{all, pairsFrom}
+use Rattle.definitions.specs.Lists.{all, pairsFrom, countFrom}
 use Rattle.definitions.specs.Doubles.{ascending}
-use Rattle.definitions.specs.Track.{Entry, Change, Track, changeTimes, readFrom, readTrack}
+use Rattle.definitions.specs.Track.{Entry, Change, changeTimes, readFrom, readTrack}
 use Rattle.definitions.specs.Reading.{entry, byHalves, partitionPoint, heldAfter, readByHalves, ReadsHeld}
-
-abbrev middle : ℕ → ℕ → ℕ
-middle lo hi = lo + (hi - lo) / 2
 
 module _ (test : ℕ → Bool) where
   -- ---- the steps
 
-  halve : (steps lo hi : ℕ) → lo < hi → byHalves test (suc steps) lo hi ≡ cond (test (middle lo hi)) (byHalves test steps (middle lo hi + 1) hi) (byHalves test steps lo (middle lo hi))
+  pub halves-few : (steps at n : ℕ) → n ≤ 16 → byHalves test steps at n ≡ at + countFrom test at n
   unfolding byHalves
-  halve steps lo hi h = rw (lt-ltb lo hi h)
+  halves-few zero at n h = refl
+  halves-few (suc steps) at n h = rw (le-ltb 16 n h)
 
-  pub halves-end : (steps lo hi : ℕ) → hi ≤ lo → byHalves test steps lo hi ≡ lo
+  halve : (steps at n : ℕ) → 16 < n → byHalves test (suc steps) at n ≡ byHalves test steps (cond (test (at + n / 2)) (at + n / 2) at) (n - n / 2)
   unfolding byHalves
-  halves-end zero lo hi h = refl
-  halves-end (suc steps) lo hi h = rw (le-ltb lo hi h)
+  halve steps at n h = rw (lt-ltb 16 n h)
 
   -- any number of steps that suffices will do
-  halves-steps : (m n lo hi : ℕ) → hi - lo ≤ m → hi - lo ≤ n → byHalves test m lo hi ≡ byHalves test n lo hi
-  halves-steps zero n lo hi a b = halves-end 0 lo hi (omega arith) ∙ sym (halves-end n lo hi (omega arith))
-  halves-steps (suc m) zero lo hi a b = halves-end (suc m) lo hi (omega arith) ∙ sym (halves-end 0 lo hi (omega arith))
-  halves-steps (suc m) (suc n) lo hi a b = go (decLe hi lo) (halves-steps m n (middle lo hi + 1) hi) (halves-steps m n lo (middle lo hi))
+  halves-steps : (m k at n : ℕ) → n ≤ m → n ≤ k → byHalves test m at n ≡ byHalves test k at n
+  halves-steps zero k at n a b = halves-few 0 at n (omega arith) ∙ sym (halves-few k at n (omega arith))
+  halves-steps (suc m) zero at n a b = halves-few (suc m) at n (omega arith) ∙ sym (halves-few 0 at n (omega arith))
+  halves-steps (suc m) (suc k) at n a b = go (decLe n 16) (halves-steps m k (cond (test (at + n / 2)) (at + n / 2) at) (n - n / 2))
     where
-      go : Dec (hi ≤ lo)
-          → (hi - (middle lo hi + 1) ≤ m → hi - (middle lo hi + 1) ≤ n → byHalves test m (middle lo hi + 1) hi ≡ byHalves test n (middle lo hi + 1) hi)
-          → (middle lo hi - lo ≤ m → middle lo hi - lo ≤ n → byHalves test m lo (middle lo hi) ≡ byHalves test n lo (middle lo hi))
-          → byHalves test (suc m) lo hi ≡ byHalves test (suc n) lo hi
-      go (yes h) up down = halves-end (suc m) lo hi h ∙ sym (halves-end (suc n) lo hi h)
-      go (no h) up down =
-          halve m lo hi (omega arith)
-          ∙ ap₂ (cond (test (middle lo hi))) (up (omega arith) (omega arith)) (down (omega arith) (omega arith))
-          ∙ sym (halve n lo hi (omega arith))
+      go : Dec (n ≤ 16) → (n - n / 2 ≤ m → n - n / 2 ≤ k → byHalves test m (cond (test (at + n / 2)) (at + n / 2) at) (n - n / 2) ≡ byHalves test k (cond (test (at + n / 2)) (at + n / 2) at) (n - n / 2))
+          → byHalves test (suc m) at n ≡ byHalves test (suc k) at n
+      go (yes h) r = halves-few (suc m) at n h ∙ sym (halves-few (suc k) at n h)
+      go (no h) r = halve m at n (omega arith) ∙ r (omega arith) (omega arith) ∙ sym (halve k at n (omega arith))
 
   -- one step, by the test in the middle
-  module _ (lo hi : ℕ) (h : lo < hi) where
-    halves-by : (b : Bool) → test (middle lo hi) ≡ b → byHalves test (hi - lo) lo hi ≡ cond b (byHalves test (hi - lo) (middle lo hi + 1) hi) (byHalves test (hi - lo) lo (middle lo hi))
-    halves-by b e =
-        halves-steps (hi - lo) (suc (hi - lo)) lo hi (omega arith) (omega arith)
-        ∙ halve (hi - lo) lo hi h
-        ∙ ap (λ (b : Bool). cond b (byHalves test (hi - lo) (middle lo hi + 1) hi) (byHalves test (hi - lo) lo (middle lo hi))) e
+  pub halves-by : (at n : ℕ) → 16 < n → (b : Bool) → test (at + n / 2) ≡ b → byHalves test n at n ≡ byHalves test (n - n / 2) (cond b (at + n / 2) at) (n - n / 2)
+  halves-by at n h b e =
+      halves-steps n (suc n) at n (omega arith) (omega arith)
+      ∙ halve n at n h
+      ∙ ap (λ (x : Bool). byHalves test n (cond x (at + n / 2) at) (n - n / 2)) e
+      ∙ halves-steps n (n - n / 2) (cond b (at + n / 2) at) (n - n / 2) (omega arith) (omega arith)
 
-    pub halves-up : test (middle lo hi) ≡ true → byHalves test (hi - lo) lo hi ≡ byHalves test (hi - (middle lo hi + 1)) (middle lo hi + 1) hi
-    halves-up e = halves-by true e ∙ halves-steps (hi - lo) (hi - (middle lo hi + 1)) (middle lo hi + 1) hi (omega arith) (omega arith)
+  pub count-one : (k n : ℕ) → 0 < n → countFrom test k n ≡ cond (test k) 1 0 + countFrom test (k + 1) (n - 1)
+  unfolding countFrom
+  count-one k zero h = absurd (not-suc-le-zero h)
+  count-one k (suc n) h =
+      let e : k + 1 ≡ suc k = omega arith in
+      let f : suc n - 1 ≡ n = omega arith in
+      rw (e, f)
 
-    pub halves-down : test (middle lo hi) ≡ false → byHalves test (hi - lo) lo hi ≡ byHalves test (middle lo hi - lo) lo (middle lo hi)
-    halves-down e = halves-by false e ∙ halves-steps (hi - lo) (middle lo hi - lo) lo (middle lo hi) (omega arith) (omega arith)
+  -- ---- whatever the test, no more than there are
 
-  -- whatever the test, the place found is one of them, or hi
-  halves-within : (steps lo hi : ℕ) → lo ≤ hi → byHalves test steps lo hi ≤ hi
-  halves-within zero lo hi h = unfold byHalves in h
-  halves-within (suc n) lo hi h = go (decLe hi lo) (halves-within n (middle lo hi + 1) hi) (halves-within n lo (middle lo hi))
+  count-within : (n k : ℕ) → countFrom test k n ≤ n
+  unfolding countFrom
+  count-within zero k = zero-le
+  count-within (suc n) k = go (test k) (count-within n (suc k))
     where
-      either : (b : Bool) (i j : ℕ) → i ≤ hi → j ≤ hi → cond b i j ≤ hi
-      either true i j p q = p
-      either false i j p q = q
+      go : (b : Bool) → countFrom test (suc k) n ≤ n → cond b 1 0 + countFrom test (suc k) n ≤ suc n
+      go true h = omega arith
+      go false h = omega arith
 
-      go : Dec (hi ≤ lo) → (middle lo hi + 1 ≤ hi → byHalves test n (middle lo hi + 1) hi ≤ hi) → (lo ≤ middle lo hi → byHalves test n lo (middle lo hi) ≤ middle lo hi) → byHalves test (suc n) lo hi ≤ hi
-      go (yes k) up down = rw (halves-end (suc n) lo hi k) h
-      go (no k) up down =
-          let d = down (omega arith) in
-          rw (halve n lo hi (omega arith)) (either (test (middle lo hi)) (byHalves test n (middle lo hi + 1) hi) (byHalves test n lo (middle lo hi)) (up (omega arith)) (omega arith))
+  halves-within : (steps at n : ℕ) → byHalves test steps at n ≤ at + n
+  halves-within zero at n = unfold byHalves in (let c = count-within n at in omega arith)
+  halves-within (suc steps) at n = go (decLe n 16) (test (at + n / 2)) refl (λ k. halves-within steps k (n - n / 2))
+    where
+      go : Dec (n ≤ 16) → (b : Bool) → test (at + n / 2) ≡ b → ((k : ℕ) → byHalves test steps k (n - n / 2) ≤ k + (n - n / 2)) → byHalves test (suc steps) at n ≤ at + n
+      go (yes h) b e r = rw (halves-few (suc steps) at n h) (let c = count-within n at in omega arith)
+      go (no h) true e r = rw (halve steps at n (omega arith), e) (let k = r (at + n / 2) in omega arith)
+      go (no h) false e r = rw (halve steps at n (omega arith), e) (let k = r at in omega arith)
 
   -- ---- a test that holds below c, and not from c on
 
-  pub halves-cut : (c steps lo hi : ℕ) → ((i : ℕ) → i < hi → test i ≡ ltb i c) → lo ≤ c → c ≤ hi → hi - lo ≤ steps → byHalves test steps lo hi ≡ c
-  halves-cut c zero lo hi t a b s = halves-end 0 lo hi (omega arith) ∙ (omega arith)
-  halves-cut c (suc n) lo hi t a b s = go (decLe hi lo) (decLe c (middle lo hi)) (halves-cut c n (middle lo hi + 1) hi) (halves-cut c n lo (middle lo hi))
+  count-none : (n k : ℕ) → ((i : ℕ) → k ≤ i → i < k + n → test i ≡ false) → countFrom test k n ≡ 0
+  unfolding countFrom
+  count-none zero k t = refl
+  count-none (suc n) k t = let r = count-none n (suc k) (λ i a b. t i (omega arith) (omega arith)) in rw (t k (omega arith) (omega arith)) (omega arith)
+
+  count-cut : (c n k : ℕ) → ((i : ℕ) → i < k + n → test i ≡ ltb i c) → k ≤ c → c ≤ k + n → k + countFrom test k n ≡ c
+  count-cut c zero k t a b = unfold countFrom in (omega arith)
+  count-cut c (suc n) k t a b = go (decLe c k) (count-cut c n (suc k))
     where
-      go : Dec (hi ≤ lo) → Dec (c ≤ middle lo hi)
-          → (((i : ℕ) → i < hi → test i ≡ ltb i c) → middle lo hi + 1 ≤ c → c ≤ hi → hi - (middle lo hi + 1) ≤ n → byHalves test n (middle lo hi + 1) hi ≡ c)
-          → (((i : ℕ) → i < middle lo hi → test i ≡ ltb i c) → lo ≤ c → c ≤ middle lo hi → middle lo hi - lo ≤ n → byHalves test n lo (middle lo hi) ≡ c)
-          → byHalves test (suc n) lo hi ≡ c
-      go (yes h) (yes k) up down = halves-end (suc n) lo hi h ∙ (omega arith)
-      go (yes h) (no k) up down = halves-end (suc n) lo hi h ∙ (omega arith)
-      go (no h) (yes k) up down =
-          halve n lo hi (omega arith)
-          ∙ ap (λ (x : Bool). cond x (byHalves test n (middle lo hi + 1) hi) (byHalves test n lo (middle lo hi))) (t (middle lo hi) (omega arith) ∙ le-ltb (middle lo hi) c k)
-          ∙ down (λ i q. t i (omega arith)) a k (omega arith)
-      go (no h) (no k) up down =
-          halve n lo hi (omega arith)
-          ∙ ap (λ (x : Bool). cond x (byHalves test n (middle lo hi + 1) hi) (byHalves test n lo (middle lo hi))) (t (middle lo hi) (omega arith) ∙ lt-ltb (middle lo hi) c (omega arith))
-          ∙ up t (omega arith) b (omega arith)
+      go : Dec (c ≤ k) → (((i : ℕ) → i < suc k + n → test i ≡ ltb i c) → suc k ≤ c → c ≤ suc k + n → suc k + countFrom test (suc k) n ≡ c) → k + countFrom test k (suc n) ≡ c
+      go (yes h) r = let z = count-none (suc n) k (λ i l m. t i m ∙ le-ltb i c (omega arith)) in omega arith
+      go (no h) r = unfold countFrom in (let q = r (λ i m. t i (omega arith)) (omega arith) (omega arith) in rw (t k (omega arith) ∙ lt-ltb k c (omega arith)) (omega arith))
+
+  halves-cut : (c steps at n : ℕ) → ((i : ℕ) → i < at + n → test i ≡ ltb i c) → at ≤ c → c ≤ at + n → byHalves test steps at n ≡ c
+  halves-cut c zero at n t a b = unfold byHalves in count-cut c n at t a b
+  halves-cut c (suc steps) at n t a b = go (decLe n 16) (decLe c (at + n / 2)) (λ k. halves-cut c steps k (n - n / 2))
+    where
+      go : Dec (n ≤ 16) → Dec (c ≤ at + n / 2) → ((k : ℕ) → ((i : ℕ) → i < k + (n - n / 2) → test i ≡ ltb i c) → k ≤ c → c ≤ k + (n - n / 2) → byHalves test steps k (n - n / 2) ≡ c) → byHalves test (suc steps) at n ≡ c
+      go (yes h) k r = halves-few (suc steps) at n h ∙ count-cut c n at t a b
+      go (no h) (yes k) r = rw (halve steps at n (omega arith), t (at + n / 2) (omega arith) ∙ le-ltb (at + n / 2) c k) (r at (λ i m. t i (omega arith)) a (omega arith))
+      go (no h) (no k) r = rw (halve steps at n (omega arith), t (at + n / 2) (omega arith) ∙ lt-ltb (at + n / 2) c (omega arith)) (r (at + n / 2) (λ i m. t i (omega arith)) (omega arith) (omega arith))
+
+-- where the times are at most t below c, and not from c on, c of them are found
+pub partition-cut : (times : List Float) (t : Float) (c : ℕ) → ((i : ℕ) → i < length times → le (getD times i nan) t ≡ ltb i c) → c ≤ length times → partitionPoint times t ≡ c
+unfolding partitionPoint
+partition-cut times t c h l = halves-cut (λ (i : ℕ). le (getD times i nan) t) c (length times) 0 (length times) (λ i m. h i (omega arith)) zero-le (omega arith)
 
 pub partition-within : (times : List Float) (t : Float) → partitionPoint times t ≤ length times
 unfolding partitionPoint
-partition-within times t = halves-within (λ (i : ℕ). le (getD times i nan) t) (length times) 0 (length times) zero-le
+partition-within times t = let h = halves-within (λ (i : ℕ). le (getD times i nan) t) (length times) 0 (length times) in omega arith
 
 -- ---- ascending times
 
@@ -177,11 +184,10 @@ module _ (t : Float) (ft : T (fits binary64 t)) where
       go false f k = unfold heldAfter in sym (none-read c cs e r f)
 
 pub reads-held : ReadsHeld
-unfolding partitionPoint readByHalves readTrack
+unfolding readByHalves readTrack
 reads-held track t doubles order =
     let ft = and-l (fits binary64 t) (all (fits binary64) (changeTimes (track .changes))) doubles in
     let r : Rising (changeTimes (track .changes)) = record { doubles = and-r (fits binary64 t) (all (fits binary64) (changeTimes (track .changes))) doubles; order = order } in
-    let n = length (changeTimes (track .changes)) in
     ap (λ (k : ℕ). heldAfter k (track .initial) (track .changes))
-    (halves-cut (λ (i : ℕ). le (getD (changeTimes (track .changes)) i nan) t) (reached t ft (track .changes)) n 0 n (reached-at t ft (track .changes) r) zero-le (reached-within t ft (track .changes)) (omega arith))
+    (partition-cut (changeTimes (track .changes)) t (reached t ft (track .changes)) (reached-at t ft (track .changes) r) (reached-within t ft (track .changes)))
     ∙ reached-read t ft (track .changes) (track .initial) r

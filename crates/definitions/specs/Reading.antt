@@ -6,7 +6,7 @@ use mathlib.Core.List.{List, [], _∷_}
 use lib.Dec.{T, ltb}
 use lib.ListN.{length, getD}
 use lib.Ieee.{Float, nan, binary64, fits, le}
-use Rattle.definitions.specs.Lists.{all, zipWith}
+use Rattle.definitions.specs.Lists.{all, zipWith, countFrom}
 use Rattle.definitions.specs.Doubles.{ascending}
 use Rattle.definitions.specs.Track.{Entry, Change, Track, changeTimes, readTrack}
 
@@ -26,12 +26,13 @@ trackOfLists value mark times values marks = record { initial = entry value mark
 
 -- ---- by halves, whatever the lists hold
 
--- The search for the first place from lo on and below hi that fails the test: the place in the middle says in which half to go on. hi − lo steps suffice.
-unfoldable pub byHalves : (ℕ → Bool) → (steps lo hi : ℕ) → ℕ
-byHalves test zero lo hi = lo
-byHalves test (suc steps) lo hi =
-    let mid = lo + (hi - lo) / 2 in
-    cond (ltb lo hi) (cond (test mid) (byHalves test steps (mid + 1) hi) (byHalves test steps lo mid)) lo
+-- The search among the n places from `at` on for how many pass: the place in the middle says in which half to go on, and the last sixteen or fewer are counted.
+-- n steps suffice.
+unfoldable pub byHalves : (ℕ → Bool) → (steps at n : ℕ) → ℕ
+byHalves test zero at n = at + countFrom test at n
+byHalves test (suc steps) at n =
+    let half = n / 2 in
+    cond (ltb 16 n) (byHalves test steps (cond (test (at + half)) (at + half) at) (n - half)) (at + countFrom test at n)
 
 -- Rust's `partition_point`: so many of the times are found to be at most t
 unfoldable pub partitionPoint : List Float → Float → ℕ

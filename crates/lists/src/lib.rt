@@ -12,9 +12,11 @@ use segment::knot_at;
 use segment::segment_at;
 ghost use mathlib.Core.Path.{_≡_};
 ghost use mathlib.Core.Bool.{not, _&&_, cond};
-ghost use lib.ListN.{length};
-ghost use lib.Ieee.{eq};
+ghost use Prim.Native.Nat.{_+_, _≤_};
+ghost use lib.ListN.{length, getD};
+ghost use lib.Ieee.{nan, eq, le};
 ghost use Rattle.gf.specs.Doubles.{storable};
+ghost use Rattle.definitions.specs.Lists.{countFrom};
 ghost use Rattle.definitions.specs.Doubles.{twoEqual, threeEqual};
 ghost use Rattle.definitions.specs.ClipSet.{anyUnstorable};
 ghost use Rattle.definitions.specs.Timing.{lastAtMost, mapTime, mapStageToClip};
@@ -83,21 +85,45 @@ pub fn three_equal(times: &[f64]) -> bool
     false
 }
 
+fn one_if(b: bool) -> usize
+    ensures { λ r. ⌜ r ≡ cond b 1 0 ⌝ }
+{
+    if b {
+        return 1;
+    }
+    0
+}
+
+// How many of the n times from a place on are at most `t`. No early exit, so that the loop vectorises.
+fn count_at_most(times: &[f64], from: usize, n: usize, t: f64) -> usize
+    requires { ⌜ from + n ≤ length (now times) ⌝ }
+    ensures { λ r. ⌜ r ≡ countFrom (λ i. le (getD (was times) i nan) t) from n ⌝ }
+{
+    let mut found: usize = 0;
+    let mut i: usize = 0;
+    while i < n {
+        found += one_if(times[from + i] <= t);
+        i += 1;
+    }
+    found
+}
+
 // How many of the times are at most `t`, where they ascend: the Rust's `partition_point`. Elsewhere it is what the search by halves finds.
+// The last few are counted, which costs less than the branches that nobody can foretell.
 pub fn partition_point(times: &[f64], t: f64) -> usize
     ensures { λ r. ⌜ r ≡ partitionPoint (was times) t ⌝ }
 {
-    let mut lo: usize = 0;
-    let mut hi = times.len();
-    while lo < hi {
-        let mid = lo + (hi - lo) / 2;
+    let mut at: usize = 0;
+    let mut n = times.len();
+    while 16 < n {
+        let half = n / 2;
+        let mid = at + half;
         if times[mid] <= t {
-            lo = mid + 1;
-        } else {
-            hi = mid;
+            at = mid;
         }
+        n -= half;
     }
-    lo
+    at + count_at_most(times, at, n, t)
 }
 
 // The place of the last of the times that is at most `t`, and 0 if none is.

@@ -17,7 +17,7 @@ use Rattle.definitions.specs.Lists.{any}
 use Rattle.definitions.specs.Doubles.{FiniteDouble}
 use Rattle.definitions.specs.Timing.{lastAtMost}
 use Rattle.definitions.specs.Reading.{partitionPoint}
-use Rattle.definitions.proofs.Reading.{halves-cut}
+use Rattle.definitions.proofs.Reading.{partition-cut}
 use Rattle.laws.proofs.list.Tests.{holds, is-false}
 use Rattle.laws.specs.list.Every.{Every, Chain, ChainFrom}
 use Rattle.laws.proofs.list.Every.{every-at, every-map, any-every, chain-tail}
@@ -87,9 +87,7 @@ module _ (t : Float) (ft : T (fits binary64 t)) (d : Float) where
 
 -- a search by halves finds that number
 pub partition-is : (t : Float) → T (fits binary64 t) → (xs : List Float) → Ascending xs → partitionPoint xs t ≡ atMost xs t
-unfolding partitionPoint
-partition-is t ft xs a =
-    halves-cut (λ (i : ℕ). le (getD xs i nan) t) (atMost xs t) (length xs) 0 (length xs) (at-most-is t ft nan xs a) zero-le (at-most-length xs t) (omega arith)
+partition-is t ft xs a = partition-cut xs t (atMost xs t) (at-most-is t ft nan xs a) (at-most-length xs t)
 
 -- the same by keys
 module _ (t : Float) (n : FiniteDouble t) (d : Float) (xs : List Float) (a : Ascending xs) (i : ℕ) (h : i < length xs) where

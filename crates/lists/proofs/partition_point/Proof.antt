@@ -1,14 +1,14 @@
--- `lists::partition_point` meets its contract. What the search finds from here on is what it finds in the whole list, and hi - lo falls. Assumes nothing.
-use Prim.Native.Nat.{ℕ, _-_, _≤_}
-use mathlib.Core.Path.{_≡_, sym, ap, _∙_}
-use mathlib.Core.Bool.{Bool}
+-- `lists::partition_point` meets its contract. What the search finds from here on is what it finds in the whole list, and ever fewer places are left. Assumes nothing.
+use Prim.Native.Nat.{ℕ, _+_, _-_, _/_, _≤_, _<_}
+use mathlib.Core.Path.{_≡_, refl, sym, ap, _∙_}
+use mathlib.Core.Logic.{⊎-elim}
+use mathlib.Core.Bool.{Bool, true, false, cond}
 use mathlib.Core.List.{List}
 use native.Mathlib.Omega.{arith}
 use lib.ListN.{length, getD}
 use lib.Ieee.{Float, nan, le}
-use borrow.Author.Needs.{needs}
 use Rattle.definitions.specs.Reading.{byHalves, partitionPoint}
-use Rattle.definitions.proofs.Reading.{halves-end, halves-up, halves-down}
+use Rattle.definitions.proofs.Reading.{halves-few, halves-by, partition-within}
 use Rattle.lists.proofs.partition_point.Statement.{statement}
 use Rattle.lists.proofs.partition_point.Tie as tie
 
@@ -16,38 +16,44 @@ abbrev atMost : List Float → Float → ℕ → Bool
 atMost xs t i = le (getD xs i nan) t
 
 abbrev Inv-loop : tie.InvT-loop
-Inv-loop xs t lo₀ hi₀ lo hi = (hi ≤ length xs) × (byHalves (atMost xs t) (hi - lo) lo hi ≡ partitionPoint xs t)
+Inv-loop xs t at₀ n₀ at n = (at + n ≤ length xs) × (byHalves (atMost xs t) n at n ≡ partitionPoint xs t)
 
 abbrev μ-loop : tie.MeasureT-loop
-μ-loop xs t lo₀ hi₀ lo hi = hi - lo
+μ-loop xs t at₀ n₀ at n = n
 
 loop-holds : tie.Need-loop-holds Inv-loop μ-loop
 unfolding partitionPoint
-loop-holds c =
-    let xs = c .args .times .now in
-    let e : length xs - 0 ≡ length xs = omega arith in
-    (omega arith, ap (λ (steps : ℕ). byHalves (atMost xs (c .args .t)) steps 0 (length xs)) e)
+loop-holds c = (omega arith, refl)
 
-shared-slice-read-if1 : tie.Need-shared-slice-read-if1 Inv-loop μ-loop
-shared-slice-read-if1 c = omega arith
-
--- above the time in the middle: first, where `<` for `≤` would fail
-loop-again-2 : tie.Need-loop-again-2 Inv-loop μ-loop
-loop-again-2 c =
-    let l = c .before .before .before in
-    let a = l .before .args in
-    (omega arith, sym (halves-down (atMost (a .times .now) (a .t)) (l .loop .lo) (l .loop .hi) (omega arith) (c .if1 .left)) ∙ l .loop .inv .1)
+-- one step, by the test in the middle
+module _ (xs : List Float) (t : Float) (at n : ℕ) (h : 16 < n) (inside : at + n ≤ length xs) (same : byHalves (atMost xs t) n at n ≡ partitionPoint xs t) where
+  goes-on : (b : Bool) → atMost xs t (at + n / 2) ≡ b → (k : ℕ) → k ≡ cond b (at + n / 2) at → (k + (n - n / 2) ≤ length xs) × (byHalves (atMost xs t) (n - n / 2) k (n - n / 2) ≡ partitionPoint xs t)
+  goes-on b e k q = (within b q, ap (λ (k : ℕ). byHalves (atMost xs t) (n - n / 2) k (n - n / 2)) q ∙ sym (halves-by (atMost xs t) at n h b e) ∙ same)
+    where
+      within : (b : Bool) → k ≡ cond b (at + n / 2) at → k + (n - n / 2) ≤ length xs
+      within true q = omega arith
+      within false q = omega arith
 
 loop-again : tie.Need-loop-again Inv-loop μ-loop
 loop-again c =
     let l = c .before .before .before in
-    let a = l .before .args in
-    (l .loop .inv .0, sym (halves-up (atMost (a .times .now) (a .t)) (l .loop .lo) (l .loop .hi) (omega arith) (c .if1 .taken)) ∙ l .loop .inv .1)
+    let a = l .before .before .args in
+    let on = goes-on (a .times .now) (a .t) (l .loop .at) (l .loop .n) (omega arith) (l .loop .inv .0) (l .loop .inv .1) in
+    ⊎-elim (λ w. on true (w .0 .taken) (c .if1 .at) (w .1)) (λ w. on false (w .0 .left) (c .if1 .at) (w .1)) (c .if1 .came)
+
+-- as many as are found
+found-is : (c : tie.After-count-at-most Inv-loop μ-loop) → c .before .before .loop .at + c .count-at-most .result ≡ partitionPoint (c .before .before .before .before .args .times .now) (c .before .before .before .before .args .t)
+found-is c =
+    let l = c .before .before in
+    let a = l .before .before .args in
+    ap (λ (k : ℕ). l .loop .at + k) (c .count-at-most .ensures)
+    ∙ sym (halves-few (atMost (a .times .now) (a .t)) (l .loop .n) (l .loop .at) (l .loop .n) (omega arith)) ∙ l .loop .inv .1
+
+add-result : tie.Need-add-result Inv-loop μ-loop
+add-result c = let e = found-is c in let a = c .before .before .before .before .args in omega (arith, partition-within (a .times .now) (a .t))
 
 returns : tie.Need-returns Inv-loop μ-loop
-returns c =
-    let a = c .before .before .args in
-    sym (halves-end (atMost (a .times .now) (a .t)) (c .before .loop .hi - c .before .loop .lo) (c .before .loop .lo) (c .before .loop .hi) (omega arith)) ∙ c .before .loop .inv .1
+returns c = found-is c
 
 pub partition-point-spec : {M : Type 1} → statement M
 partition-point-spec =
@@ -58,11 +64,10 @@ partition-point-spec =
     loop-holds
     (λ c. omega arith)
     (λ c. omega arith)
-    (λ c. search needs)
-    shared-slice-read-if1
+    (λ c. omega arith)
     (λ c. omega arith)
     (λ c. omega arith)
     loop-again
-    (λ c. omega arith)
-    loop-again-2
+    (λ c κs. omega arith)
+    add-result
     returns)
