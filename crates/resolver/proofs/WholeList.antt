@@ -21,7 +21,7 @@ use Rattle.resolver.specs.WholeList.{Moves, Replies, Demand3}
 
 -- the bake's number where the samples are accepted: 0 with room enough, else 22
 module _ (m : Model) (st : Standing) (e : m ≡ standing st) (s : Samples) (z : samplesNumber (st .set) s ≡ 0) (room count : ℕ) where
-  enough : count ≤ room → bakeNumber m s room count ≡ 0
+  pub enough : count ≤ room → bakeNumber m s room count ≡ 0
   unfolding bakeNumber
   enough h = rw (e, bakeNumber, z, le-ltb room count h)
 
@@ -30,7 +30,7 @@ module _ (m : Model) (st : Standing) (e : m ≡ standing st) (s : Samples) (z : 
   short h = rw (e, bakeNumber, z, lt-ltb room count h)
 
 -- a bake's reply and lists by its number
-by-number : (m : Model) (s : Samples) (o : Outputs) (r : Reply Baked) (p : Outputs) (k : Bakes m s o r p) (n : ℕ) → bakeNumber m s (slots o) (length (k .track .changes)) ≡ n
+pub by-number : (m : Model) (s : Samples) (o : Outputs) (r : Reply Baked) (p : Outputs) (k : Bakes m s o r p) (n : ℕ) → bakeNumber m s (slots o) (length (k .track .changes)) ≡ n
     → (r ≡ reply n (bakedOf (k .track))) × (p ≡ outputsAfter n (k .track) o)
 by-number m s o r p k n h = (k .replies ∙ ap (λ (n : ℕ). reply n (bakedOf (k .track))) h, k .writes ∙ ap (λ (n : ℕ). outputsAfter n (k .track) o) h)
 

@@ -1,4 +1,5 @@
--- What a resolver's state stands for, what each operation promises, and the one claim about any list of calls.
+-- What a resolver's state stands for, what each operation promises, the one claim about any list of calls, and that a count suffices.
 pub mod State
 pub mod Promises
 pub mod WholeList
+pub mod Counting
