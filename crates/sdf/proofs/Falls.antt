@@ -14,7 +14,7 @@ use lib.Ieee.{Float, nan, lt}
 use Rattle.definitions.specs.Lists.{keep, pairs}
 use Rattle.definitions.specs.Doubles.{ascending}
 use Rattle.sdf.specs.Parts.{falls}
-use Rattle.lists.proofs.Fronts.{front}
+use Rattle.lists.proofs.Fronts.{front, no-front}
 
 -- 0 where a time is below the next, else 1
 pub one-fall : (b : Bool) {n : ℕ} → n ≡ cond b 0 1 → n ≤ 1
@@ -43,12 +43,12 @@ ascending-falls (x ∷ y ∷ l) = go (lt x y) (ascending-falls (y ∷ l)) ∙ ap
 -- ---- from a place on
 
 module _ (xs : List Float) where
-  pub falls-on : (i : ℕ) → i + 1 < length xs → falls (drop i xs) ≡ cond (lt (getD xs i nan) (getD xs (i + 1) nan)) 0 1 + falls (drop (i + 1) xs)
-  falls-on i h =
-      ap falls (front xs i nan (omega arith))
-      ∙ ap (λ (l : List Float). falls (getD xs i nan ∷ l)) (front xs (i + 1) nan h)
-      ∙ falls-pair (getD xs i nan) (getD xs (i + 1) nan) (drop (i + 1 + 1) xs)
-      ∙ ap (λ (l : List Float). cond (lt (getD xs i nan) (getD xs (i + 1) nan)) 0 1 + falls l) (sym (front xs (i + 1) nan h))
+  -- behind a time x
+  pub falls-on : (x : Float) (i : ℕ) → i < length xs → falls (x ∷ drop i xs) ≡ cond (lt x (getD xs i nan)) 0 1 + falls (getD xs i nan ∷ drop (i + 1) xs)
+  falls-on x i h = ap (λ (l : List Float). falls (x ∷ l)) (front xs i nan h) ∙ falls-pair x (getD xs i nan) (drop (i + 1) xs)
+
+  pub falls-last : (x : Float) (i : ℕ) → length xs ≤ i → falls (x ∷ drop i xs) ≡ 0
+  falls-last x i h = ap (λ (l : List Float). falls (x ∷ l)) (no-front xs i h)
 
   pub falls-end : (i : ℕ) → length xs ≤ i + 1 → falls (drop i xs) ≡ 0
   falls-end i h = go (drop i xs) (omega (arith, length-drop i xs))

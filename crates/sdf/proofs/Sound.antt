@@ -111,7 +111,7 @@ none-of-both a b = go (eqb a 0) refl (eqb b 0) refl
 abbrev ascends : List Float → List ℕ → ℕ → Bool
 ascends ts ends i = ascending (part ts ends i)
 
--- Of the clips before i, which end at `begin`: as many times fall from one to the next as `between` says, and as within says inside of them; and if none does, all may be stored.
+-- The clips before i, which end at `begin`: so many times fall within them, and `between` from one to the next; and where none falls within, all may be stored.
 pub record Walked (ts : List Float) (ends : List ℕ) (between begin i : ℕ) : Type 0 where
   pub within : ℕ
   pub counted : falls ts ≡ within + between + falls (drop begin ts)
