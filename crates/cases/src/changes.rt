@@ -1,17 +1,20 @@
-// The calls that change what stands: each reads its fields, and hands back the resolver as the operation left it.
+// The calls that change what stands: each reads its fields, and hands back what the operation replied.
 use crate::lines::calls::Change;
-use crate::lines::reply;
 use crate::text::first_bytes;
 use crate::text::first_doubles;
 use definitions::Default;
 use definitions::LayerOffset;
 use definitions::TemplateTimes;
+use resolver::Accepted;
 use resolver::Resolver;
 ghost use Rattle.resolver.specs.State.{Made};
+ghost use Rattle.cases.specs.declared.lines.calls.Change.the-variants.{Explicit, Template, Retime};
+ghost use Rattle.cases.specs.Changes.{Changes};
 
-pub struct Changed {
-    pub full: usize,
-    pub resolver: Resolver,
+// What the operation replied, and before it whether the line could be read; if not, none was asked.
+pub(crate) struct Changed {
+    pub readable: bool,
+    pub accepted: Accepted,
 }
 
 // The manifest's part of a set: `def MARK VALUE flag 0/1`.
@@ -42,19 +45,23 @@ fn read_filling(line: &[u8], at: usize) -> Filling {
     }
 }
 
-fn unreadable(resolver: Resolver, out: &mut [u8], full: usize) -> Changed
+fn unreadable(kind: Change, resolver: Resolver) -> Changed
     requires { ⌜ Made resolver ⌝ }
-    ensures { λ r. ⌜ Made (r .resolver) ⌝ }
+    ensures { λ r. ⌜ Changes kind resolver r ⌝ }
 {
-    Changed {
-        full: reply::unreadable(out, full),
+    let accepted = Accepted {
+        number: 0,
         resolver,
+    };
+    Changed {
+        readable: false,
+        accepted,
     }
 }
 
-fn explicit(line: &[u8], at: usize, resolver: Resolver, out: &mut [u8], full: usize) -> Changed
+fn explicit(line: &[u8], at: usize, resolver: Resolver) -> Changed
     requires { ⌜ Made resolver ⌝ }
-    ensures { λ r. ⌜ Made (r .resolver) ⌝ }
+    ensures { λ r. ⌜ Changes Explicit resolver r ⌝ }
 {
     let mut starts = [0.0f64; 320];
     let mut numbers = [0.0f64; 320];
@@ -74,7 +81,7 @@ fn explicit(line: &[u8], at: usize, resolver: Resolver, out: &mut [u8], full: us
     let blocks = first_doubles(&blocks, bl.count);
     let f = read_filling(line, bl.at);
     if !crate::text::is_end(line, f.at) {
-        return unreadable(resolver, out, full);
+        return unreadable(Change::Explicit, resolver);
     }
     let default = Default {
         mark: f.mark,
@@ -90,10 +97,9 @@ fn explicit(line: &[u8], at: usize, resolver: Resolver, out: &mut [u8], full: us
         default,
         f.interpolate,
     );
-    let left = accepted.resolver;
     Changed {
-        full: reply::accepted(accepted.number, out, full),
-        resolver: left,
+        readable: true,
+        accepted,
     }
 }
 
@@ -121,9 +127,9 @@ fn read_offset(line: &[u8], at: usize) -> Offset {
     }
 }
 
-fn template(line: &[u8], at: usize, resolver: Resolver, out: &mut [u8], full: usize) -> Changed
+fn template(line: &[u8], at: usize, resolver: Resolver) -> Changed
     requires { ⌜ Made resolver ⌝ }
-    ensures { λ r. ⌜ Made (r .resolver) ⌝ }
+    ensures { λ r. ⌜ Changes Template resolver r ⌝ }
 {
     let mut bytes = [0u8; 512];
     let mut blocks = [0.0f64; 320];
@@ -135,7 +141,7 @@ fn template(line: &[u8], at: usize, resolver: Resolver, out: &mut [u8], full: us
     let bl = crate::text::doubles_after(line, o.at, b"bl", &mut blocks);
     let f = read_filling(line, bl.at);
     if !crate::text::is_end(line, f.at) {
-        return unreadable(resolver, out, full);
+        return unreadable(Change::Template, resolver);
     }
     let times = TemplateTimes {
         start: start.value,
@@ -155,48 +161,39 @@ fn template(line: &[u8], at: usize, resolver: Resolver, out: &mut [u8], full: us
         default,
         f.interpolate,
     );
-    let left = accepted.resolver;
     Changed {
-        full: reply::accepted(accepted.number, out, full),
-        resolver: left,
+        readable: true,
+        accepted,
     }
 }
 
-fn retime(line: &[u8], at: usize, resolver: Resolver, out: &mut [u8], full: usize) -> Changed
+fn retime(line: &[u8], at: usize, resolver: Resolver) -> Changed
     requires { ⌜ Made resolver ⌝ }
-    ensures { λ r. ⌜ Made (r .resolver) ⌝ }
+    ensures { λ r. ⌜ Changes Retime resolver r ⌝ }
 {
     let offset = crate::text::read_double(line, at);
     let scale = crate::text::read_double(line, offset.at);
     if !crate::text::is_end(line, scale.at) {
-        return unreadable(resolver, out, full);
+        return unreadable(Change::Retime, resolver);
     }
     let o = LayerOffset {
         offset: offset.value,
         scale: scale.value,
     };
     let accepted = resolver.retime(o);
-    let left = accepted.resolver;
     Changed {
-        full: reply::accepted(accepted.number, out, full),
-        resolver: left,
+        readable: true,
+        accepted,
     }
 }
 
-pub fn change(
-    kind: Change,
-    line: &[u8],
-    at: usize,
-    resolver: Resolver,
-    out: &mut [u8],
-    full: usize,
-) -> Changed
+pub(crate) fn change(kind: Change, line: &[u8], at: usize, resolver: Resolver) -> Changed
     requires { ⌜ Made resolver ⌝ }
-    ensures { λ r. ⌜ Made (r .resolver) ⌝ }
+    ensures { λ r. ⌜ Changes kind resolver r ⌝ }
 {
     match kind {
-        Change::Explicit => explicit(line, at, resolver, out, full),
-        Change::Template => template(line, at, resolver, out, full),
-        Change::Retime => retime(line, at, resolver, out, full),
+        Change::Explicit => explicit(line, at, resolver),
+        Change::Template => template(line, at, resolver),
+        Change::Retime => retime(line, at, resolver),
     }
 }

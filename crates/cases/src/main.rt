@@ -20,7 +20,7 @@ ghost use lib.ListN.{length};
 ghost use Rattle.resolver.specs.State.{Made};
 
 // What a line leaves for the next one: how much of the output buffer is in use, the samples that are lent, and what stands.
-pub struct Session {
+struct Session {
     pub full: usize,
     pub lent: Lent,
     pub resolver: Resolver,
@@ -62,9 +62,6 @@ fn serve(
     times: &mut [f64],
     values: &mut [f64],
     marks: &mut [u8],
-    outtimes: &mut [f64],
-    outvalues: &mut [f64],
-    outmarks: &mut [u8],
 ) {
     let mut session = begin(0);
     let mut buffer = input::empty();
@@ -80,9 +77,6 @@ fn serve(
                 times,
                 values,
                 marks,
-                outtimes,
-                outvalues,
-                outmarks,
                 out,
             );
             buffer = input::past(buffer, to);
@@ -122,9 +116,6 @@ fn run(
     times: &mut [f64],
     values: &mut [f64],
     marks: &mut [u8],
-    outtimes: &mut [f64],
-    outvalues: &mut [f64],
-    outmarks: &mut [u8],
     out: &mut [u8],
 ) -> Session
     requires { ⌜ Made (session .resolver) ⌝ }
@@ -147,9 +138,6 @@ fn run(
                 times,
                 values,
                 marks,
-                outtimes,
-                outvalues,
-                outmarks,
                 out,
                 session.full,
             );
@@ -201,13 +189,15 @@ fn change(kind: Change, line: &[u8], at: usize, session: Session, out: &mut [u8]
     requires { ⌜ Made (session .resolver) ⌝ }
     ensures { λ r. ⌜ Made (r .resolver) ⌝ }
 {
-    let changed = crate::changes::change(kind, line, at, session.resolver, out, session.full);
+    let changed = crate::changes::change(kind, line, at, session.resolver);
+    let accepted = changed.accepted;
+    let n = reply::changed(changed.readable, accepted.number, out, session.full);
     let lent = session.lent;
-    let left = changed.resolver;
+    let resolver = accepted.resolver;
     Session {
-        full: changed.full,
+        full: n,
         lent,
-        resolver: left,
+        resolver,
     }
 }
 
@@ -225,9 +215,6 @@ fn main() {
     let mut times = [0.0f64; 5120];
     let mut values = [0.0f64; 5120];
     let mut marks = [0u8; 5120];
-    let mut outtimes = [0.0f64; 65536];
-    let mut outvalues = [0.0f64; 65536];
-    let mut outmarks = [0u8; 65536];
     serve(
         &mut input,
         &mut out,
@@ -235,8 +222,5 @@ fn main() {
         &mut times,
         &mut values,
         &mut marks,
-        &mut outtimes,
-        &mut outvalues,
-        &mut outmarks,
     );
 }

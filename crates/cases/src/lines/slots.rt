@@ -3,7 +3,7 @@ use crate::text::Listed;
 ghost use Prim.Native.Nat.{_≤_};
 
 // The line's last word, at most `most`, or `room` if the line has no more words.
-pub fn slots(line: &[u8], at: usize, room: usize, most: u64) -> Listed {
+pub(crate) fn slots(line: &[u8], at: usize, room: usize, most: u64) -> Listed {
     if crate::text::is_end(line, at) {
         return Listed { at, count: room };
     }
@@ -21,7 +21,7 @@ pub fn slots(line: &[u8], at: usize, room: usize, most: u64) -> Listed {
     }
 }
 
-pub fn least(a: usize, b: usize) -> usize
+pub(crate) fn least(a: usize, b: usize) -> usize
     ensures { λ r. ⌜ (r ≤ a) × (r ≤ b) ⌝ }
 {
     if a < b {

@@ -4,7 +4,7 @@
 use crate::text::lists::first_bytes;
 use crate::text::lists::part;
 
-pub const NOWHERE: usize = 0xffff_ffff_ffff_ffff;
+pub(crate) const NOWHERE: usize = 0xffff_ffff_ffff_ffff;
 
 // A space, a tab or the carriage return of a line that ends in two bytes.
 fn is_blank(b: u8) -> bool {
@@ -15,7 +15,7 @@ fn is_blank(b: u8) -> bool {
 }
 
 // What a scan looks for.
-pub enum Stop {
+pub(crate) enum Stop {
     Word,
     Blank,
     Comment,
@@ -32,7 +32,7 @@ fn stops_at(b: u8, stop: Stop) -> bool {
 }
 
 // The first place from `at` on where it stands, the end of the text if it stands nowhere.
-pub fn scan(text: &[u8], at: usize, stop: Stop) -> usize {
+pub(crate) fn scan(text: &[u8], at: usize, stop: Stop) -> usize {
     let mut i = at;
     while i < text.len() {
         if stops_at(text[i], stop) {
@@ -43,33 +43,33 @@ pub fn scan(text: &[u8], at: usize, stop: Stop) -> usize {
     i
 }
 
-pub fn skip_blanks(line: &[u8], at: usize) -> usize {
+pub(crate) fn skip_blanks(line: &[u8], at: usize) -> usize {
     scan(line, at, Stop::Word)
 }
 
 // Behind the word that stands at `at`.
-pub fn word_end(line: &[u8], at: usize) -> usize {
+pub(crate) fn word_end(line: &[u8], at: usize) -> usize {
     scan(line, at, Stop::Blank)
 }
 
 // The line up to its comment.
-pub fn without_comment(line: &[u8]) -> &[u8] {
+pub(crate) fn without_comment(line: &[u8]) -> &[u8] {
     first_bytes(line, scan(line, 0, Stop::Comment))
 }
 
 // The next word, empty if there is none.
-pub fn word(line: &[u8], at: usize) -> &[u8] {
+pub(crate) fn word(line: &[u8], at: usize) -> &[u8] {
     let from = skip_blanks(line, at);
     part(line, from, word_end(line, from))
 }
 
 // Nothing but blanks is left.
-pub fn is_end(line: &[u8], at: usize) -> bool {
+pub(crate) fn is_end(line: &[u8], at: usize) -> bool {
     skip_blanks(line, at) == line.len()
 }
 
 // The place itself, if no word goes on there.
-pub fn closed(line: &[u8], at: usize) -> usize {
+pub(crate) fn closed(line: &[u8], at: usize) -> usize {
     if at < line.len() {
         if is_blank(line[at]) {
             return at;
@@ -80,7 +80,7 @@ pub fn closed(line: &[u8], at: usize) -> usize {
 }
 
 // The place behind `word`, if it is the next word of the line.
-pub fn after(line: &[u8], at: usize, word: &[u8]) -> usize {
+pub(crate) fn after(line: &[u8], at: usize, word: &[u8]) -> usize {
     let mut place = skip_blanks(line, at);
     let mut i: usize = 0;
     while i < word.len() {
