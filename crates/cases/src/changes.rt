@@ -7,9 +7,11 @@ use definitions::LayerOffset;
 use definitions::TemplateTimes;
 use resolver::Accepted;
 use resolver::Resolver;
+ghost use Rattle.definitions.specs.Moments.{was};
 ghost use Rattle.resolver.specs.State.{Made};
+ghost use Rattle.resolver.specs.Promises.{Accepts, Expands};
 ghost use Rattle.cases.specs.declared.lines.calls.Change.the-variants.{Explicit, Template, Retime};
-ghost use Rattle.cases.specs.Changes.{Changes};
+ghost use Rattle.cases.specs.Changes.{Changes, explicitOf, templateOf};
 
 // What the operation replied, and before it whether the line could be read; if not, none was asked.
 pub(crate) struct Changed {
@@ -59,6 +61,75 @@ fn unreadable(kind: Change, resolver: Resolver) -> Changed
     }
 }
 
+// An explicit set's fields: how much of each list was read, and the rest.
+struct ExplicitRead {
+    at: usize,
+    clips: u64,
+    starts: usize,
+    numbers: usize,
+    xs: usize,
+    ys: usize,
+    blocks: usize,
+    filling: Filling,
+}
+
+fn read_explicit(
+    line: &[u8],
+    at: usize,
+    starts: &mut [f64],
+    numbers: &mut [f64],
+    xs: &mut [f64],
+    ys: &mut [f64],
+    blocks: &mut [f64],
+) -> ExplicitRead {
+    let clips = crate::text::read_decimal(line, at);
+    let st = crate::text::doubles_after(line, clips.at, b"st", starts);
+    let sc = crate::text::doubles_after(line, st.at, b"sc", numbers);
+    let kx = crate::text::doubles_after(line, sc.at, b"kx", xs);
+    let ky = crate::text::doubles_after(line, kx.at, b"ky", ys);
+    let bl = crate::text::doubles_after(line, ky.at, b"bl", blocks);
+    let filling = read_filling(line, bl.at);
+    ExplicitRead {
+        at: filling.at,
+        clips: clips.value,
+        starts: st.count,
+        numbers: sc.count,
+        xs: kx.count,
+        ys: ky.count,
+        blocks: bl.count,
+        filling,
+    }
+}
+
+fn accept_read(
+    read: ExplicitRead,
+    starts: &[f64],
+    numbers: &[f64],
+    xs: &[f64],
+    ys: &[f64],
+    blocks: &[f64],
+    resolver: Resolver,
+) -> Accepted
+    requires { ⌜ Made resolver ⌝ }
+    ensures { λ r. ⌜ Accepts resolver (explicitOf read (was starts) (was numbers) (was xs) (was ys) (was blocks)) r ⌝ }
+{
+    let filling = read.filling;
+    let default = Default {
+        mark: filling.mark,
+        value: filling.value,
+    };
+    resolver.accept(
+        read.clips,
+        first_doubles(starts, read.starts),
+        first_doubles(numbers, read.numbers),
+        first_doubles(xs, read.xs),
+        first_doubles(ys, read.ys),
+        first_doubles(blocks, read.blocks),
+        default,
+        filling.interpolate,
+    )
+}
+
 fn explicit(line: &[u8], at: usize, resolver: Resolver) -> Changed
     requires { ⌜ Made resolver ⌝ }
     ensures { λ r. ⌜ Changes Explicit resolver r ⌝ }
@@ -68,35 +139,19 @@ fn explicit(line: &[u8], at: usize, resolver: Resolver) -> Changed
     let mut xs = [0.0f64; 640];
     let mut ys = [0.0f64; 640];
     let mut blocks = [0.0f64; 320];
-    let clips = crate::text::read_decimal(line, at);
-    let st = crate::text::doubles_after(line, clips.at, b"st", &mut starts);
-    let starts = first_doubles(&starts, st.count);
-    let sc = crate::text::doubles_after(line, st.at, b"sc", &mut numbers);
-    let numbers = first_doubles(&numbers, sc.count);
-    let kx = crate::text::doubles_after(line, sc.at, b"kx", &mut xs);
-    let xs = first_doubles(&xs, kx.count);
-    let ky = crate::text::doubles_after(line, kx.at, b"ky", &mut ys);
-    let ys = first_doubles(&ys, ky.count);
-    let bl = crate::text::doubles_after(line, ky.at, b"bl", &mut blocks);
-    let blocks = first_doubles(&blocks, bl.count);
-    let f = read_filling(line, bl.at);
-    if !crate::text::is_end(line, f.at) {
+    let read = read_explicit(
+        line,
+        at,
+        &mut starts,
+        &mut numbers,
+        &mut xs,
+        &mut ys,
+        &mut blocks,
+    );
+    if !crate::text::is_end(line, read.at) {
         return unreadable(Change::Explicit, resolver);
     }
-    let default = Default {
-        mark: f.mark,
-        value: f.value,
-    };
-    let accepted = resolver.accept(
-        clips.value,
-        starts,
-        numbers,
-        xs,
-        ys,
-        blocks,
-        default,
-        f.interpolate,
-    );
+    let accepted = accept_read(read, &starts, &numbers, &xs, &ys, &blocks, resolver);
     Changed {
         readable: true,
         accepted,
@@ -127,40 +182,71 @@ fn read_offset(line: &[u8], at: usize) -> Offset {
     }
 }
 
-fn template(line: &[u8], at: usize, resolver: Resolver) -> Changed
-    requires { ⌜ Made resolver ⌝ }
-    ensures { λ r. ⌜ Changes Template resolver r ⌝ }
-{
-    let mut bytes = [0u8; 512];
-    let mut blocks = [0.0f64; 320];
-    let b = crate::text::read_bytes(line, at, &mut bytes);
+// A template set's fields: how much of each list was read, and the rest.
+struct TemplateRead {
+    at: usize,
+    bytes: usize,
+    times: TemplateTimes,
+    offset: bool,
+    blocks: usize,
+    filling: Filling,
+}
+
+fn read_template(line: &[u8], at: usize, bytes: &mut [u8], blocks: &mut [f64]) -> TemplateRead {
+    let b = crate::text::read_bytes(line, at, bytes);
     let start = crate::text::read_double(line, b.at);
     let end = crate::text::read_double(line, start.at);
     let stride = crate::text::read_double(line, end.at);
     let o = read_offset(line, stride.at);
-    let bl = crate::text::doubles_after(line, o.at, b"bl", &mut blocks);
-    let f = read_filling(line, bl.at);
-    if !crate::text::is_end(line, f.at) {
-        return unreadable(Change::Template, resolver);
-    }
+    let bl = crate::text::doubles_after(line, o.at, b"bl", blocks);
+    let filling = read_filling(line, bl.at);
     let times = TemplateTimes {
         start: start.value,
         end: end.value,
         stride: stride.value,
         offset: o.value,
     };
-    let default = Default {
-        mark: f.mark,
-        value: f.value,
-    };
-    let accepted = resolver.accept_template(
-        first_bytes(&bytes, b.count),
+    TemplateRead {
+        at: filling.at,
+        bytes: b.count,
         times,
-        o.present,
-        first_doubles(&blocks, bl.count),
+        offset: o.present,
+        blocks: bl.count,
+        filling,
+    }
+}
+
+fn expand_read(read: TemplateRead, bytes: &[u8], blocks: &[f64], resolver: Resolver) -> Accepted
+    requires { ⌜ Made resolver ⌝ }
+    ensures { λ r. ⌜ Expands resolver (templateOf read (was bytes) (was blocks)) r ⌝ }
+{
+    let filling = read.filling;
+    let times = read.times;
+    let default = Default {
+        mark: filling.mark,
+        value: filling.value,
+    };
+    resolver.accept_template(
+        first_bytes(bytes, read.bytes),
+        times,
+        read.offset,
+        first_doubles(blocks, read.blocks),
         default,
-        f.interpolate,
-    );
+        filling.interpolate,
+    )
+}
+
+fn template(line: &[u8], at: usize, resolver: Resolver) -> Changed
+    requires { ⌜ Made resolver ⌝ }
+    ensures { λ r. ⌜ Changes Template resolver r ⌝ }
+{
+    let mut bytes = [0u8; 512];
+    let mut blocks = [0.0f64; 320];
+    let read = read_template(line, at, &mut bytes, &mut blocks);
+    if !crate::text::is_end(line, read.at) {
+        return unreadable(Change::Template, resolver);
+    }
+    let accepted = expand_read(read, &bytes, &blocks, resolver);
     Changed {
         readable: true,
         accepted,

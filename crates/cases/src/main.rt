@@ -9,6 +9,7 @@ mod track_hash;
 use crate::lines::calls;
 use crate::lines::calls::Call;
 use crate::lines::calls::Change;
+use crate::lines::calls::Question;
 use crate::lines::input;
 use crate::lines::input::Buffer;
 use crate::lines::lent;
@@ -127,22 +128,7 @@ fn run(
         Call::Case(at) => case(line, at, session, out),
         Call::Samples(at) => lend(line, at, session, ends, times, values, marks, out),
         Call::Changing(kind, at) => change(kind, line, at, session, out),
-        Call::Asking(kind, at) => {
-            let n = crate::questions::ask(
-                kind,
-                line,
-                at,
-                session.resolver,
-                session.lent,
-                ends,
-                times,
-                values,
-                marks,
-                out,
-                session.full,
-            );
-            written(session, n)
-        }
+        Call::Asking(kind, at) => { ask(kind, line, at, session, ends, times, values, marks, out) }
     }
 }
 
@@ -183,6 +169,36 @@ fn lend(
         lent: read,
         resolver,
     }
+}
+
+fn ask(
+    kind: Question,
+    line: &[u8],
+    at: usize,
+    session: Session,
+    ends: &[u64],
+    times: &[f64],
+    values: &[f64],
+    marks: &[u8],
+    out: &mut [u8],
+) -> Session
+    requires { ⌜ Made (session .resolver) ⌝ }
+    ensures { λ r. ⌜ Made (r .resolver) ⌝ }
+{
+    let n = crate::questions::ask(
+        kind,
+        line,
+        at,
+        session.resolver,
+        session.lent,
+        ends,
+        times,
+        values,
+        marks,
+        out,
+        session.full,
+    );
+    written(session, n)
 }
 
 fn change(kind: Change, line: &[u8], at: usize, session: Session, out: &mut [u8]) -> Session

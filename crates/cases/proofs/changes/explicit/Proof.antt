@@ -5,51 +5,26 @@ use Rattle.cases.proofs.Changing.{handed-on}
 use Rattle.cases.proofs.changes.explicit.Statement.{statement}
 use Rattle.cases.proofs.changes.explicit.Tie as tie
 
-abbrev entry : tie.After-is-end → tie.Start
-entry c = c .before .before .before .before .before .before .before .before .before .before .before .before .before .before .before .before .before .before .before .before .before .before .before .before .before .before .before .before .before .before .before .before .before .before
-
-unreadable-requires : tie.Need-unreadable-requires
-unreadable-requires c κs = entry (c .before) .pre
-
-accept-requires : tie.Need-accept-requires
-accept-requires c κs = entry (c .before) .pre
-
 returns-2 : tie.Need-returns-2
-returns-2 c = handed-on Explicit _ (c .accept .result) (_, c .accept .ensures) (c .accept .ensures .made)
+returns-2 c = handed-on Explicit _ (c .accept-read .result) (_, c .accept-read .ensures) (c .accept-read .ensures .made)
 
 pub explicit-spec : {M : Type 1} → statement M
 explicit-spec =
     tie.close
     (tie.spec
-    (λ c κs. search needs)
     (λ c. search needs)
     (λ c. search needs)
-    (λ c κs. search needs)
-    (λ c. search needs)
-    (λ c κs. search needs)
     (λ c. search needs)
     (λ c. search needs)
-    (λ c κs. search needs)
-    (λ c. search needs)
-    (λ c κs. search needs)
-    (λ c. search needs)
-    (λ c. search needs)
-    (λ c κs. search needs)
-    (λ c. search needs)
-    (λ c κs. search needs)
-    (λ c. search needs)
-    (λ c. search needs)
-    (λ c κs. search needs)
-    (λ c. search needs)
-    (λ c κs. search needs)
-    (λ c. search needs)
-    (λ c. search needs)
-    (λ c κs. search needs)
     (λ c. search needs)
     (λ c κs. search needs)
     (λ c κs. search needs)
     (λ c κs. search needs)
-    unreadable-requires
     (λ c. search needs)
-    accept-requires
+    (λ c. search needs)
+    (λ c. search needs)
+    (λ c. search needs)
+    (λ c. search needs)
+    (λ c. search needs)
+    (λ c κs. search needs)
     returns-2)
