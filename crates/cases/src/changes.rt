@@ -1,17 +1,22 @@
-// The calls that change what stands: each reads its fields, and hands back the resolver as the operation left it.
+// The calls that change what stands: each reads its fields, and hands back what the operation replied.
 use crate::lines::calls::Change;
-use crate::lines::reply;
 use crate::text::first_bytes;
 use crate::text::first_doubles;
 use definitions::Default;
 use definitions::LayerOffset;
 use definitions::TemplateTimes;
+use resolver::Accepted;
 use resolver::Resolver;
+ghost use Rattle.definitions.specs.Moments.{was};
 ghost use Rattle.resolver.specs.State.{Made};
+ghost use Rattle.resolver.specs.Promises.{Accepts, Expands};
+ghost use Rattle.cases.specs.declared.lines.calls.Change.the-variants.{Explicit, Template, Retime};
+ghost use Rattle.cases.specs.Changes.{Changes, explicitOf, templateOf};
 
-pub struct Changed {
-    pub full: usize,
-    pub resolver: Resolver,
+// What the operation replied, and before it whether the line could be read; if not, none was asked.
+pub(crate) struct Changed {
+    pub readable: bool,
+    pub accepted: Accepted,
 }
 
 // The manifest's part of a set: `def MARK VALUE flag 0/1`.
@@ -42,58 +47,114 @@ fn read_filling(line: &[u8], at: usize) -> Filling {
     }
 }
 
-fn unreadable(resolver: Resolver, out: &mut [u8], full: usize) -> Changed
+fn unreadable(kind: Change, resolver: Resolver) -> Changed
     requires { ⌜ Made resolver ⌝ }
-    ensures { λ r. ⌜ Made (r .resolver) ⌝ }
+    ensures { λ r. ⌜ Changes kind resolver r ⌝ }
 {
-    Changed {
-        full: reply::unreadable(out, full),
+    let accepted = Accepted {
+        number: 0,
         resolver,
+    };
+    Changed {
+        readable: false,
+        accepted,
     }
 }
 
-fn explicit(line: &[u8], at: usize, resolver: Resolver, out: &mut [u8], full: usize) -> Changed
+// An explicit set's fields: how much of each list was read, and the rest.
+struct ExplicitRead {
+    at: usize,
+    clips: u64,
+    starts: usize,
+    numbers: usize,
+    xs: usize,
+    ys: usize,
+    blocks: usize,
+    filling: Filling,
+}
+
+fn read_explicit(
+    line: &[u8],
+    at: usize,
+    starts: &mut [f64],
+    numbers: &mut [f64],
+    xs: &mut [f64],
+    ys: &mut [f64],
+    blocks: &mut [f64],
+) -> ExplicitRead {
+    let clips = crate::text::read_decimal(line, at);
+    let st = crate::text::doubles_after(line, clips.at, b"st", starts);
+    let sc = crate::text::doubles_after(line, st.at, b"sc", numbers);
+    let kx = crate::text::doubles_after(line, sc.at, b"kx", xs);
+    let ky = crate::text::doubles_after(line, kx.at, b"ky", ys);
+    let bl = crate::text::doubles_after(line, ky.at, b"bl", blocks);
+    let filling = read_filling(line, bl.at);
+    ExplicitRead {
+        at: filling.at,
+        clips: clips.value,
+        starts: st.count,
+        numbers: sc.count,
+        xs: kx.count,
+        ys: ky.count,
+        blocks: bl.count,
+        filling,
+    }
+}
+
+fn accept_read(
+    read: ExplicitRead,
+    starts: &[f64],
+    numbers: &[f64],
+    xs: &[f64],
+    ys: &[f64],
+    blocks: &[f64],
+    resolver: Resolver,
+) -> Accepted
     requires { ⌜ Made resolver ⌝ }
-    ensures { λ r. ⌜ Made (r .resolver) ⌝ }
+    ensures { λ r. ⌜ Accepts resolver (explicitOf read (was starts) (was numbers) (was xs) (was ys) (was blocks)) r ⌝ }
+{
+    let filling = read.filling;
+    let default = Default {
+        mark: filling.mark,
+        value: filling.value,
+    };
+    resolver.accept(
+        read.clips,
+        first_doubles(starts, read.starts),
+        first_doubles(numbers, read.numbers),
+        first_doubles(xs, read.xs),
+        first_doubles(ys, read.ys),
+        first_doubles(blocks, read.blocks),
+        default,
+        filling.interpolate,
+    )
+}
+
+fn explicit(line: &[u8], at: usize, resolver: Resolver) -> Changed
+    requires { ⌜ Made resolver ⌝ }
+    ensures { λ r. ⌜ Changes Explicit resolver r ⌝ }
 {
     let mut starts = [0.0f64; 320];
     let mut numbers = [0.0f64; 320];
     let mut xs = [0.0f64; 640];
     let mut ys = [0.0f64; 640];
     let mut blocks = [0.0f64; 320];
-    let clips = crate::text::read_decimal(line, at);
-    let st = crate::text::doubles_after(line, clips.at, b"st", &mut starts);
-    let starts = first_doubles(&starts, st.count);
-    let sc = crate::text::doubles_after(line, st.at, b"sc", &mut numbers);
-    let numbers = first_doubles(&numbers, sc.count);
-    let kx = crate::text::doubles_after(line, sc.at, b"kx", &mut xs);
-    let xs = first_doubles(&xs, kx.count);
-    let ky = crate::text::doubles_after(line, kx.at, b"ky", &mut ys);
-    let ys = first_doubles(&ys, ky.count);
-    let bl = crate::text::doubles_after(line, ky.at, b"bl", &mut blocks);
-    let blocks = first_doubles(&blocks, bl.count);
-    let f = read_filling(line, bl.at);
-    if !crate::text::is_end(line, f.at) {
-        return unreadable(resolver, out, full);
-    }
-    let default = Default {
-        mark: f.mark,
-        value: f.value,
-    };
-    let accepted = resolver.accept(
-        clips.value,
-        starts,
-        numbers,
-        xs,
-        ys,
-        blocks,
-        default,
-        f.interpolate,
+    let read = read_explicit(
+        line,
+        at,
+        &mut starts,
+        &mut numbers,
+        &mut xs,
+        &mut ys,
+        &mut blocks,
     );
-    let left = accepted.resolver;
+    if !crate::text::is_end(line, read.at) {
+        return unreadable(Change::Explicit, resolver);
+    }
+    let accepted = accept_read(read, &starts, &numbers, &xs, &ys, &blocks, resolver);
     Changed {
-        full: reply::accepted(accepted.number, out, full),
-        resolver: left,
+        readable: true,
+        accepted,
     }
 }
 
@@ -121,82 +182,104 @@ fn read_offset(line: &[u8], at: usize) -> Offset {
     }
 }
 
-fn template(line: &[u8], at: usize, resolver: Resolver, out: &mut [u8], full: usize) -> Changed
-    requires { ⌜ Made resolver ⌝ }
-    ensures { λ r. ⌜ Made (r .resolver) ⌝ }
-{
-    let mut bytes = [0u8; 512];
-    let mut blocks = [0.0f64; 320];
-    let b = crate::text::read_bytes(line, at, &mut bytes);
+// A template set's fields: how much of each list was read, and the rest.
+struct TemplateRead {
+    at: usize,
+    bytes: usize,
+    times: TemplateTimes,
+    offset: bool,
+    blocks: usize,
+    filling: Filling,
+}
+
+fn read_template(line: &[u8], at: usize, bytes: &mut [u8], blocks: &mut [f64]) -> TemplateRead {
+    let b = crate::text::read_bytes(line, at, bytes);
     let start = crate::text::read_double(line, b.at);
     let end = crate::text::read_double(line, start.at);
     let stride = crate::text::read_double(line, end.at);
     let o = read_offset(line, stride.at);
-    let bl = crate::text::doubles_after(line, o.at, b"bl", &mut blocks);
-    let f = read_filling(line, bl.at);
-    if !crate::text::is_end(line, f.at) {
-        return unreadable(resolver, out, full);
-    }
+    let bl = crate::text::doubles_after(line, o.at, b"bl", blocks);
+    let filling = read_filling(line, bl.at);
     let times = TemplateTimes {
         start: start.value,
         end: end.value,
         stride: stride.value,
         offset: o.value,
     };
-    let default = Default {
-        mark: f.mark,
-        value: f.value,
-    };
-    let accepted = resolver.accept_template(
-        first_bytes(&bytes, b.count),
+    TemplateRead {
+        at: filling.at,
+        bytes: b.count,
         times,
-        o.present,
-        first_doubles(&blocks, bl.count),
-        default,
-        f.interpolate,
-    );
-    let left = accepted.resolver;
-    Changed {
-        full: reply::accepted(accepted.number, out, full),
-        resolver: left,
+        offset: o.present,
+        blocks: bl.count,
+        filling,
     }
 }
 
-fn retime(line: &[u8], at: usize, resolver: Resolver, out: &mut [u8], full: usize) -> Changed
+fn expand_read(read: TemplateRead, bytes: &[u8], blocks: &[f64], resolver: Resolver) -> Accepted
     requires { ⌜ Made resolver ⌝ }
-    ensures { λ r. ⌜ Made (r .resolver) ⌝ }
+    ensures { λ r. ⌜ Expands resolver (templateOf read (was bytes) (was blocks)) r ⌝ }
+{
+    let filling = read.filling;
+    let times = read.times;
+    let default = Default {
+        mark: filling.mark,
+        value: filling.value,
+    };
+    resolver.accept_template(
+        first_bytes(bytes, read.bytes),
+        times,
+        read.offset,
+        first_doubles(blocks, read.blocks),
+        default,
+        filling.interpolate,
+    )
+}
+
+fn template(line: &[u8], at: usize, resolver: Resolver) -> Changed
+    requires { ⌜ Made resolver ⌝ }
+    ensures { λ r. ⌜ Changes Template resolver r ⌝ }
+{
+    let mut bytes = [0u8; 512];
+    let mut blocks = [0.0f64; 320];
+    let read = read_template(line, at, &mut bytes, &mut blocks);
+    if !crate::text::is_end(line, read.at) {
+        return unreadable(Change::Template, resolver);
+    }
+    let accepted = expand_read(read, &bytes, &blocks, resolver);
+    Changed {
+        readable: true,
+        accepted,
+    }
+}
+
+fn retime(line: &[u8], at: usize, resolver: Resolver) -> Changed
+    requires { ⌜ Made resolver ⌝ }
+    ensures { λ r. ⌜ Changes Retime resolver r ⌝ }
 {
     let offset = crate::text::read_double(line, at);
     let scale = crate::text::read_double(line, offset.at);
     if !crate::text::is_end(line, scale.at) {
-        return unreadable(resolver, out, full);
+        return unreadable(Change::Retime, resolver);
     }
     let o = LayerOffset {
         offset: offset.value,
         scale: scale.value,
     };
     let accepted = resolver.retime(o);
-    let left = accepted.resolver;
     Changed {
-        full: reply::accepted(accepted.number, out, full),
-        resolver: left,
+        readable: true,
+        accepted,
     }
 }
 
-pub fn change(
-    kind: Change,
-    line: &[u8],
-    at: usize,
-    resolver: Resolver,
-    out: &mut [u8],
-    full: usize,
-) -> Changed
+pub(crate) fn change(kind: Change, line: &[u8], at: usize, resolver: Resolver) -> Changed
     requires { ⌜ Made resolver ⌝ }
-    ensures { λ r. ⌜ Made (r .resolver) ⌝ }
+    ensures { λ r. ⌜ Changes kind resolver r ⌝ }
 {
     match kind {
-        Change::Explicit => explicit(line, at, resolver, out, full),
-        Change::Template => template(line, at, resolver, out, full),
-        Change::Retime => retime(line, at, resolver, out, full),
+        Change::Explicit => explicit(line, at, resolver),
+        Change::Template => template(line, at, resolver),
+        Change::Retime => retime(line, at, resolver),
     }
 }

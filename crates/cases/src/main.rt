@@ -9,6 +9,7 @@ mod track_hash;
 use crate::lines::calls;
 use crate::lines::calls::Call;
 use crate::lines::calls::Change;
+use crate::lines::calls::Question;
 use crate::lines::input;
 use crate::lines::input::Buffer;
 use crate::lines::lent;
@@ -20,7 +21,7 @@ ghost use lib.ListN.{length};
 ghost use Rattle.resolver.specs.State.{Made};
 
 // What a line leaves for the next one: how much of the output buffer is in use, the samples that are lent, and what stands.
-pub struct Session {
+struct Session {
     pub full: usize,
     pub lent: Lent,
     pub resolver: Resolver,
@@ -62,9 +63,6 @@ fn serve(
     times: &mut [f64],
     values: &mut [f64],
     marks: &mut [u8],
-    outtimes: &mut [f64],
-    outvalues: &mut [f64],
-    outmarks: &mut [u8],
 ) {
     let mut session = begin(0);
     let mut buffer = input::empty();
@@ -80,9 +78,6 @@ fn serve(
                 times,
                 values,
                 marks,
-                outtimes,
-                outvalues,
-                outmarks,
                 out,
             );
             buffer = input::past(buffer, to);
@@ -122,9 +117,6 @@ fn run(
     times: &mut [f64],
     values: &mut [f64],
     marks: &mut [u8],
-    outtimes: &mut [f64],
-    outvalues: &mut [f64],
-    outmarks: &mut [u8],
     out: &mut [u8],
 ) -> Session
     requires { ⌜ Made (session .resolver) ⌝ }
@@ -136,25 +128,7 @@ fn run(
         Call::Case(at) => case(line, at, session, out),
         Call::Samples(at) => lend(line, at, session, ends, times, values, marks, out),
         Call::Changing(kind, at) => change(kind, line, at, session, out),
-        Call::Asking(kind, at) => {
-            let n = crate::questions::ask(
-                kind,
-                line,
-                at,
-                session.resolver,
-                session.lent,
-                ends,
-                times,
-                values,
-                marks,
-                outtimes,
-                outvalues,
-                outmarks,
-                out,
-                session.full,
-            );
-            written(session, n)
-        }
+        Call::Asking(kind, at) => { ask(kind, line, at, session, ends, times, values, marks, out) }
     }
 }
 
@@ -197,17 +171,49 @@ fn lend(
     }
 }
 
+fn ask(
+    kind: Question,
+    line: &[u8],
+    at: usize,
+    session: Session,
+    ends: &[u64],
+    times: &[f64],
+    values: &[f64],
+    marks: &[u8],
+    out: &mut [u8],
+) -> Session
+    requires { ⌜ Made (session .resolver) ⌝ }
+    ensures { λ r. ⌜ Made (r .resolver) ⌝ }
+{
+    let n = crate::questions::ask(
+        kind,
+        line,
+        at,
+        session.resolver,
+        session.lent,
+        ends,
+        times,
+        values,
+        marks,
+        out,
+        session.full,
+    );
+    written(session, n)
+}
+
 fn change(kind: Change, line: &[u8], at: usize, session: Session, out: &mut [u8]) -> Session
     requires { ⌜ Made (session .resolver) ⌝ }
     ensures { λ r. ⌜ Made (r .resolver) ⌝ }
 {
-    let changed = crate::changes::change(kind, line, at, session.resolver, out, session.full);
+    let changed = crate::changes::change(kind, line, at, session.resolver);
+    let accepted = changed.accepted;
+    let n = reply::changed(changed.readable, accepted.number, out, session.full);
     let lent = session.lent;
-    let left = changed.resolver;
+    let resolver = accepted.resolver;
     Session {
-        full: changed.full,
+        full: n,
         lent,
-        resolver: left,
+        resolver,
     }
 }
 
@@ -225,9 +231,6 @@ fn main() {
     let mut times = [0.0f64; 5120];
     let mut values = [0.0f64; 5120];
     let mut marks = [0u8; 5120];
-    let mut outtimes = [0.0f64; 65536];
-    let mut outvalues = [0.0f64; 65536];
-    let mut outmarks = [0u8; 65536];
     serve(
         &mut input,
         &mut out,
@@ -235,8 +238,5 @@ fn main() {
         &mut times,
         &mut values,
         &mut marks,
-        &mut outtimes,
-        &mut outvalues,
-        &mut outmarks,
     );
 }

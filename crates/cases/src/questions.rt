@@ -12,7 +12,7 @@ use resolver::Resolver;
 ghost use Rattle.resolver.specs.State.{Made};
 
 // Answers a question about what stands and the first entries of the lists, which are lent.
-pub fn ask(
+pub(crate) fn ask(
     kind: Question,
     line: &[u8],
     at: usize,
@@ -22,9 +22,6 @@ pub fn ask(
     times: &[f64],
     values: &[f64],
     marks: &[u8],
-    outtimes: &mut [f64],
-    outvalues: &mut [f64],
-    outmarks: &mut [u8],
     out: &mut [u8],
     full: usize,
 ) -> usize
@@ -39,9 +36,6 @@ pub fn ask(
         first_doubles(times, lent.times),
         first_doubles(values, lent.values),
         first_bytes(marks, lent.marks),
-        outtimes,
-        outvalues,
-        outmarks,
         out,
         full,
     )
@@ -56,9 +50,6 @@ fn answer(
     times: &[f64],
     values: &[f64],
     marks: &[u8],
-    outtimes: &mut [f64],
-    outvalues: &mut [f64],
-    outmarks: &mut [u8],
     out: &mut [u8],
     full: usize,
 ) -> usize
@@ -69,9 +60,7 @@ fn answer(
         Question::Active => timing::active(line, at, resolver, out, full),
         Question::ClipTime => timing::clip_time(line, at, resolver, out, full),
         Question::Name => crate::setless::name(line, at, out, full),
-        Question::Normalize => {
-            crate::setless::normalize(line, at, outtimes, outvalues, outmarks, out, full)
-        }
+        Question::Normalize => crate::setless::normalize(line, at, out, full),
         Question::Value => {
             sampled::value(line, at, resolver, ends, times, values, marks, out, full)
         }
@@ -86,7 +75,6 @@ fn answer(
             times,
             values,
             marks,
-            outtimes,
             out,
             full,
         ),
@@ -98,8 +86,6 @@ fn answer(
             times,
             values,
             marks,
-            outtimes,
-            outmarks,
             out,
             full,
         ),
@@ -111,9 +97,6 @@ fn answer(
             times,
             values,
             marks,
-            outtimes,
-            outvalues,
-            outmarks,
             out,
             full,
         ),

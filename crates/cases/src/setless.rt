@@ -30,7 +30,7 @@ fn named(
     }
 }
 
-pub fn name(line: &[u8], at: usize, out: &mut [u8], full: usize) -> usize {
+pub(crate) fn name(line: &[u8], at: usize, out: &mut [u8], full: usize) -> usize {
     let mut template = [0u8; 512];
     let mut written = [0u8; 512];
     let b = crate::text::read_bytes(line, at, &mut template);
@@ -49,8 +49,8 @@ pub fn name(line: &[u8], at: usize, out: &mut [u8], full: usize) -> usize {
     )
 }
 
-// The samples in order, in the first `count` entries of the three lists. The values are those of `values::lend`.
-fn normalized(
+// The samples in order, in the first `count` entries of three lists. The values are those of `values::lend`.
+fn normalized_in(
     times: &[f64],
     lent: &[f64],
     marks: &[u8],
@@ -88,15 +88,33 @@ fn normalized(
     )
 }
 
-pub fn normalize(
-    line: &[u8],
-    at: usize,
-    outtimes: &mut [f64],
-    outvalues: &mut [f64],
-    outmarks: &mut [u8],
+fn normalized(
+    times: &[f64],
+    lent: &[f64],
+    marks: &[u8],
+    patterns: &[u64],
+    count: usize,
     out: &mut [u8],
     full: usize,
 ) -> usize {
+    let mut outtimes = [0.0f64; 65536];
+    let mut outvalues = [0.0f64; 65536];
+    let mut outmarks = [0u8; 65536];
+    normalized_in(
+        times,
+        lent,
+        marks,
+        patterns,
+        count,
+        &mut outtimes,
+        &mut outvalues,
+        &mut outmarks,
+        out,
+        full,
+    )
+}
+
+pub(crate) fn normalize(line: &[u8], at: usize, out: &mut [u8], full: usize) -> usize {
     let mut times = [0.0f64; 5120];
     let mut patterns = [0u64; 5120];
     let mut marks = [0u8; 5120];
@@ -118,9 +136,6 @@ pub fn normalize(
         marks,
         patterns,
         s.count,
-        outtimes,
-        outvalues,
-        outmarks,
         out,
         full,
     )

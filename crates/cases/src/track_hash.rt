@@ -189,7 +189,7 @@ fn walk(
 }
 
 // The head, and the hash of the changes behind it.
-pub struct Hashed {
+pub(crate) struct Hashed {
     pub mark: u8,
     pub value: f64,
     pub count: u64,
@@ -245,7 +245,7 @@ fn hash_lists(
 }
 
 // The hash of a standing set's track, from its arrays.
-pub fn hash_of<'a>(
+pub(crate) fn hash_of<'a>(
     starts: &'a [f64],
     numbers: &'a [u64],
     xs: &'a [f64],
@@ -277,7 +277,7 @@ pub fn hash_of<'a>(
     )
 }
 
-pub fn put_hashed(h: Hashed, out: &mut [u8], full: usize) -> usize {
+pub(crate) fn put_hashed(h: Hashed, out: &mut [u8], full: usize) -> usize {
     let n = reply::head(b"trackhash", h.mark, h.value, out, full);
     let n = reply::decimal(h.count, out, n);
     let n = crate::text::put_byte(out, n, b' ');

@@ -1,12 +1,12 @@
 // Which call a line makes, and where its arguments begin.
 
-pub enum Change {
+pub(crate) enum Change {
     Explicit,
     Template,
     Retime,
 }
 
-pub enum Question {
+pub(crate) enum Question {
     Dump,
     Active,
     ClipTime,
@@ -20,7 +20,7 @@ pub enum Question {
     Normalize,
 }
 
-pub enum Call {
+pub(crate) enum Call {
     Nothing,
     Unreadable,
     Case(usize),
@@ -29,7 +29,7 @@ pub enum Call {
     Asking(Question, usize),
 }
 
-pub fn call_of(line: &[u8]) -> Call {
+pub(crate) fn call_of(line: &[u8]) -> Call {
     if crate::text::is_end(line, 0) {
         return Call::Nothing;
     }

@@ -3,7 +3,7 @@ use crate::text::Stop;
 use crate::text::first_bytes;
 use crate::text::scan;
 
-pub struct Buffer {
+pub(crate) struct Buffer {
     pub from: usize,
     pub end: usize,
     // Inside a line that is longer than the buffer: what is left of it is passed over.
@@ -11,7 +11,7 @@ pub struct Buffer {
     pub ended: bool,
 }
 
-pub fn empty() -> Buffer {
+pub(crate) fn empty() -> Buffer {
     Buffer {
         from: 0,
         end: 0,
@@ -21,12 +21,12 @@ pub fn empty() -> Buffer {
 }
 
 // The place of the next line end, `end` or beyond if there is none.
-pub fn line_end(input: &[u8], buffer: Buffer) -> usize {
+pub(crate) fn line_end(input: &[u8], buffer: Buffer) -> usize {
     scan(first_bytes(input, buffer.end), buffer.from, Stop::LineEnd)
 }
 
 // The line up to `to`, without its comment; empty where the end of a skipped line stands there.
-pub fn line(input: &[u8], buffer: Buffer, to: usize) -> &[u8] {
+pub(crate) fn line(input: &[u8], buffer: Buffer, to: usize) -> &[u8] {
     let from = buffer.from;
     if buffer.skips {
         return &input[0..0];
@@ -35,7 +35,7 @@ pub fn line(input: &[u8], buffer: Buffer, to: usize) -> &[u8] {
 }
 
 // The line that ends at `to` is answered.
-pub fn past(buffer: Buffer, to: usize) -> Buffer {
+pub(crate) fn past(buffer: Buffer, to: usize) -> Buffer {
     if to < buffer.end {
         return Buffer {
             from: to + 1,
@@ -92,7 +92,7 @@ fn read_behind(input: &mut [u8], kept: usize, skips: bool) -> Buffer {
 }
 
 // No line end is left in the buffer: keeps the line that has begun, unless it fills the buffer, and reads more.
-pub fn refill(input: &mut [u8], buffer: Buffer) -> Buffer {
+pub(crate) fn refill(input: &mut [u8], buffer: Buffer) -> Buffer {
     if buffer.skips {
         return read_behind(input, 0, true);
     }

@@ -1,6 +1,6 @@
 // The samples that a case lends with its questions: how much of each of the four lists is in use.
 
-pub struct Lent {
+pub(crate) struct Lent {
     pub readable: bool,
     pub ends: usize,
     pub times: usize,
@@ -8,7 +8,7 @@ pub struct Lent {
     pub marks: usize,
 }
 
-pub fn none() -> Lent {
+pub(crate) fn none() -> Lent {
     Lent {
         readable: true,
         ends: 0,
@@ -29,7 +29,7 @@ fn unreadable() -> Lent {
 }
 
 // Reads the samples into the four lists. After a line that is not readable no samples are lent.
-pub fn read(
+pub(crate) fn read(
     line: &[u8],
     at: usize,
     ends: &mut [u64],

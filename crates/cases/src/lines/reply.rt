@@ -2,17 +2,21 @@
 use crate::lines::input::Buffer;
 use crate::lines::lent::Lent;
 
-pub fn unreadable(out: &mut [u8], full: usize) -> usize {
+pub(crate) fn unreadable(out: &mut [u8], full: usize) -> usize {
     crate::text::put(out, full, b"unreadable\n")
 }
 
-pub fn refused(number: u8, out: &mut [u8], full: usize) -> usize {
+pub(crate) fn refused(number: u8, out: &mut [u8], full: usize) -> usize {
     let n = crate::text::put(out, full, b"refused ");
     let n = crate::text::put_decimal(out, n, number as u64);
     crate::text::put_byte(out, n, b'\n')
 }
 
-pub fn accepted(number: u8, out: &mut [u8], full: usize) -> usize {
+// Of a call that may change what stands.
+pub(crate) fn changed(readable: bool, number: u8, out: &mut [u8], full: usize) -> usize {
+    if !readable {
+        return unreadable(out, full);
+    }
     if number == 0 {
         return crate::text::put(out, full, b"ok\n");
     }
@@ -20,7 +24,7 @@ pub fn accepted(number: u8, out: &mut [u8], full: usize) -> usize {
 }
 
 // A line was found to be longer than the buffer.
-pub fn skipped(before: Buffer, after: Buffer, out: &mut [u8], full: usize) -> usize {
+pub(crate) fn skipped(before: Buffer, after: Buffer, out: &mut [u8], full: usize) -> usize {
     if before.skips {
         return full;
     }
@@ -31,43 +35,43 @@ pub fn skipped(before: Buffer, after: Buffer, out: &mut [u8], full: usize) -> us
 }
 
 // Nothing for samples that were read.
-pub fn lent(lent: Lent, out: &mut [u8], full: usize) -> usize {
+pub(crate) fn lent(lent: Lent, out: &mut [u8], full: usize) -> usize {
     if lent.readable {
         return full;
     }
     unreadable(out, full)
 }
 
-pub fn case_named(name: &[u8], out: &mut [u8], full: usize) -> usize {
+pub(crate) fn case_named(name: &[u8], out: &mut [u8], full: usize) -> usize {
     let n = crate::text::put(out, full, b"case ");
     let n = crate::text::put(out, n, name);
     crate::text::put_byte(out, n, b'\n')
 }
 
 // A blank and a number.
-pub fn decimal(value: u64, out: &mut [u8], full: usize) -> usize {
+pub(crate) fn decimal(value: u64, out: &mut [u8], full: usize) -> usize {
     let n = crate::text::put_byte(out, full, b' ');
     crate::text::put_decimal(out, n, value)
 }
 
 // A blank and a mark.
-pub fn mark(value: u8, out: &mut [u8], full: usize) -> usize {
+pub(crate) fn mark(value: u8, out: &mut [u8], full: usize) -> usize {
     decimal(value as u64, out, full)
 }
 
 // A blank and a double's bits.
-pub fn bits(value: u64, out: &mut [u8], full: usize) -> usize {
+pub(crate) fn bits(value: u64, out: &mut [u8], full: usize) -> usize {
     let n = crate::text::put_byte(out, full, b' ');
     crate::text::put_bits(out, n, value)
 }
 
 // A blank and a double.
-pub fn double(value: f64, out: &mut [u8], full: usize) -> usize {
+pub(crate) fn double(value: f64, out: &mut [u8], full: usize) -> usize {
     bits(crate::text::bits_of(value), out, full)
 }
 
 // A track's head, behind the word of its call.
-pub fn head(word: &[u8], kind: u8, value: f64, out: &mut [u8], full: usize) -> usize {
+pub(crate) fn head(word: &[u8], kind: u8, value: f64, out: &mut [u8], full: usize) -> usize {
     let n = crate::text::put(out, full, word);
     let n = mark(kind, out, n);
     double(value, out, n)

@@ -1,9 +1,10 @@
 // How much of the lent output lists a question may use.
 use crate::text::Listed;
-ghost use Prim.Native.Nat.{_≤_};
+ghost use mathlib.Core.Path.{_≡_};
+ghost use Prim.Native.Nat.{min};
 
 // The line's last word, at most `most`, or `room` if the line has no more words.
-pub fn slots(line: &[u8], at: usize, room: usize, most: u64) -> Listed {
+pub(crate) fn slots(line: &[u8], at: usize, room: usize, most: u64) -> Listed {
     if crate::text::is_end(line, at) {
         return Listed { at, count: room };
     }
@@ -21,8 +22,8 @@ pub fn slots(line: &[u8], at: usize, room: usize, most: u64) -> Listed {
     }
 }
 
-pub fn least(a: usize, b: usize) -> usize
-    ensures { λ r. ⌜ (r ≤ a) × (r ≤ b) ⌝ }
+pub(crate) fn least(a: usize, b: usize) -> usize
+    ensures { λ r. ⌜ r ≡ min a b ⌝ }
 {
     if a < b {
         return a;

@@ -13,7 +13,7 @@ fn slot(pattern: u64, mark: u8, place: usize) -> f64 {
 }
 
 // The values of the samples with these bits and marks.
-pub fn lend(patterns: &[u64], marks: &[u8], values: &mut [f64]) {
+pub(crate) fn lend(patterns: &[u64], marks: &[u8], values: &mut [f64]) {
     let n = least(patterns.len(), least(marks.len(), values.len()));
     let mut i: usize = 0;
     while i < n {
@@ -23,7 +23,7 @@ pub fn lend(patterns: &[u64], marks: &[u8], values: &mut [f64]) {
 }
 
 // The bits of a value that came out.
-pub fn bits_in(value: f64, mark: u8, patterns: &[u64]) -> u64 {
+pub(crate) fn bits_in(value: f64, mark: u8, patterns: &[u64]) -> u64 {
     let bits = bits_of(value);
     if mark == 0 {
         return bits;

@@ -9,7 +9,13 @@ fn begin(word: &[u8], count: usize, out: &mut [u8], full: usize) -> usize {
 }
 
 // Each entry a time.
-pub fn times(word: &[u8], count: usize, times: &[f64], out: &mut [u8], full: usize) -> usize {
+pub(crate) fn times(
+    word: &[u8],
+    count: usize,
+    times: &[f64],
+    out: &mut [u8],
+    full: usize,
+) -> usize {
     let shown = least(count, times.len());
     let mut n = begin(word, count, out, full);
     let mut i: usize = 0;
@@ -26,7 +32,7 @@ fn marked_time(time: f64, mark: u8, out: &mut [u8], full: usize) -> usize {
 }
 
 // Each entry a time and a mark.
-pub fn marked_times(
+pub(crate) fn marked_times(
     word: &[u8],
     count: usize,
     times: &[f64],
@@ -50,7 +56,7 @@ fn change(time: f64, value: f64, mark: u8, out: &mut [u8], full: usize) -> usize
 }
 
 // Each entry a change's time, mark and value.
-pub fn changes(
+pub(crate) fn changes(
     count: usize,
     times: &[f64],
     values: &[f64],
@@ -75,7 +81,7 @@ fn sample(time: f64, pattern: u64, mark: u8, out: &mut [u8], full: usize) -> usi
 }
 
 // Each entry a sample's time, the bits of its value and its mark. The values are those of `values::lend`.
-pub fn samples(
+pub(crate) fn samples(
     count: usize,
     times: &[f64],
     values: &[f64],

@@ -83,7 +83,7 @@ fn put_set(set: StandingSet, out: &mut [u8], full: usize) -> usize
     put_blocks(set, out, n)
 }
 
-pub fn dump(line: &[u8], at: usize, resolver: Resolver, out: &mut [u8], full: usize) -> usize
+pub(super) fn dump(line: &[u8], at: usize, resolver: Resolver, out: &mut [u8], full: usize) -> usize
     requires { ⌜ Made resolver ⌝ }
 {
     if !crate::text::is_end(line, at) {

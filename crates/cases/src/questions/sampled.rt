@@ -23,7 +23,7 @@ fn answer(a: Answer, out: &mut [u8], full: usize) -> usize {
     }
 }
 
-pub fn value(
+pub(super) fn value(
     line: &[u8],
     at: usize,
     resolver: Resolver,
@@ -54,7 +54,7 @@ fn state(s: ValueState, out: &mut [u8], full: usize) -> usize {
     }
 }
 
-pub fn untimed(
+pub(super) fn untimed(
     line: &[u8],
     at: usize,
     resolver: Resolver,
@@ -76,9 +76,9 @@ pub fn untimed(
     }
 }
 
-pub fn stage_sample_times(
-    line: &[u8],
-    at: usize,
+// The times, in the first `count` entries of a list.
+fn times_in(
+    count: usize,
     resolver: Resolver,
     ends: &[u64],
     times: &[f64],
@@ -90,11 +90,7 @@ pub fn stage_sample_times(
 ) -> usize
     requires { ⌜ Made resolver ⌝ }
 {
-    let s = slots(line, at, 65536, 65536);
-    if !crate::text::is_end(line, s.at) {
-        return reply::unreadable(out, full);
-    }
-    let k = least(s.count, outtimes.len());
+    let k = least(count, outtimes.len());
     let counted = resolver.stage_sample_times(times, values, marks, ends, &mut outtimes[0..k]);
     if counted.number != 0 {
         return reply::refused(counted.number, out, full);
@@ -102,9 +98,40 @@ pub fn stage_sample_times(
     written::times(b"times", counted.count, outtimes, out, full)
 }
 
-pub fn stage_samples(
+pub(super) fn stage_sample_times(
     line: &[u8],
     at: usize,
+    resolver: Resolver,
+    ends: &[u64],
+    times: &[f64],
+    values: &[f64],
+    marks: &[u8],
+    out: &mut [u8],
+    full: usize,
+) -> usize
+    requires { ⌜ Made resolver ⌝ }
+{
+    let mut outtimes = [0.0f64; 65536];
+    let s = slots(line, at, 65536, 65536);
+    if !crate::text::is_end(line, s.at) {
+        return reply::unreadable(out, full);
+    }
+    times_in(
+        s.count,
+        resolver,
+        ends,
+        times,
+        values,
+        marks,
+        &mut outtimes,
+        out,
+        full,
+    )
+}
+
+// The stage samples, in the first `count` entries of two lists.
+fn samples_in(
+    count: usize,
     resolver: Resolver,
     ends: &[u64],
     times: &[f64],
@@ -117,11 +144,7 @@ pub fn stage_samples(
 ) -> usize
     requires { ⌜ Made resolver ⌝ }
 {
-    let s = slots(line, at, 65536, 65536);
-    if !crate::text::is_end(line, s.at) {
-        return reply::unreadable(out, full);
-    }
-    let k = least(s.count, least(outtimes.len(), outmarks.len()));
+    let k = least(count, least(outtimes.len(), outmarks.len()));
     let counted = resolver.stage_samples(
         times,
         values,
@@ -136,8 +159,41 @@ pub fn stage_samples(
     written::marked_times(b"ssamples", counted.count, outtimes, outmarks, out, full)
 }
 
-// The track, in the first `count` entries of the three lists.
-fn bake(
+pub(super) fn stage_samples(
+    line: &[u8],
+    at: usize,
+    resolver: Resolver,
+    ends: &[u64],
+    times: &[f64],
+    values: &[f64],
+    marks: &[u8],
+    out: &mut [u8],
+    full: usize,
+) -> usize
+    requires { ⌜ Made resolver ⌝ }
+{
+    let mut outtimes = [0.0f64; 65536];
+    let mut outmarks = [0u8; 65536];
+    let s = slots(line, at, 65536, 65536);
+    if !crate::text::is_end(line, s.at) {
+        return reply::unreadable(out, full);
+    }
+    samples_in(
+        s.count,
+        resolver,
+        ends,
+        times,
+        values,
+        marks,
+        &mut outtimes,
+        &mut outmarks,
+        out,
+        full,
+    )
+}
+
+// The track, in the first `count` entries of three lists.
+fn track_in(
     count: usize,
     resolver: Resolver,
     ends: &[u64],
@@ -172,7 +228,7 @@ fn bake(
     written::changes(baked.count, outtimes, outvalues, outmarks, out, n)
 }
 
-pub fn track(
+pub(super) fn track(
     line: &[u8],
     at: usize,
     resolver: Resolver,
@@ -180,35 +236,35 @@ pub fn track(
     times: &[f64],
     values: &[f64],
     marks: &[u8],
-    outtimes: &mut [f64],
-    outvalues: &mut [f64],
-    outmarks: &mut [u8],
     out: &mut [u8],
     full: usize,
 ) -> usize
     requires { ⌜ Made resolver ⌝ }
 {
+    let mut outtimes = [0.0f64; 65536];
+    let mut outvalues = [0.0f64; 65536];
+    let mut outmarks = [0u8; 65536];
     let s = slots(line, at, 65536, 65536);
     if !crate::text::is_end(line, s.at) {
         return reply::unreadable(out, full);
     }
-    bake(
+    track_in(
         s.count,
         resolver,
         ends,
         times,
         values,
         marks,
-        outtimes,
-        outvalues,
-        outmarks,
+        &mut outtimes,
+        &mut outvalues,
+        &mut outmarks,
         out,
         full,
     )
 }
 
 // The numbers are the bake's, except for 22.
-pub fn track_hash(
+pub(super) fn track_hash(
     line: &[u8],
     at: usize,
     resolver: Resolver,

@@ -6,7 +6,13 @@ use resolver::Resolver;
 use resolver::TimeReply;
 ghost use Rattle.resolver.specs.State.{Made};
 
-pub fn active(line: &[u8], at: usize, resolver: Resolver, out: &mut [u8], full: usize) -> usize
+pub(super) fn active(
+    line: &[u8],
+    at: usize,
+    resolver: Resolver,
+    out: &mut [u8],
+    full: usize,
+) -> usize
     requires { ⌜ Made resolver ⌝ }
 {
     let t = crate::text::read_double(line, at);
@@ -24,7 +30,13 @@ pub fn active(line: &[u8], at: usize, resolver: Resolver, out: &mut [u8], full: 
     }
 }
 
-pub fn clip_time(line: &[u8], at: usize, resolver: Resolver, out: &mut [u8], full: usize) -> usize
+pub(super) fn clip_time(
+    line: &[u8],
+    at: usize,
+    resolver: Resolver,
+    out: &mut [u8],
+    full: usize,
+) -> usize
     requires { ⌜ Made resolver ⌝ }
 {
     let t = crate::text::read_double(line, at);

@@ -8,9 +8,13 @@ use crate::text::words::NOWHERE;
 use crate::text::words::after;
 use crate::text::words::closed;
 use crate::text::words::skip_blanks;
+ghost use mathlib.Core.Path.{_≡_};
 ghost use Prim.Native.Nat.{_≤_};
+ghost use lib.ListN.{length, take};
+ghost use Rattle.definitions.specs.Moments.{was};
+ghost use Rattle.cases.specs.Text.{partOf};
 
-pub struct Listed {
+pub(crate) struct Listed {
     pub at: usize,
     pub count: usize,
 }
@@ -92,24 +96,24 @@ fn read_marks(line: &[u8], at: usize, out: &mut [u8]) -> Listed {
 }
 
 // The same lists behind the word that names them.
-pub fn doubles_after(line: &[u8], at: usize, word: &[u8], out: &mut [f64]) -> Listed {
+pub(crate) fn doubles_after(line: &[u8], at: usize, word: &[u8], out: &mut [f64]) -> Listed {
     read_doubles(line, after(line, at, word), out)
 }
 
-pub fn patterns_after(line: &[u8], at: usize, word: &[u8], out: &mut [u64]) -> Listed {
+pub(crate) fn patterns_after(line: &[u8], at: usize, word: &[u8], out: &mut [u64]) -> Listed {
     read_patterns(line, after(line, at, word), out)
 }
 
-pub fn numbers_after(line: &[u8], at: usize, word: &[u8], out: &mut [u64]) -> Listed {
+pub(crate) fn numbers_after(line: &[u8], at: usize, word: &[u8], out: &mut [u64]) -> Listed {
     read_numbers(line, after(line, at, word), out)
 }
 
-pub fn marks_after(line: &[u8], at: usize, word: &[u8], out: &mut [u8]) -> Listed {
+pub(crate) fn marks_after(line: &[u8], at: usize, word: &[u8], out: &mut [u8]) -> Listed {
     read_marks(line, after(line, at, word), out)
 }
 
 // The next word, bytes as hex pairs, or `-` for none.
-pub fn read_bytes(line: &[u8], at: usize, out: &mut [u8]) -> Listed {
+pub(crate) fn read_bytes(line: &[u8], at: usize, out: &mut [u8]) -> Listed {
     let none = after(line, at, b"-");
     if none != NOWHERE {
         return Listed { at: none, count: 0 };
@@ -152,21 +156,27 @@ fn low(n: u64) -> u8 {
 }
 
 // The first `count` entries of a list, all of them if it has fewer.
-pub fn first_doubles(list: &[f64], count: usize) -> &[f64] {
+pub(crate) fn first_doubles(list: &[f64], count: usize) -> &[f64]
+    ensures { λ r. ⌜ now r ≡ take count (was list) ⌝ }
+{
     if count <= list.len() {
         return &list[0..count];
     }
     list
 }
 
-pub fn first_numbers(list: &[u64], count: usize) -> &[u64] {
+pub(crate) fn first_numbers(list: &[u64], count: usize) -> &[u64]
+    ensures { λ r. ⌜ now r ≡ take count (was list) ⌝ }
+{
     if count <= list.len() {
         return &list[0..count];
     }
     list
 }
 
-pub fn first_bytes(list: &[u8], count: usize) -> &[u8] {
+pub(crate) fn first_bytes(list: &[u8], count: usize) -> &[u8]
+    ensures { λ r. ⌜ now r ≡ take count (was list) ⌝ }
+{
     if count <= list.len() {
         return &list[0..count];
     }
@@ -174,11 +184,14 @@ pub fn first_bytes(list: &[u8], count: usize) -> &[u8] {
 }
 
 // The bytes from `from` to `to`, none if there are no such.
-pub fn part(list: &[u8], from: usize, to: usize) -> &[u8] {
-    if from <= to {
-        if to <= list.len() {
-            return &list[from..to];
-        }
+pub(crate) fn part(list: &[u8], from: usize, to: usize) -> &[u8]
+    ensures { λ r. ⌜ now r ≡ partOf (was list) from to ⌝ }
+{
+    if from > to {
+        return &list[0..0];
     }
-    &list[0..0]
+    if to > list.len() {
+        return &list[0..0];
+    }
+    &list[from..to]
 }

@@ -6,17 +6,17 @@ ghost use Prim.Native.Nat.{_≤_};
 ghost use mathlib.Core.Path.{_≡_};
 ghost use lib.Ieee.{binary64, ofBits, toBits};
 
-pub struct Number {
+pub(crate) struct Number {
     pub at: usize,
     pub value: u64,
 }
 
-pub struct Byte {
+pub(crate) struct Byte {
     pub at: usize,
     pub value: u8,
 }
 
-pub struct Double {
+pub(crate) struct Double {
     pub at: usize,
     pub value: f64,
 }
@@ -66,7 +66,7 @@ fn decimal_digits(line: &[u8], at: usize) -> Number {
 }
 
 // The next word, a decimal number.
-pub fn read_decimal(line: &[u8], at: usize) -> Number {
+pub(crate) fn read_decimal(line: &[u8], at: usize) -> Number {
     let from = skip_blanks(line, at);
     let n = decimal_digits(line, from);
     if n.at == from {
@@ -79,7 +79,7 @@ pub fn read_decimal(line: &[u8], at: usize) -> Number {
 }
 
 // The next word, a decimal number that a byte holds.
-pub fn read_byte(line: &[u8], at: usize) -> Byte {
+pub(crate) fn read_byte(line: &[u8], at: usize) -> Byte {
     let n = read_decimal(line, at);
     let value = n.value;
     if value > 255 {
@@ -95,7 +95,7 @@ pub fn read_byte(line: &[u8], at: usize) -> Byte {
 }
 
 // The number of exactly `count` hex digits from `at` on.
-pub fn hex_digits(line: &[u8], at: usize, count: usize) -> Number {
+pub(crate) fn hex_digits(line: &[u8], at: usize, count: usize) -> Number {
     let mut i = at;
     let mut left = count;
     let mut value: u64 = 0;
@@ -118,7 +118,7 @@ pub fn hex_digits(line: &[u8], at: usize, count: usize) -> Number {
 }
 
 // The double of a bit pattern. The logic has one NaN, for all of its patterns.
-pub fn double_of(bits: u64) -> f64
+pub(crate) fn double_of(bits: u64) -> f64
     ensures { λ r. ⌜ r ≡ ofBits binary64 bits ⌝ }
 {
     if bits % 0x8000_0000_0000_0000 > 0x7ff0_0000_0000_0000 {
@@ -128,7 +128,7 @@ pub fn double_of(bits: u64) -> f64
 }
 
 // The bit pattern of a double, of a NaN the quiet one.
-pub fn bits_of(x: f64) -> u64
+pub(crate) fn bits_of(x: f64) -> u64
     ensures { λ r. ⌜ r ≡ toBits binary64 x ⌝ }
 {
     if x != x {
@@ -138,7 +138,7 @@ pub fn bits_of(x: f64) -> u64
 }
 
 // The next word, a double's bits.
-pub fn read_bits(line: &[u8], at: usize) -> Number {
+pub(crate) fn read_bits(line: &[u8], at: usize) -> Number {
     let n = hex_digits(line, skip_blanks(line, at), 16);
     Number {
         at: closed(line, n.at),
@@ -147,7 +147,7 @@ pub fn read_bits(line: &[u8], at: usize) -> Number {
 }
 
 // The next word, a double by its bits.
-pub fn read_double(line: &[u8], at: usize) -> Double {
+pub(crate) fn read_double(line: &[u8], at: usize) -> Double {
     let n = read_bits(line, at);
     Double {
         at: n.at,

@@ -21,14 +21,14 @@ const DIGITS: [u8; 16] = [
 ];
 
 // Writes the full part of the buffer.
-pub fn flush(out: &[u8], full: usize) -> usize {
+pub(crate) fn flush(out: &[u8], full: usize) -> usize {
     if full <= out.len() {
         io::write_all(1, &out[0..full]);
     }
     0
 }
 
-pub fn put_byte(out: &mut [u8], full: usize, b: u8) -> usize {
+pub(crate) fn put_byte(out: &mut [u8], full: usize, b: u8) -> usize {
     if full < out.len() {
         out[full] = b;
         return full + 1;
@@ -41,7 +41,7 @@ pub fn put_byte(out: &mut [u8], full: usize, b: u8) -> usize {
     0
 }
 
-pub fn put(out: &mut [u8], full: usize, text: &[u8]) -> usize {
+pub(crate) fn put(out: &mut [u8], full: usize, text: &[u8]) -> usize {
     let mut n = full;
     let mut i: usize = 0;
     while i < text.len() {
@@ -51,7 +51,7 @@ pub fn put(out: &mut [u8], full: usize, text: &[u8]) -> usize {
     n
 }
 
-pub fn put_decimal(out: &mut [u8], full: usize, value: u64) -> usize {
+pub(crate) fn put_decimal(out: &mut [u8], full: usize, value: u64) -> usize {
     let mut text = [0u8; 20];
     let k = io::decimal(value, &mut text);
     put(out, full, &text[..k])
@@ -64,7 +64,7 @@ fn glyph(d: u64) -> u8 {
 }
 
 // The bits of a number, as 16 hex digits.
-pub fn put_bits(out: &mut [u8], full: usize, value: u64) -> usize {
+pub(crate) fn put_bits(out: &mut [u8], full: usize, value: u64) -> usize {
     let mut n = full;
     let mut rest = value;
     let mut left: usize = 16;
@@ -77,7 +77,7 @@ pub fn put_bits(out: &mut [u8], full: usize, value: u64) -> usize {
 }
 
 // Bytes as hex pairs, `-` for none.
-pub fn put_bytes(out: &mut [u8], full: usize, text: &[u8]) -> usize {
+pub(crate) fn put_bytes(out: &mut [u8], full: usize, text: &[u8]) -> usize {
     if text.len() == 0 {
         return put_byte(out, full, b'-');
     }

@@ -1,50 +1,30 @@
--- `cases::changes::explicit` hands on a resolver that an operation made. Assumes nothing.
+-- `cases::changes::explicit` hands on what the operation promises of the fields that were read. Assumes nothing.
 use borrow.Author.Needs.{needs}
+use Rattle.cases.specs.declared.lines.calls.Change.the-variants.{Explicit}
+use Rattle.cases.proofs.Changing.{handed-on}
 use Rattle.cases.proofs.changes.explicit.Statement.{statement}
 use Rattle.cases.proofs.changes.explicit.Tie as tie
 
-unreadable-requires : tie.Need-unreadable-requires
-unreadable-requires c κs = c .before .before .before .before .before .before .before .before .before .before .before .before .before .before .before .before .before .before .before .before .before .before .before .before .before .before .before .before .before .before .before .before .before .before .before .before .before .pre
-
-accept-requires : tie.Need-accept-requires
-accept-requires c κs = c .before .before .before .before .before .before .before .before .before .before .before .before .before .before .before .before .before .before .before .before .before .before .before .before .before .before .before .before .before .before .before .before .before .before .before .before .pre
+returns-2 : tie.Need-returns-2
+returns-2 c = handed-on Explicit _ (c .accept-read .result) (_, c .accept-read .ensures) (c .accept-read .ensures .made)
 
 pub explicit-spec : {M : Type 1} → statement M
 explicit-spec =
     tie.close
     (tie.spec
-    (λ c κs. search needs)
     (λ c. search needs)
     (λ c. search needs)
-    (λ c κs. search needs)
-    (λ c. search needs)
-    (λ c κs. search needs)
     (λ c. search needs)
     (λ c. search needs)
-    (λ c κs. search needs)
-    (λ c. search needs)
-    (λ c κs. search needs)
-    (λ c. search needs)
-    (λ c. search needs)
-    (λ c κs. search needs)
-    (λ c. search needs)
-    (λ c κs. search needs)
-    (λ c. search needs)
-    (λ c. search needs)
-    (λ c κs. search needs)
-    (λ c. search needs)
-    (λ c κs. search needs)
-    (λ c. search needs)
-    (λ c. search needs)
-    (λ c κs. search needs)
     (λ c. search needs)
     (λ c κs. search needs)
     (λ c κs. search needs)
     (λ c κs. search needs)
-    unreadable-requires
     (λ c. search needs)
     (λ c. search needs)
-    accept-requires
+    (λ c. search needs)
+    (λ c. search needs)
+    (λ c. search needs)
+    (λ c. search needs)
     (λ c κs. search needs)
-    (λ c. search needs)
-    (λ c. search needs))
+    returns-2)

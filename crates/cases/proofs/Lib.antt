@@ -1,0 +1,3 @@
+-- Laws that several proofs cite. Assumes nothing.
+mod Changing
+mod Words

@@ -1,0 +1,3 @@
+-- What the program's functions promise. Assumes nothing.
+pub mod Changes
+pub mod Text
