@@ -22,7 +22,8 @@ use Rattle.laws.proofs.cell.Lent.{active-times, zip-length, zip-here, sound-set
 use Rattle.window.proofs.Parts.{ready-starts}
 use Rattle.window.specs.declared.search.Window.{Window}
 use Rattle.value.specs.WindowOf.{WindowIs}
-use Rattle.cell.specs.WindowPlaces.{PlaceIs, PlaceAt}
+use Rattle.cell.specs.declared.place.WindowPlace.{WindowPlace}
+use Rattle.cell.specs.WindowPlaces.{noPlace, PlaceIs, PlaceAt}
 
 module _ {starts : List Float} {clips : List ℕ} {xs ys blocks : List Float} {m : Missing} {times values : List Float} {marks ends : List ℕ} (R : AcceptedLists starts clips xs ys blocks m times values marks ends) where
   abbrev set : ClipSet
@@ -62,8 +63,10 @@ module _ {starts : List Float} {clips : List ℕ} {xs ys blocks : List Float} {m
   place-window t ft p w A h = A .is .window (let e = A .place h in let l = last-inside t (ft .fitting) starts (ready-starts R) h in omega arith)
 
   -- a walk that has not begun is in no window
-  pub no-place-is : (p : ℕ) (w : Window) → p ≡ length starts → PlaceIs starts clips xs ys blocks m times values marks ends p w
-  no-place-is p w e = record { window = λ h. absurd (omega arith); gap = λ h. absurd (omega arith) }
+  pub no-place-is : (r : WindowPlace) → r ≡ noPlace (length starts) → PlaceIs starts clips xs ys blocks m times values marks ends (r .start) (r .window)
+  no-place-is r e =
+      let n : r .start ≡ length starts = ap (λ (p : WindowPlace). p .start) e in
+      record { window = λ h. absurd (omega arith); gap = λ h. absurd (omega arith) }
 
   pub few-knots : length xs ≤ maxKnots
   unfolding setOf

@@ -6,14 +6,26 @@ use Prim.Native.Nat.{ℕ, _+_, _≤_, _<_}
 use lib.Dec.{ltb}
 use lib.ListN.{length}
 use lib.Ieee.{Float, eq}
+use Rattle.gf.specs.Doubles.{0·0}
 use Rattle.definitions.specs.declared.Missing.{Missing}
+use Rattle.definitions.specs.declared.Source.the-variants.{Blocked}
 use Rattle.definitions.specs.Lists.{any}
 use Rattle.definitions.specs.Timing.{lastAtMost}
 use Rattle.definitions.specs.Samples.{clipBegin, clipEnd}
 use Rattle.laws.specs.cell.Lent.{setOf, samplesOf}
 use Rattle.value.specs.direct.Sources.{standIn}
 use Rattle.window.specs.declared.search.Window.{Window}
+use Rattle.cell.specs.declared.place.WindowPlace.{WindowPlace}
 use Rattle.value.specs.WindowOf.{WindowIs}
+
+-- behind the last start, in no window
+abbrev pub noPlace : ℕ → WindowPlace
+noPlace n = record {
+  start = n;
+  window = record { start = 0·0; min = 0·0; max = 0·0; clip = 0; begin = 0; end = 0; gap = Blocked };
+  knot = 0;
+  sample = 0;
+}
 
 -- w is the window of the start at the place p, if that is a place; without samples its gap is what stands in for them
 pub record PlaceIs (starts : List Float) (clips : List ℕ) (xs ys blocks : List Float) (m : Missing) (times values : List Float) (marks ends : List ℕ) (p : ℕ) (w : Window) : Type 0 where

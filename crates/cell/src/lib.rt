@@ -33,7 +33,7 @@ pub enum Cell {
 }
 
 // The cell of a stage time, and the least boundary above it, up to which the cell says the value; and a
-// knot and a sample near it.
+// knot and a sample near it: hints, on which no contract rests.
 pub struct CellAndEnd {
     pub cell: Cell,
     pub end: Bound,

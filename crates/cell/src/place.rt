@@ -21,9 +21,9 @@ ghost use Rattle.definitions.specs.Samples.{clipBegin, clipEnd};
 ghost use Rattle.definitions.specs.Moments.{was};
 ghost use Rattle.laws.specs.cell.Lent.{AcceptedLists};
 ghost use Rattle.value.specs.WindowOf.{WindowIs};
-ghost use Rattle.cell.specs.WindowPlaces.{PlaceIs, PlaceAt, Follows};
+ghost use Rattle.cell.specs.WindowPlaces.{noPlace, PlaceIs, PlaceAt, Follows};
 
-// The place of a start and its window, and a knot and a sample near which a search begins.
+// The place of a start and its window, and a knot and a sample near which a search begins: hints, on which no contract rests.
 pub struct WindowPlace {
     pub start: usize,
     pub window: Window,
@@ -33,7 +33,7 @@ pub struct WindowPlace {
 
 // The place of a walk that has not begun: in no window.
 pub fn no_place(starts: &[f64]) -> WindowPlace
-    ensures { λ r. ⌜ r .start ≡ length (was starts) ⌝ }
+    ensures { λ r. ⌜ r ≡ noPlace (length (was starts)) ⌝ }
 {
     let w = Window {
         start: 0.0,

@@ -3,7 +3,7 @@ use Prim.Native.Nat.{ℕ, _≤_}
 use mathlib.Core.Path.{_≡_}
 use mathlib.Core.Bool.{Bool, false}
 use mathlib.Core.List.{List, [], map}
-use lib.ListN.{length, take}
+use lib.ListN.{length, take, replicate}
 use lib.Ieee.{Float}
 use Rattle.gf.specs.Doubles.{0·0}
 use Rattle.definitions.specs.declared.Knot.{Knot}
@@ -61,7 +61,19 @@ pub record ArraysWhole (s : ClipSet) : Type 0 where
   pub knots : Room maxKnots (s .knots .items) (s .knots .count)
   pub blocks : Room maxBlocks (s .blocks .items) (s .blocks .count)
 
+-- every slot 0
+unfoldable pub blankScratch : Scratch
+blankScratch = record {
+  times = replicate maxActive 0·0;
+  numbers = replicate maxActive 0;
+  xs = replicate maxKnots 0·0;
+  ys = replicate maxKnots 0·0;
+  blocks = replicate maxBlocks 0·0;
+}
+
+-- which gives each list its length
 pub record AllRoom (p : Scratch) : Type 0 where
+  pub is : p ≡ blankScratch
   pub times : length (p .times) ≡ maxActive
   pub numbers : length (p .numbers) ≡ maxActive
   pub xs : length (p .xs) ≡ maxKnots

@@ -113,7 +113,7 @@ fn is_past(latest: &[f64], i: usize, l: f64) -> bool
 }
 
 // The run that begins at t, if t lies in a segment and below the last of its inverse times before the next
-// knot and the next start. The hints are a knot and a sample.
+// knot and the next start. The hints are a knot and a sample. To say that none begins is never wrong: the cells say the same, one by one.
 pub fn run_begin(
     xs: &[f64],
     ys: &[f64],

@@ -23,7 +23,8 @@ ghost use Rattle.window.specs.search.Latest.{LatestOf};
 ghost use Rattle.stage.specs.Whole.{Windows, WholeWindow, wholeTimes, nextStart};
 ghost use Rattle.stage.specs.Times.{AcceptedTimes, NextTime};
 
-// The next time, and where the search for the one behind it may begin: the place of the active start, a knot and a sample.
+// The next time, and where the search for the one behind it may begin: the place of the active start, a knot and a sample,
+// hints on which no contract rests.
 pub struct Next {
     pub time: Bound,
     pub place: usize,

@@ -45,7 +45,7 @@ pub enum ReadBy {
     ByRun(u64, f64, Segment, usize),
 }
 
-// The way from a key on, what it says there, and its last key up to a top.
+// The way from a key on, what it says there, and its last key up to a top. A nearer last key would do as well, and take a further step.
 pub struct Span {
     pub way: ReadBy,
     pub here: Entry,

@@ -1,16 +1,17 @@
 -- The clip time on a segment that holds the time: it is that of the segment. Assumes nothing.
 use mathlib.Core.Path.{_≡_, _∙_}
-use mathlib.Core.Bool.{false}
+use mathlib.Core.Bool.{true, false, _&&_}
 use mathlib.Core.List.{List, [], _∷_}
 use Prim.Native.Nat.{ℕ, suc, _+_, _-_, _<_}
 use native.Mathlib.Numerals.{add-one}
 use native.Mathlib.Omega.{arith}
+use lib.Dec.{ltb, ltb→lt}
 use lib.ListN.{length, getD}
 use lib.Ieee.{Float, nan, lt, le}
 use Rattle.gf.proofs.KeyLaws.{le-trans, lt-not-le}
 use Rattle.definitions.specs.Explicit.{knot}
 use Rattle.definitions.specs.Timing.{lastAtMost, lastKnot, onSegment, mapTime}
-use Rattle.laws.proofs.list.Tests.{is-false, holds}
+use Rattle.laws.proofs.list.Tests.{is-false, is-true, holds, both-l, both-r}
 use Rattle.laws.proofs.list.Every.{zip-at}
 use Rattle.laws.proofs.set.LastKnot.{last-knot-is}
 use Rattle.laws.specs.list.Places.{Ascending, Fits}
@@ -20,7 +21,19 @@ use Rattle.laws.proofs.cell.Lent.{knot-times, zip-length}
 use Rattle.lists.specs.Segments.{knotAt}
 use Rattle.window.proofs.nearest.Beside.{number-at}
 use Rattle.value.proofs.Jumps.{step-le}
-use Rattle.value.specs.ClipTimes.{OnSegment}
+use Rattle.value.specs.ClipTimes.{OnSegment, isBetween}
+
+-- the test tells it
+pub on-between : (xs : List Float) (t : Float) (i : ℕ) → isBetween xs t i ≡ true → OnSegment xs t i
+unfolding isBetween
+on-between xs t i e =
+    let h = holds _ e in
+    let p = both-l (ltb (i + 1) (length xs) && le (getD xs i nan) t) (lt t (getD xs (i + 1) nan)) h in
+    record {
+      place = ltb→lt (i + 1) (length xs) (both-l (ltb (i + 1) (length xs)) (le (getD xs i nan) t) p);
+      from = is-true _ (both-r (ltb (i + 1) (length xs)) (le (getD xs i nan) t) p);
+      upto = is-true _ (both-r (ltb (i + 1) (length xs) && le (getD xs i nan) t) (lt t (getD xs (i + 1) nan)) h);
+    }
 
 module _ (xs ys : List Float) (a : Ascending xs) (e : length xs ≡ length ys) (t : Float) (ft : Fits t) (i : ℕ) (O : OnSegment xs t i) where
   fits-at : (j : ℕ) → j < length xs → Fits (getD xs j nan)

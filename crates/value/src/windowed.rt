@@ -13,7 +13,7 @@ use window::search::Window;
 use window::window_max;
 use window::window_min;
 ghost use mathlib.Core.Path.{_≡_};
-ghost use mathlib.Core.Bool.{true, not, _&&_};
+ghost use mathlib.Core.Bool.{not, _&&_};
 ghost use Prim.Native.Nat.{_+_, _<_};
 ghost use lib.Dec.{ltb};
 ghost use lib.ListN.{length};
@@ -25,7 +25,7 @@ ghost use Rattle.laws.specs.list.Places.{Ascending};
 ghost use Rattle.laws.specs.cell.Lent.{knotsOf, AcceptedLists};
 ghost use Rattle.window.specs.search.Windowed.{Lent, windowSource};
 ghost use Rattle.value.specs.WindowOf.{WindowIs};
-ghost use Rattle.value.specs.ClipTimes.{OnSegment};
+ghost use Rattle.value.specs.ClipTimes.{isBetween};
 
 // There are samples from `begin` to `end`, and their clip contributes them from this start.
 fn has_samples(blocks: &[f64], m: Missing, start: f64, begin: usize, end: usize) -> bool
@@ -97,7 +97,7 @@ pub fn window_of(
 
 // Whether `t` lies in the segment from the knot at the place `knot` to the next.
 pub fn is_between(xs: &[f64], t: f64, knot: usize) -> bool
-    ensures { λ r. ⌜ ((r ≡ true) → OnSegment (was xs) t knot) ⌝ }
+    ensures { λ r. ⌜ r ≡ isBetween (was xs) t knot ⌝ }
 {
     if knot < xs.len() {
         let next = knot + 1;

@@ -36,7 +36,7 @@ pub struct Window {
     pub gap: Source,
 }
 
-// The neighbours of a time, the place of the last knot that is at most it, and the place of a sample beside it: hints for the next search.
+// The neighbours of a time, the place of the last knot that is at most it, and the place of a sample beside it: hints for the next search, on which no contract rests.
 pub struct NeighboursAndHints {
     pub lower: Bound,
     pub upper: Bound,

@@ -16,7 +16,7 @@ ghost use Rattle.laws.specs.cell.Lent.{knotsOf};
 ghost use Rattle.window.specs.SoundSegments.{SoundSegment};
 ghost use Rattle.window.specs.search.Latest.{LaterInverse, LatestBefore, LatestOf};
 
-// For each segment a time that no inverse time of it or of a segment before it is above.
+// For each segment a time that no inverse time of it or of a segment before it is above. A later one would do as well, and spare less of a search.
 pub struct LatestInverses {
     pub items: [f64; KNOTS],
 }

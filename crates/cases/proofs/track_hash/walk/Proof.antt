@@ -23,7 +23,7 @@ latest-inverses-requires c κs = let a = c .before .before .before .before .befo
 loop-holds : tie.Need-loop-holds Inv-loop μ-loop
 loop-holds c =
     let a = c .before .before .before .before .before .before .before .before .before .before .before in
-    record { keys = record { low = lit≤ tt; order = lit≤ tt; high = lit≤ tt }; last = a .pre .1; place = no-place-is (a .pre .0) (c .no-place .result .start) (c .no-place .result .window) (c .no-place .ensures) }
+    record { keys = record { low = lit≤ tt; order = lit≤ tt; high = lit≤ tt }; last = a .pre .1; place = no-place-is (a .pre .0) (c .no-place .result) (c .no-place .ensures) }
 
 walk-page-requires : tie.Need-walk-page-requires Inv-loop μ-loop
 walk-page-requires c κs = let b = c .before .before .before in (b .before .before .before .before .before .before .before .before .before .before .before .before .pre .0, (b .before .before .latest-inverses .ensures, b .loop .inv))

@@ -1,5 +1,5 @@
 -- `run::begin::run_begin` meets its contract: each fact of a run's beginning is one of its tests. Assumes nothing.
-use mathlib.Core.Path.{_≡_, refl, sym, subst}
+use mathlib.Core.Path.{_≡_, refl, sym, subst, _∙_}
 use mathlib.Core.Bool.{Bool, true, false, not, false≢true}
 use native.Mathlib.Omega.{arith}
 use lib.Dec.{T}
@@ -9,6 +9,7 @@ use Rattle.gf.proofs.KeyLaws.{le-no-nan, lt→le}
 use Rattle.window.specs.Bounds.{LowerIs}
 use Rattle.window.specs.search.Windowed.{samplesIn, windowTimes}
 use Rattle.value.specs.ClipTimes.{OnSegment}
+use Rattle.value.proofs.ClipTimes.{on-between}
 use Rattle.run.specs.begin.Begins.{LastIs}
 use borrow.Author.Needs.{needs}
 use Rattle.run.proofs.begin.run_begin.Statement.{statement}
@@ -25,7 +26,7 @@ fits-max : (a : tie.Start) → T (fits binary64 (a .args .w .max))
 fits-max a = search needs
 
 on : (c : tie.Else2) → OnSegment (now (entry c .args .xs)) (entry c .args .t) (c .before .before .last-at-most-near .result)
-on c = c .before .is-between .ensures (passed (c .before .is-between .result) (c .if2 .left))
+on c = on-between _ _ _ (sym (c .before .is-between .ensures) ∙ passed (c .before .is-between .result) (c .if2 .left))
 
 last-in-requires : tie.Need-last-in-requires
 last-in-requires c κs =

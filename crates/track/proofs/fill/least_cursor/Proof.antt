@@ -9,7 +9,7 @@ use Rattle.track.proofs.fill.least_cursor.Tie as tie
 returns : tie.Need-returns
 returns c =
     let a = c .before .before .before .before .before .before .before .before .before .before .before in (
-      record { keys = record { low = lit≤ tt; order = lit≤ tt; high = lit≤ tt }; last = c .before .entry-at .ensures; place = no-place-is (a .pre) (c .no-place .result .start) (c .no-place .result .window) (c .no-place .ensures) },
+      record { keys = record { low = lit≤ tt; order = lit≤ tt; high = lit≤ tt }; last = c .before .entry-at .ensures; place = no-place-is (a .pre) (c .no-place .result) (c .no-place .ensures) },
       refl,
     )
 

@@ -1,5 +1,5 @@
 -- `value::windowed::clip_time` meets its contract. Assumes nothing.
-use mathlib.Core.Path.{ap, _∙_}
+use mathlib.Core.Path.{sym, ap, _∙_}
 use lib.Dec.{T}
 use lib.Ieee.{binary64, fits}
 use denote.Ref.{now}
@@ -7,7 +7,7 @@ use Rattle.definitions.specs.declared.Segment.{Segment}
 use Rattle.definitions.specs.ClipSet.{clip}
 use Rattle.definitions.specs.Timing.{onSegment, mapStageToClip}
 use Rattle.value.specs.ClipTimes.{OnSegment}
-use Rattle.value.proofs.ClipTimes.{on-segment}
+use Rattle.value.proofs.ClipTimes.{on-between, on-segment}
 use borrow.Author.Needs.{needs}
 use Rattle.value.proofs.windowed.clip_time.Statement.{statement}
 use Rattle.value.proofs.windowed.clip_time.Tie as tie
@@ -17,7 +17,7 @@ held : (s : tie.Start) → T (fits binary64 (s .args .t .0))
 held s = search needs
 
 on : (o : tie.Then1) → OnSegment (now (o .before .before .before .before .args .xs)) (o .before .before .before .before .args .t .0) (o .before .before .before .before .args .knot)
-on o = o .before .is-between .ensures (o .if1 .taken)
+on o = on-between _ _ _ (sym (o .before .is-between .ensures) ∙ o .if1 .taken)
 
 segment-at-requires : tie.Need-segment-at-requires
 segment-at-requires c κs = (c .before .before .before .before .pre .1, on c .place)
