@@ -17,7 +17,7 @@ use Rattle.definitions.specs.ClipSet.{stage, markValue}
 use Rattle.definitions.specs.Doubles.{lowest, nextLower, FiniteDouble}
 use Rattle.definitions.specs.Track.{Entry, entryOf, alike, Change, readTrack, readFrom, differs, changeAt, IsChange, TrackOf}
 
-both-i : (a b : Bool) → T a → T b → T (a && b)
+pub both-i : (a b : Bool) → T a → T b → T (a && b)
 both-i true b p q = q
 both-i false b p q = p
 
@@ -55,7 +55,7 @@ constant v a h = record {
 pub no-nan : (x : Float) → FiniteDouble x → T (not (isNan x))
 no-nan x f = finite-no-nan x (f .finitely)
 
-of-key : (k : ℕ) → least ≤ k → k ≤ most → FiniteDouble (ofKey k)
+pub of-key : (k : ℕ) → least ≤ k → k ≤ most → FiniteDouble (ofKey k)
 of-key k l h = record { fitting = ofKey-fits k; finitely = ofKey-finite k l h }
 
 low-high : least ≤ most
@@ -65,12 +65,12 @@ pub lowest-finite : FiniteDouble lowest
 unfolding lowest
 lowest-finite = of-key least (le-of-eq refl) low-high
 
-lowest-key : key lowest ≡ least
+pub lowest-key : key lowest ≡ least
 unfolding lowest
 lowest-key = key-ofKey least (le-of-eq refl) low-high
 
 module _ (t : Float) (f : FiniteDouble t) (above : T (lt lowest t)) where
-  high-enough : least < key t
+  pub high-enough : least < key t
   high-enough = subst (λ (k : ℕ). k < key t) lowest-key (lt→key lowest t (lowest-finite .fitting) (f .fitting) (no-nan lowest lowest-finite) (no-nan t f) above)
 
   in-range : (least ≤ key t - 1) × (key t - 1 ≤ most)
@@ -85,7 +85,7 @@ module _ (t : Float) (f : FiniteDouble t) (above : T (lt lowest t)) where
   lower-key = key-ofKey (key t - 1) (in-range .0) (in-range .1)
 
 module _ (x y : Float) (f : FiniteDouble x) (g : FiniteDouble y) where
-  key-lt : key x < key y → T (lt x y)
+  pub key-lt : key x < key y → T (lt x y)
   key-lt h = key→lt x y (f .fitting) (g .fitting) (no-nan x f) (no-nan y g) h
 
   key-le : key x ≤ key y → T (le x y)

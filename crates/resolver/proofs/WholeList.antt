@@ -14,10 +14,11 @@ use Rattle.track.specs.Bakes.{bakeCode, bakedReply}
 use Rattle.track.proofs.Bakes.{code-read}
 use Rattle.definitions.proofs.WholeList as any
 use Rattle.definitions.proofs.WholeList.{whole-list}
+use Rattle.definitions.proofs.TrackFacts.{whole-list-values}
 use Rattle.resolver.specs.declared.Resolver.{Resolver}
 use Rattle.resolver.specs.State.{model, Made}
 use Rattle.resolver.specs.Promises.{Begins, BakesTrack}
-use Rattle.resolver.specs.WholeList.{Moves, Replies, Demand3}
+use Rattle.resolver.specs.WholeList.{Moves, Replies, Demand3, Demand3Values}
 
 -- the bake's number where the samples are accepted: 0 with room enough, else 22
 module _ (m : Model) (st : Standing) (e : m ≡ standing st) (s : Samples) (z : samplesNumber (st .set) s ≡ 0) (room count : ℕ) where
@@ -69,3 +70,6 @@ module _ (fresh : Resolver) (b : Begins fresh) where
 pub demand-3 : Demand3
 demand-3 fresh b =
     whole-list noSet step fresh Moves Replies Due model Made (follows-fresh fresh b) (moves-on fresh b) (λ d s o r p m q. due (model d) s o r p (subst (λ (x : Reply Baked). Bakes (model d) s o x p) (q .2) (told d s o p (q .0) (q .1 m))))
+
+pub demand-3-values : Demand3Values
+demand-3-values fresh b = whole-list-values fresh Moves Replies (demand-3 fresh b)

@@ -6,6 +6,7 @@ use Rattle.definitions.specs.Track.{Outputs}
 use Rattle.definitions.specs.Questions.{Reply}
 use Rattle.definitions.specs.Calls as calls
 use Rattle.definitions.specs.Calls.{Call, explicit, template, retime, bake}
+use Rattle.definitions.specs.TrackFacts.{WholeListValues}
 use Rattle.track.specs.declared.bake.Baked.{Baked}
 use Rattle.track.specs.Bakes.{bakedReply}
 use Rattle.resolver.specs.declared.Resolver.{Resolver}
@@ -27,3 +28,7 @@ Replies d s o r p = (b : Baked) × (Made d → BakesTrack d s o b p) × (bakedRe
 -- From a fresh state, after any list of calls, refused ones included.
 abbrev pub Demand3 : Type 0
 Demand3 = (d : Resolver) → Begins d → calls.WholeList d Moves Replies
+
+-- What follows of it, in the caller's words: the count of the doubles at which the value changes, and the reading of the written lists.
+abbrev pub Demand3Values : Type 0
+Demand3Values = (d : Resolver) → Begins d → WholeListValues d Moves Replies
