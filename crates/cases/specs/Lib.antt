@@ -1,3 +1,4 @@
 -- What the program's functions promise. Assumes nothing.
 pub mod Changes
+pub mod Numbers
 pub mod Text

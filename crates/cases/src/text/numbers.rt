@@ -5,6 +5,8 @@ use crate::text::words::skip_blanks;
 ghost use Prim.Native.Nat.{_≤_};
 ghost use mathlib.Core.Path.{_≡_};
 ghost use lib.Ieee.{binary64, ofBits, toBits};
+ghost use Rattle.definitions.specs.Moments.{was};
+ghost use Rattle.cases.specs.Numbers.{digitOf, unread, decimalsAt, hexesAt, readDecimal, readBits, byteOf, doubleOf};
 
 pub(crate) struct Number {
     pub at: usize,
@@ -22,7 +24,9 @@ pub(crate) struct Double {
 }
 
 // A number that could not be read.
-fn nowhere() -> Number {
+fn nowhere() -> Number
+    ensures { λ r. ⌜ r ≡ unread ⌝ }
+{
     Number {
         at: NOWHERE,
         value: 0,
@@ -37,18 +41,33 @@ fn wide(b: u8) -> u64
 
 // The digit that the byte is, 16 for a byte that is none.
 fn digit(b: u8) -> u64
-    ensures { λ r. ⌜ r ≤ 16 ⌝ }
+    ensures { λ r. ⌜ (r ≡ digitOf b) × (r ≤ 16) ⌝ }
 {
-    match b {
-        48..=57 => wide(b - 48),
-        65..=70 => wide(b - 55),
-        97..=102 => wide(b - 87),
-        _ => 16,
+    if b < 48 {
+        return 16;
     }
+    if b <= 57 {
+        return wide(b - 48);
+    }
+    if b < 65 {
+        return 16;
+    }
+    if b <= 70 {
+        return wide(b - 55);
+    }
+    if b < 97 {
+        return 16;
+    }
+    if b <= 102 {
+        return wide(b - 87);
+    }
+    16
 }
 
 // The decimal digits from `at` on, if their number has at most 64 bits.
-fn decimal_digits(line: &[u8], at: usize) -> Number {
+fn decimal_digits(line: &[u8], at: usize) -> Number
+    ensures { λ r. ⌜ r ≡ decimalsAt (was line) at ⌝ }
+{
     let mut i = at;
     let mut value: u64 = 0;
     while i < line.len() {
@@ -66,7 +85,9 @@ fn decimal_digits(line: &[u8], at: usize) -> Number {
 }
 
 // The next word, a decimal number.
-pub(crate) fn read_decimal(line: &[u8], at: usize) -> Number {
+pub(crate) fn read_decimal(line: &[u8], at: usize) -> Number
+    ensures { λ r. ⌜ r ≡ readDecimal (was line) at ⌝ }
+{
     let from = skip_blanks(line, at);
     let n = decimal_digits(line, from);
     if n.at == from {
@@ -79,7 +100,9 @@ pub(crate) fn read_decimal(line: &[u8], at: usize) -> Number {
 }
 
 // The next word, a decimal number that a byte holds.
-pub(crate) fn read_byte(line: &[u8], at: usize) -> Byte {
+pub(crate) fn read_byte(line: &[u8], at: usize) -> Byte
+    ensures { λ r. ⌜ r ≡ byteOf (readDecimal (was line) at) ⌝ }
+{
     let n = read_decimal(line, at);
     let value = n.value;
     if value > 255 {
@@ -95,7 +118,9 @@ pub(crate) fn read_byte(line: &[u8], at: usize) -> Byte {
 }
 
 // The number of exactly `count` hex digits from `at` on.
-pub(crate) fn hex_digits(line: &[u8], at: usize, count: usize) -> Number {
+pub(crate) fn hex_digits(line: &[u8], at: usize, count: usize) -> Number
+    ensures { λ r. ⌜ r ≡ hexesAt (was line) at count ⌝ }
+{
     let mut i = at;
     let mut left = count;
     let mut value: u64 = 0;
@@ -138,7 +163,9 @@ pub(crate) fn bits_of(x: f64) -> u64
 }
 
 // The next word, a double's bits.
-pub(crate) fn read_bits(line: &[u8], at: usize) -> Number {
+pub(crate) fn read_bits(line: &[u8], at: usize) -> Number
+    ensures { λ r. ⌜ r ≡ readBits (was line) at ⌝ }
+{
     let n = hex_digits(line, skip_blanks(line, at), 16);
     Number {
         at: closed(line, n.at),
@@ -147,7 +174,9 @@ pub(crate) fn read_bits(line: &[u8], at: usize) -> Number {
 }
 
 // The next word, a double by its bits.
-pub(crate) fn read_double(line: &[u8], at: usize) -> Double {
+pub(crate) fn read_double(line: &[u8], at: usize) -> Double
+    ensures { λ r. ⌜ r ≡ doubleOf (readBits (was line) at) ⌝ }
+{
     let n = read_bits(line, at);
     Double {
         at: n.at,
