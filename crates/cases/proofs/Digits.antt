@@ -25,9 +25,11 @@ above-9 b = cond (ltb b 65) 16 (cond (leb b 70) (b - 55) (above-F b))
 
 module _ (b : ℕ) where
   pub below-0 : b < 48 → 16 ≡ digitOf b
+  unfolding digitOf
   below-0 h = sym (ap (λ (k : Bool). cond k 16 (cond (leb b 57) (b - 48) (above-9 b))) (lt-ltb _ _ h))
 
   from-0 : 48 ≤ b → digitOf b ≡ cond (leb b 57) (b - 48) (above-9 b)
+  unfolding digitOf
   from-0 h = ap (λ (k : Bool). cond k 16 (cond (leb b 57) (b - 48) (above-9 b))) (le-ltb _ _ h)
 
   pub is-0-to-9 : 48 ≤ b → b ≤ 57 → b - 48 ≡ digitOf b
@@ -130,6 +132,7 @@ module _ (line : List ℕ) (n v i d : ℕ) (some : 0 < n) (h : i < length line) 
 
 module _ (line : List ℕ) (at from k : ℕ) (n : Number) (f : from ≡ scanned line at Word) where
   pub bits-read : n ≡ hexesAt line from 16 → k ≡ closedAt line (n .at) → numberAt k (n .value) ≡ readBits line at
+  unfolding readBits
   bits-read e c =
       ap (λ (p : ℕ). numberAt p (n .value)) c
       ∙ ap (closing line) e
@@ -139,12 +142,14 @@ module _ (line : List ℕ) (at from k : ℕ) (n : Number) (f : from ≡ scanned 
   judged p m = cond (eqb (m .at) p) unread (closing line m)
 
   pub decimal-none : n ≡ decimalsAt line from → n .at ≡ from → unread ≡ readDecimal line at
+  unfolding readDecimal
   decimal-none e q =
       sym (ap (λ (t : Bool). cond t unread (closing line n)) (eq-eqb _ _ q))
       ∙ ap (judged from) e
       ∙ ap (λ (p : ℕ). judged p (decimalsAt line p)) f
 
   pub decimal-read : n ≡ decimalsAt line from → (n .at ≡ from → ⊥) → k ≡ closedAt line (n .at) → numberAt k (n .value) ≡ readDecimal line at
+  unfolding readDecimal
   decimal-read e q c =
       ap (λ (p : ℕ). numberAt p (n .value)) c
       ∙ sym (ap (λ (t : Bool). cond t unread (closing line n)) (ne-eqb _ _ q))
@@ -154,9 +159,11 @@ module _ (line : List ℕ) (at from k : ℕ) (n : Number) (f : from ≡ scanned 
 -- ---- a byte
 
 pub no-byte : (n m : Number) → n ≡ m → 255 < n .value → record { at = nowhere; value = 0 } ≡ byteOf m
+unfolding byteOf
 no-byte n m e h =
     sym (ap (λ (t : Bool). cond {A = Byte} t (record { at = nowhere; value = 0 }) (record { at = n .at; value = n .value })) (lt-ltb _ _ h)) ∙ ap byteOf e
 
 pub a-byte : (n m : Number) → n ≡ m → n .value ≤ 255 → record { at = n .at; value = n .value } ≡ byteOf m
+unfolding byteOf
 a-byte n m e h =
     sym (ap (λ (t : Bool). cond {A = Byte} t (record { at = nowhere; value = 0 }) (record { at = n .at; value = n .value })) (le-ltb _ _ h)) ∙ ap byteOf e

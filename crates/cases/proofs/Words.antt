@@ -69,14 +69,17 @@ scan-ends text i stop h =
 -- ---- whether a word goes on
 
 pub closed-blank : (line : List ℕ) (at : ℕ) → at < length line → isBlank (getD line at 0) ≡ true → at ≡ closedAt line at
+unfolding closedAt
 closed-blank line at h e =
     sym (ap (λ (k : Bool). cond k (cond (isBlank (getD line at 0)) at nowhere) at) (lt-ltb _ _ h) ∙ ap (λ (k : Bool). cond k at nowhere) e)
 
 pub closed-on : (line : List ℕ) (at : ℕ) → at < length line → isBlank (getD line at 0) ≡ false → nowhere ≡ closedAt line at
+unfolding closedAt
 closed-on line at h e =
     sym (ap (λ (k : Bool). cond k (cond (isBlank (getD line at 0)) at nowhere) at) (lt-ltb _ _ h) ∙ ap (λ (k : Bool). cond k at nowhere) e)
 
 pub closed-end : (line : List ℕ) (at : ℕ) → length line ≤ at → at ≡ closedAt line at
+unfolding closedAt
 closed-end line at h = sym (ap (λ (k : Bool). cond k (cond (isBlank (getD line at 0)) at nowhere) at) (le-ltb _ _ h))
 
 -- ---- the place behind a word
@@ -105,11 +108,13 @@ module _ (line word : List ℕ) (place i : ℕ) where
 
 module _ (line : List ℕ) (at : ℕ) (word : List ℕ) (from : ℕ) (f : from ≡ scanned line at Word) where
   pub behind-not : begins word (drop from line) ≡ false → nowhere ≡ behind line at word
+  unfolding behind
   behind-not e =
       ap (λ (b : Bool). cond b (closedAt line (from + length word)) nowhere) (sym e)
       ∙ ap (λ (n : ℕ). cond (begins word (drop n line)) (closedAt line (n + length word)) nowhere) f
 
   pub behind-is : (place : ℕ) → place ≡ from + length word → begins word (drop from line) ≡ true → closedAt line place ≡ behind line at word
+  unfolding behind
   behind-is place p e =
       ap (closedAt line) p
       ∙ ap (λ (b : Bool). cond b (closedAt line (from + length word)) nowhere) (sym e)

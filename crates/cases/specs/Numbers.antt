@@ -19,7 +19,7 @@ abbrev pub unread : Number
 unread = numberAt nowhere 0
 
 -- the digit that the byte is, 16 for a byte that is none: 0 to 9, A to F, a to f
-abbrev pub digitOf : ℕ → ℕ
+unfoldable pub digitOf : ℕ → ℕ
 digitOf b =
     cond (ltb b 48) 16
     (cond (leb b 57) (b - 48)
@@ -54,16 +54,16 @@ abbrev pub closing : List ℕ → Number → Number
 closing line n = numberAt (closedAt line (n .at)) (n .value)
 
 -- the next word, a decimal number
-abbrev pub readDecimal : List ℕ → ℕ → Number
+unfoldable pub readDecimal : List ℕ → ℕ → Number
 readDecimal line at =
     cond (eqb (decimalsAt line (scanned line at Word) .at) (scanned line at Word)) unread (closing line (decimalsAt line (scanned line at Word)))
 
 -- a number that a byte holds
-abbrev pub byteOf : Number → Byte
+unfoldable pub byteOf : Number → Byte
 byteOf n = cond (ltb 255 (n .value)) (record { at = nowhere; value = 0 }) (record { at = n .at; value = n .value })
 
 -- the next word, a double's bits
-abbrev pub readBits : List ℕ → ℕ → Number
+unfoldable pub readBits : List ℕ → ℕ → Number
 readBits line at = closing line (hexesAt line (scanned line at Word) 16)
 
 abbrev pub doubleOf : Number → Double

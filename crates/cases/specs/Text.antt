@@ -39,7 +39,7 @@ abbrev pub wordAt : List ℕ → ℕ → List ℕ
 wordAt line at = partOf line (scanned line at Word) (scanned line (scanned line at Word) Blank)
 
 -- the place itself, if no word goes on there
-abbrev pub closedAt : List ℕ → ℕ → ℕ
+unfoldable pub closedAt : List ℕ → ℕ → ℕ
 closedAt line at = cond (ltb at (length line)) (cond (isBlank (getD line at 0)) at nowhere) at
 
 -- a text begins with a word
@@ -49,5 +49,5 @@ begins (w ∷ ws) [] = false
 begins (w ∷ ws) (b ∷ bs) = eqb b w && begins ws bs
 
 -- the place behind a word, if it is the next one
-abbrev pub behind : List ℕ → ℕ → List ℕ → ℕ
+unfoldable pub behind : List ℕ → ℕ → List ℕ → ℕ
 behind line at word = cond (begins word (drop (scanned line at Word) line)) (closedAt line (scanned line at Word + length word)) nowhere
