@@ -235,23 +235,30 @@ fn normalize_table() {
     println!("| {} | {} | {:.2} | 2 | {} |", time(rust), time(library), library / rust, verdict(library / rust <= 2.0));
 }
 
-/// Table 5: reads of set A's track, the longest, at times of its changes, more of them than a processor's predictor learns.
+/// Table 5: reads of set A's track, the longest, at the times of so many of its changes, taken at random and asked again
+/// and again. The fewer suit the caches and the branch predictor, the many neither. The target is for both.
 fn read_table(cases: &[Case]) {
     let case = cases.iter().find(|case| case.name == "A").expect("set A");
     let track = Library::new(&case.set, &case.samples).bake(LONGEST);
-    let mut random = Random(5);
-    let asked: Vec<f64> = (0..1 << 16).map(|_| track.times[random.bits() as usize % track.times.len()]).collect();
-    let ask_plain = &mut |i: usize| {
-        let found = track.times.partition_point(|&time| time <= asked[i]);
-        let entry =
-            found.checked_sub(1).map_or((track.head.mark, track.head.value), |at| (track.marks[at], track.values[at]));
-        _ = black_box(entry);
-    };
-    let ask_library = &mut |i: usize| _ = black_box(track.read(tavitrozy::StageTime(asked[i])));
-    let taken = take_turns(asked.len(), &mut [ask_plain, ask_library]);
-    println!("\n## Reading a track\n\n| changes | plain Rust | library | target | met |\n|---|---|---|---|---|");
-    let (plain, library, met) = (time(taken[0]), time(taken[1]), verdict(taken[1] <= 2e-7));
-    println!("| {} | {plain} | {library} | 200 ns | {met} |", track.times.len());
+    println!(
+        "\n## Reading a track of {} changes\n\n| times asked | plain Rust | library | target | met |",
+        track.times.len()
+    );
+    println!("|---|---|---|---|---|");
+    for count in [1 << 10, 1 << 16] {
+        let mut random = Random(5);
+        let any_change = |_| track.times[random.bits() as usize % track.times.len()];
+        let asked: Vec<f64> = (0..count).map(any_change).collect();
+        let ask_plain = &mut |i: usize| {
+            let found = track.times.partition_point(|&time| time <= asked[i]);
+            let at_change = |at: usize| (track.marks[at], track.values[at]);
+            _ = black_box(found.checked_sub(1).map_or((track.head.mark, track.head.value), at_change));
+        };
+        let ask_library = &mut |i: usize| _ = black_box(track.read(tavitrozy::StageTime(asked[i])));
+        let taken = take_turns(count, &mut [ask_plain, ask_library]);
+        let met = verdict(taken[1] <= 2e-7);
+        println!("| {count} | {} | {} | 200 ns | {met} |", time(taken[0]), time(taken[1]));
+    }
 }
 
 fn machine() {

@@ -109,7 +109,7 @@ fn count_at_most(times: &[f64], from: usize, n: usize, t: f64) -> usize
 }
 
 // How many of the times are at most `t`, where they ascend: the Rust's `partition_point`. Elsewhere it is what the search by halves finds.
-// The last few are counted, which costs less than the branches that nobody can foretell.
+// The last few are counted: a count has no branches to foretell.
 pub fn partition_point(times: &[f64], t: f64) -> usize
     ensures { λ r. ⌜ r ≡ partitionPoint (was times) t ⌝ }
 {
