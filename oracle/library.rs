@@ -14,9 +14,6 @@ use calls::Call;
 use tavitrozy::{Answer, ClipTime, Default, Entry, Explicit, LayerOffset, Resolver, Samples, StageTime, State, TemplateTimes, Track};
 use text::{Line, Words};
 
-/// More changes than the longest track of the comparison has.
-const LONGEST: usize = 2_200_000;
-
 struct Desk {
     resolver: Resolver,
     samples: calls::Samples,
@@ -52,6 +49,13 @@ fn write_hash(out: &mut Line, track: &Track) {
 impl Desk {
     fn new() -> Self {
         Desk { resolver: Resolver::fresh(), samples: calls::Samples::default() }
+    }
+
+    /// A bake, and that the count alone is the track's.
+    fn counted_track(&self, s: Samples, slots: usize) -> Result<Track, u8> {
+        let track = self.resolver.bake(s, slots)?;
+        assert_eq!(self.resolver.change_count(s), Ok(track.times.len()));
+        Ok(track)
     }
 
     /// The reply, or the number that refuses the call.
@@ -117,6 +121,7 @@ impl Desk {
             Call::Times(slots) => {
                 let mut times = vec![0.0; *slots as usize];
                 let n = self.resolver.stage_sample_times(s, &mut times)?;
+                assert_eq!(self.resolver.stage_sample_count(s), Ok(n));
                 out.word("times").doubles(&times[..n]);
             }
             Call::StageSamples(slots) => {
@@ -135,8 +140,8 @@ impl Desk {
                     State::Absent => "untimed absent",
                 });
             }
-            Call::Track(slots) => write_track(out, &self.resolver.bake(s, *slots as usize)?),
-            Call::TrackHash => write_hash(out, &self.resolver.bake(s, LONGEST)?),
+            Call::Track(slots) => write_track(out, &self.counted_track(s, *slots as usize)?),
+            Call::TrackHash => write_hash(out, &self.counted_track(s, self.resolver.change_count(s)?)?),
             Call::Name(pattern, t, slots) => {
                 let mut name = vec![0; *slots as usize];
                 let n = tavitrozy::name_into(pattern, ClipTime(*t), &mut name)?;
