@@ -126,13 +126,23 @@ pub fn partition_point(times: &[f64], t: f64) -> usize
     at + count_at_most(times, at, n, t)
 }
 
-// The place of the last of the times that is at most `t`, and 0 if none is.
+// The place of the last of the times that is at most `t`, and 0 if none is: the Rust's `partition_point` less one. In lists as short as
+// starts and knots are, halves alone are quicker.
 pub fn last_at_most(times: &[f64], t: f64) -> usize
     requires { ⌜ Ascending (now times) ⌝ }
     ensures { λ r. ⌜ r ≡ lastAtMost (was times) t ⌝ }
 {
-    let found = partition_point(times, t);
-    if found > 0 { found - 1 } else { 0 }
+    let mut lo: usize = 0;
+    let mut hi = times.len();
+    while lo < hi {
+        let mid = lo + (hi - lo) / 2;
+        if times[mid] <= t {
+            lo = mid + 1;
+        } else {
+            hi = mid;
+        }
+    }
+    if lo > 0 { lo - 1 } else { 0 }
 }
 
 // The y at `t` of the knots (x, y), bare as the lists are.

@@ -9,15 +9,13 @@ use mathlib.Core.Bool.{Bool, true, false, _||_, cond, false≢true}
 use mathlib.Core.List.{List, [], _∷_}
 use lib.Dec.{T, ltb, leb·suc-suc}
 use lib.ListN.{length, getD}
-use lib.Ieee.{Float, nan, binary64, fits, le}
+use lib.Ieee.{Float, binary64, fits, le}
 use borrow.Author.Tests.{ltb-true, ltb-false, lt-ltb, le-ltb, leb-false}
 use Rattle.gf.specs.Doubles.{key}
 use Rattle.gf.proofs.KeyLaws.{le-trans, le-is, le→key, finite-no-nan}
 use Rattle.definitions.specs.Lists.{any}
 use Rattle.definitions.specs.Doubles.{FiniteDouble}
 use Rattle.definitions.specs.Timing.{lastAtMost}
-use Rattle.definitions.specs.Reading.{partitionPoint}
-use Rattle.definitions.proofs.Reading.{partition-cut}
 use Rattle.laws.proofs.list.Tests.{holds, is-false}
 use Rattle.laws.specs.list.Every.{Every, Chain, ChainFrom}
 use Rattle.laws.proofs.list.Every.{every-at, every-map, any-every, chain-tail}
@@ -84,10 +82,6 @@ module _ (t : Float) (ft : T (fits binary64 t)) (d : Float) where
 
   pub up-to : (xs : List Float) → Ascending xs → (i : ℕ) → i < length xs → le (getD xs i d) t ≡ false → atMost xs t ≤ i
   up-to xs a i h e = ltb-false i (atMost xs t) (sym (at-most-is xs a i h) ∙ e)
-
--- a search by halves finds that number
-pub partition-is : (t : Float) → T (fits binary64 t) → (xs : List Float) → Ascending xs → partitionPoint xs t ≡ atMost xs t
-partition-is t ft xs a = partition-cut xs t (atMost xs t) (at-most-is t ft nan xs a) (at-most-length xs t)
 
 -- the same by keys
 module _ (t : Float) (n : FiniteDouble t) (d : Float) (xs : List Float) (a : Ascending xs) (i : ℕ) (h : i < length xs) where
