@@ -42,7 +42,7 @@ templateOf r bytes blocks = record {
   interpolateMissing = r .filling .interpolate;
 }
 
--- the operation's own promise, of the fields that were read
+-- the operation's own promise, of some fields: which ones, `explicitOf` and `templateOf` say where the lists as read are handed over
 abbrev pub Forwards : Change → Resolver → Accepted → Type 0
 Forwards Explicit d r = (f : ExplicitFields) × Accepts d f r
 Forwards Template d r = (f : TemplateFields) × Expands d f r

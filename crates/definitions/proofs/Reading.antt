@@ -102,7 +102,7 @@ module _ (test : ℕ → Bool) where
       go (no h) (no k) r = rw (halve steps at n (omega arith), t (at + n / 2) (omega arith) ∙ lt-ltb (at + n / 2) c (omega arith)) (r (at + n / 2) (λ i m. t i (omega arith)) (omega arith) (omega arith))
 
 -- where the times are at most t below c, and not from c on, c of them are found
-pub partition-cut : (times : List Float) (t : Float) (c : ℕ) → ((i : ℕ) → i < length times → le (getD times i nan) t ≡ ltb i c) → c ≤ length times → partitionPoint times t ≡ c
+partition-cut : (times : List Float) (t : Float) (c : ℕ) → ((i : ℕ) → i < length times → le (getD times i nan) t ≡ ltb i c) → c ≤ length times → partitionPoint times t ≡ c
 unfolding partitionPoint
 partition-cut times t c h l = halves-cut (λ (i : ℕ). le (getD times i nan) t) c (length times) 0 (length times) (λ i m. h i (omega arith)) zero-le (omega arith)
 
