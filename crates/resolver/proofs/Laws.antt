@@ -27,7 +27,7 @@ use Rattle.definitions.specs.Questions.{Reply, refused, replied, reply, ofSet, 
 use Rattle.gf.specs.Doubles.{0·0}
 use Rattle.definitions.specs.Value.{valueInSet}
 use Rattle.definitions.specs.Track.{Track, TrackOf, Outputs, slots, bakeNumber}
-use Rattle.laws.specs.cell.Lent.{setOf, samplesOf, AcceptedLists}
+use Rattle.laws.specs.cell.Lent.{setOf, samplesOf}
 use Rattle.laws.proofs.cell.Lent.{active-times, knot-times, sound-set, sound-samples}
 use Rattle.laws.proofs.cell.Tracks.{track-is}
 use Rattle.laws.proofs.cell.StageTimes.{stage-sample-times}
@@ -45,14 +45,15 @@ use Rattle.clip.specs.declared.Prepared.{Prepared}
 use Rattle.template.specs.Expanding as expanding
 use Rattle.explicit.specs.Parsing as parsing
 use Rattle.clip.specs.Retiming as sets
-use Rattle.clip.specs.Holding.{Room, clipSetOf, emptySet}
+use Rattle.clip.specs.Holding.{Room, clipSetOf, emptySet, manifestOf}
 use Rattle.clip.proofs.Preparing.{made-is}
 use Rattle.resolver.specs.declared.Resolver.{Resolver}
 use Rattle.resolver.specs.declared.Accepted.{Accepted}
 use Rattle.standing.specs.declared.StandingSet.{StandingSet}
-use Rattle.standing.specs.Standing.{setIn, Installed, Packed, Asked, lentSet, answered}
+use Rattle.standing.specs.declared.Counts.{Counts}
+use Rattle.standing.specs.Standing.{setIn, Installed, Unpacked, Packed, Asked, lentSet, answered}
 use Rattle.standing.specs.Lists.{counted, listed, itself, timeOf, markIn, ListsTimes, ListsSamples}
-use Rattle.resolver.specs.State.{standingIn, model, Made}
+use Rattle.resolver.specs.State.{standingIn, model, Made, lentState}
 use Rattle.resolver.specs.Promises.{Accepts, Expands, Retimes, BakesTrack, TellsTimes, TellsSamples, countCode, TellsChangeCount, Installable, Installs}
 
 -- ---- installing
@@ -79,6 +80,10 @@ installs d p b set i e q = record {
   after = ap (λ (x : ClipSet). standing (record { set = x; retimed = b })) (q .is) ∙ accepted-granted (p .number) (model d) (standing (record { set = clipSetOf (p .set); retimed = b })) e;
   made = record { whole = q .whole; sound = subst Sound (sym (q .is)) (i .sound) };
 }
+
+pub unpacks : (d : Resolver) (p : Prepared) (b : Bool) {c : Counts} {starts : List Float} {numbers : List ℕ} {xs ys blocks : List Float} → Installable p → p .number ≡ 0 → Unpacked (p .set) c starts numbers xs ys blocks
+    → Installs d p b (record { number = 0; resolver = lentState (record { stands = true; retimed = b; clips = p .set .clips; counts = c; manifest = manifestOf (p .set) }) starts numbers xs ys blocks })
+unpacks d p b i e u = installs d p b _ i e (record { whole = u .whole; is = u .is })
 
 -- ---- acceptance
 
@@ -264,29 +269,6 @@ module _ (d : Resolver) {times values : List Float} {marks ends : List ℕ} {n :
             (track-is (setIn (d .set)) s (sound-set (setIn (d .set)) sound) (sound-samples (setIn (d .set)) s is-accepted) (record { values = j .values-fit; default = sound .default .fitting }));
         replies = ap replied (q ∙ ap (λ (x : ClipSet). length (trackOf x s .changes)) lent-is) ∙ ap (λ (k : ℕ). reply k (length (trackOf (setIn (d .set)) s .changes))) (sym (sym (judged-number d j) ∙ z));
       })
-
-  -- ---- the same without knots and blocks
-
-  module _ (k : d .set .counts .knots ≡ 0) (b : d .set .counts .blocks ≡ 0) where
-    abbrev starts : List Float
-    starts = take (d .set .counts .starts) (d .set .starts)
-
-    abbrev numbers : List ℕ
-    numbers = take (d .set .counts .starts) (d .set .numbers)
-
-    pub plain-ready : AcceptedLists starts numbers [] [] [] (d .set .manifest) times values marks ends
-    plain-ready =
-        subst (λ (n : ℕ). AcceptedLists starts numbers (take n (d .set .xs)) (take n (d .set .ys)) [] (d .set .manifest) times values marks ends) k
-        (subst (λ (n : ℕ). AcceptedLists starts numbers (take (d .set .counts .knots) (d .set .xs)) (take (d .set .counts .knots) (d .set .ys)) (take n (d .set .blocks)) (d .set .manifest) times values marks ends) b (is-asked .ready))
-
-    pub bakes-plain : (before after : Outputs) (r : Baked)
-        → BakeIs (setOf (length ends) starts numbers [] [] [] (d .set .manifest)) (samplesOf times values marks ends) before after r
-        → BakesTrack d (samplesOf times values marks ends) before r after
-    bakes-plain before after r p =
-        let s = samplesOf times values marks ends in
-        bakes-set before after r
-        (subst (λ (n : ℕ). BakeIs (setOf (length ends) starts numbers (take (d .set .counts .knots) (d .set .xs)) (take (d .set .counts .knots) (d .set .ys)) (take n (d .set .blocks)) (d .set .manifest)) s before after r) (sym b)
-        (subst (λ (n : ℕ). BakeIs (setOf (length ends) starts numbers (take n (d .set .xs)) (take n (d .set .ys)) [] (d .set .manifest)) s before after r) (sym k) p))
 
 -- ---- the active clip, case by case
 

@@ -1,9 +1,16 @@
--- A resolver's state, 01's "desk", and what of it stands by the calls: document 01's plain desk, the `Model` of the definitions. Assumes nothing.
+-- A resolver's state, by value and lent, and what of it stands by the calls, the `Model` of the definitions. Assumes nothing.
+use Prim.Native.Nat.{ℕ}
 use mathlib.Core.Bool.{cond}
+use mathlib.Core.List.{List}
+use lib.Ieee.{Float}
+use Rattle.definitions.specs.Moments.{Lent, was, after}
 use Rattle.definitions.specs.ClipSet.{Model, Standing, noSet, standing}
 use Rattle.laws.specs.set.Sound.{SoundModel}
 use Rattle.standing.specs.Standing.{setIn, Whole}
 use Rattle.resolver.specs.declared.Resolver.{Resolver}
+use Rattle.resolver.specs.declared.Shape.{Shape}
+use Rattle.resolver.specs.declared.Settled.{Settled}
+use Rattle.resolver.specs.declared.Accepted.{Accepted}
 
 abbrev pub standingIn : Resolver → Standing
 standingIn d = record { set = setIn (d .set); retimed = d .retimed }
@@ -15,3 +22,20 @@ model d = cond (d .stands) (standing (standingIn d)) noSet
 pub record Made (d : Resolver) : Type 0 where
   pub whole : Whole (d .set)
   pub sound : SoundModel (model d)
+
+-- ---- a resolver that is lent: its shape by value, and five lists
+
+abbrev pub lentState : Shape → List Float → List ℕ → List Float → List Float → List Float → Resolver
+lentState h starts numbers xs ys blocks = record {
+  stands = h .stands;
+  retimed = h .retimed;
+  set = record { clips = h .clips; counts = h .counts; starts = starts; numbers = numbers; xs = xs; ys = ys; blocks = blocks; manifest = h .manifest };
+}
+
+-- as it was lent
+abbrev pub stateWas : Shape → Lent Float → Lent ℕ → Lent Float → Lent Float → Lent Float → Resolver
+stateWas h starts numbers xs ys blocks = lentState h (was starts) (was numbers) (was xs) (was ys) (was blocks)
+
+-- the number, and the resolver as it is left: the shape that is handed back, and the lists
+abbrev pub settledState : Settled → Lent Float → Lent ℕ → Lent Float → Lent Float → Lent Float → Accepted
+settledState r starts numbers xs ys blocks = record { number = r .number; resolver = lentState (r .shape) (after starts) (after numbers) (after xs) (after ys) (after blocks) }

@@ -1,17 +1,19 @@
-// A resolver holds one clip set by value, or none, and answers questions about it: 01's desk.
+// A resolver holds one clip set, or none, and answers questions about it. Its operations work on a resolver that is lent (`lent`); here is the same by value.
+pub mod lent;
+
 use clip::Prepared;
 use definitions::Answer;
 use definitions::ClipTime;
 use definitions::Default;
 use definitions::LayerOffset;
+use definitions::Missing;
 use definitions::StageTime;
 use definitions::TemplateTimes;
 use definitions::ValueState;
 use definitions::refusal;
 use sdf::Counted;
+use standing::Counts;
 use standing::StandingSet;
-use standing::questions;
-use standing::questions::ActiveClip;
 use track::bake::Baked;
 ghost use mathlib.Core.Path.{_≡_};
 ghost use Rattle.definitions.specs.Moments.{was, after, outsWere, outsLeft};
@@ -19,8 +21,6 @@ ghost use Rattle.laws.specs.cell.Lent.{samplesWere};
 ghost use Rattle.clip.specs.Holding.{manifest};
 ghost use Rattle.explicit.specs.Parsing.{explicitFields};
 ghost use Rattle.template.specs.Expanding.{templateFields};
-ghost use Rattle.definitions.specs.Questions.{refused};
-ghost use Rattle.track.specs.Bakes.{bakeCode};
 ghost use Rattle.resolver.specs.State.{Made};
 ghost use Rattle.resolver.specs.Promises.{Begins, Accepts, Expands, Retimes, BakesTrack, TellsTimes, TellsSamples, TellsSampleCount, TellsChangeCount, TellsClip, TellsTime, TellsValue, TellsUntimed, Installable, Installs};
 
@@ -29,6 +29,23 @@ pub struct Resolver {
     pub stands: bool,
     pub retimed: bool,
     pub set: StandingSet,
+}
+
+// What of a resolver is no list.
+#[repr(C)]
+pub struct Shape {
+    pub stands: bool,
+    pub retimed: bool,
+    pub clips: u64,
+    pub counts: Counts,
+    pub manifest: Missing,
+}
+
+// What a call replies that may change a resolver that is lent: the number that refuses it, or 0, and the shape after it.
+#[repr(C)]
+pub struct Settled {
+    pub number: u8,
+    pub shape: Shape,
 }
 
 // What a call that may change the state replies: the number that refuses it, or 0, and the state after it.
@@ -161,17 +178,24 @@ impl Resolver {
         requires { ⌜ Made self ⌝ }
         ensures { λ r. ⌜ TellsTime self t r ⌝ }
     {
-        if !self.stands {
-            return TimeReply::Refused(refusal::NO_SET);
-        }
-        if !gf::is_finite(t.0) {
-            return TimeReply::Refused(refusal::TIME_NOT_FINITE);
-        }
-        // each list is lent from a copy of its own: lent from `self`, all of it is copied
-        let set = self.set;
-        let xs = set.xs;
-        let ys = set.ys;
-        TimeReply::Time(questions::map_stage_to_clip(&xs, &ys, set.counts.knots, t))
+        let counts = self.set.counts;
+        let manifest = self.set.manifest;
+        let shape = Shape {
+            stands: self.stands,
+            retimed: self.retimed,
+            clips: self.set.clips,
+            counts,
+            manifest,
+        };
+        lent::clip_time(
+            shape,
+            &self.set.starts,
+            &self.set.numbers,
+            &self.set.xs,
+            &self.set.ys,
+            &self.set.blocks,
+            t,
+        )
     }
 
     // The clip that is active at a stage time, none in a set without starts.
@@ -179,21 +203,24 @@ impl Resolver {
         requires { ⌜ Made self ⌝ }
         ensures { λ r. ⌜ TellsClip self t r ⌝ }
     {
-        if !self.stands {
-            return ClipReply::Refused(refusal::NO_SET);
-        }
-        if !gf::is_finite(t.0) {
-            return ClipReply::Refused(refusal::TIME_NOT_FINITE);
-        }
-        // lent from copies, as in `clip_time`
-        let set = self.set;
-        let starts = set.starts;
-        let numbers = set.numbers;
-        let active = questions::active_clip(&starts, &numbers, set.counts.starts, t);
-        match active {
-            ActiveClip::Clip(c) => ClipReply::Clip(c),
-            ActiveClip::NoClip => ClipReply::NoClip,
-        }
+        let counts = self.set.counts;
+        let manifest = self.set.manifest;
+        let shape = Shape {
+            stands: self.stands,
+            retimed: self.retimed,
+            clips: self.set.clips,
+            counts,
+            manifest,
+        };
+        lent::active_clip(
+            shape,
+            &self.set.starts,
+            &self.set.numbers,
+            &self.set.xs,
+            &self.set.ys,
+            &self.set.blocks,
+            t,
+        )
     }
 
     // The value at a stage time.
@@ -208,30 +235,28 @@ impl Resolver {
         requires { ⌜ Made self ⌝ }
         ensures { λ r. ⌜ TellsValue self (samplesWere times values marks ends) t r ⌝ }
     {
-        if !self.stands {
-            return ValueReply::Refused(refusal::NO_SET);
-        }
-        let number = sdf::samples_number(self.set.clips, times, values, marks, ends);
-        if number != 0 {
-            return ValueReply::Refused(number);
-        }
-        if !gf::is_finite(t.0) {
-            return ValueReply::Refused(refusal::TIME_NOT_FINITE);
-        }
-        ValueReply::Answered(questions::value(
+        let counts = self.set.counts;
+        let manifest = self.set.manifest;
+        let shape = Shape {
+            stands: self.stands,
+            retimed: self.retimed,
+            clips: self.set.clips,
+            counts,
+            manifest,
+        };
+        lent::value(
+            shape,
             &self.set.starts,
             &self.set.numbers,
             &self.set.xs,
             &self.set.ys,
             &self.set.blocks,
-            self.set.counts,
-            self.set.manifest,
             times,
             values,
             marks,
             ends,
             t,
-        ))
+        )
     }
 
     // Whether there is a value at all.
@@ -239,19 +264,27 @@ impl Resolver {
         requires { ⌜ Made self ⌝ }
         ensures { λ r. ⌜ TellsUntimed self (samplesWere times values marks ends) r ⌝ }
     {
-        if !self.stands {
-            return UntimedReply::Refused(refusal::NO_SET);
-        }
-        let number = sdf::samples_number(self.set.clips, times, values, marks, ends);
-        if number != 0 {
-            return UntimedReply::Refused(number);
-        }
-        UntimedReply::Answered(questions::untimed(
+        let counts = self.set.counts;
+        let manifest = self.set.manifest;
+        let shape = Shape {
+            stands: self.stands,
+            retimed: self.retimed,
+            clips: self.set.clips,
+            counts,
+            manifest,
+        };
+        lent::untimed(
+            shape,
+            &self.set.starts,
             &self.set.numbers,
-            self.set.counts.starts,
-            self.set.manifest,
+            &self.set.xs,
+            &self.set.ys,
+            &self.set.blocks,
+            times,
+            values,
+            marks,
             ends,
-        ))
+        )
     }
 
     // The stage sample times, written to the lent list.
@@ -266,20 +299,25 @@ impl Resolver {
         requires { ⌜ Made self ⌝ }
         ensures { λ r. ⌜ TellsTimes self (samplesWere times values marks ends) (was out) (after out) r ⌝ }
     {
-        if !self.stands {
-            return refused_list(refusal::NO_SET);
-        }
-        let number = sdf::samples_number(self.set.clips, times, values, marks, ends);
-        if number != 0 {
-            return refused_list(number);
-        }
-        questions::stage_sample_times(
+        let counts = self.set.counts;
+        let manifest = self.set.manifest;
+        let shape = Shape {
+            stands: self.stands,
+            retimed: self.retimed,
+            clips: self.set.clips,
+            counts,
+            manifest,
+        };
+        lent::stage_sample_times(
+            shape,
             &self.set.starts,
             &self.set.numbers,
             &self.set.xs,
             &self.set.ys,
-            self.set.counts,
+            &self.set.blocks,
             times,
+            values,
+            marks,
             ends,
             out,
         )
@@ -298,20 +336,22 @@ impl Resolver {
         requires { ⌜ Made self ⌝ }
         ensures { λ r. ⌜ TellsSamples self (samplesWere times values marks ends) (was outtimes) (after outtimes) (was outmarks) (after outmarks) r ⌝ }
     {
-        if !self.stands {
-            return refused_list(refusal::NO_SET);
-        }
-        let number = sdf::samples_number(self.set.clips, times, values, marks, ends);
-        if number != 0 {
-            return refused_list(number);
-        }
-        questions::stage_samples(
+        let counts = self.set.counts;
+        let manifest = self.set.manifest;
+        let shape = Shape {
+            stands: self.stands,
+            retimed: self.retimed,
+            clips: self.set.clips,
+            counts,
+            manifest,
+        };
+        lent::stage_samples(
+            shape,
             &self.set.starts,
             &self.set.numbers,
             &self.set.xs,
             &self.set.ys,
-            self.set.counts,
-            self.set.manifest,
+            &self.set.blocks,
             times,
             values,
             marks,
@@ -332,26 +372,27 @@ impl Resolver {
         requires { ⌜ Made self ⌝ }
         ensures { λ r. ⌜ TellsSampleCount self (samplesWere times values marks ends) r ⌝ }
     {
-        if !self.stands {
-            return refused_list(refusal::NO_SET);
-        }
-        let refused = sdf::samples_number(self.set.clips, times, values, marks, ends);
-        if refused != 0 {
-            return refused_list(refused);
-        }
-        let samples = questions::stage_sample_count(
+        let counts = self.set.counts;
+        let manifest = self.set.manifest;
+        let shape = Shape {
+            stands: self.stands,
+            retimed: self.retimed,
+            clips: self.set.clips,
+            counts,
+            manifest,
+        };
+        lent::stage_sample_count(
+            shape,
             &self.set.starts,
             &self.set.numbers,
             &self.set.xs,
             &self.set.ys,
-            self.set.counts,
+            &self.set.blocks,
             times,
+            values,
+            marks,
             ends,
-        );
-        Counted {
-            number: 0,
-            count: samples,
-        }
+        )
     }
 
     // How many changes the track has: the slots to lend for a bake.
@@ -359,30 +400,27 @@ impl Resolver {
         requires { ⌜ Made self ⌝ }
         ensures { λ r. ⌜ TellsChangeCount self (samplesWere times values marks ends) r ⌝ }
     {
-        if !self.stands {
-            return refused_list(refusal::NO_SET);
-        }
-        let judged = sdf::samples_number(self.set.clips, times, values, marks, ends);
-        if judged != 0 {
-            return refused_list(judged);
-        }
-        let changes = questions::change_count(
+        let counts = self.set.counts;
+        let manifest = self.set.manifest;
+        let shape = Shape {
+            stands: self.stands,
+            retimed: self.retimed,
+            clips: self.set.clips,
+            counts,
+            manifest,
+        };
+        lent::change_count(
+            shape,
             &self.set.starts,
             &self.set.numbers,
             &self.set.xs,
             &self.set.ys,
             &self.set.blocks,
-            self.set.counts,
-            self.set.manifest,
             times,
             values,
             marks,
             ends,
-        );
-        Counted {
-            number: 0,
-            count: changes,
-        }
+        )
     }
 
     // The track of the standing set's value: the head and the count, and the changes written to the lent lists.
@@ -399,47 +437,22 @@ impl Resolver {
         requires { ⌜ Made self ⌝ }
         ensures { λ r. ⌜ BakesTrack self (samplesWere times values marks ends) (outsWere outtimes outvalues outmarks) r (outsLeft outtimes outvalues outmarks) ⌝ }
     {
-        if !self.stands {
-            return refused_bake(refusal::NO_SET);
-        }
-        let number = sdf::samples_number(self.set.clips, times, values, marks, ends);
-        if number != 0 {
-            return refused_bake(number);
-        }
-        // lent from copies, as in `clip_time`, so that lists without entries are not copied
-        let set = self.set;
-        let starts = set.starts;
-        let numbers = set.numbers;
-        let counts = set.counts;
-        let manifest = set.manifest;
-        if counts.knots == 0 {
-            if counts.blocks == 0 {
-                return questions::bake_knotless(
-                    &starts,
-                    &numbers,
-                    counts.starts,
-                    manifest,
-                    times,
-                    values,
-                    marks,
-                    ends,
-                    outtimes,
-                    outvalues,
-                    outmarks,
-                );
-            }
-        }
-        let xs = set.xs;
-        let ys = set.ys;
-        let blocks = set.blocks;
-        questions::bake(
-            &starts,
-            &numbers,
-            &xs,
-            &ys,
-            &blocks,
+        let counts = self.set.counts;
+        let manifest = self.set.manifest;
+        let shape = Shape {
+            stands: self.stands,
+            retimed: self.retimed,
+            clips: self.set.clips,
             counts,
             manifest,
+        };
+        lent::bake(
+            shape,
+            &self.set.starts,
+            &self.set.numbers,
+            &self.set.xs,
+            &self.set.ys,
+            &self.set.blocks,
             times,
             values,
             marks,
@@ -473,21 +486,4 @@ fn install(d: Resolver, prepared: Prepared, retimed: bool) -> Accepted
         number: 0,
         resolver: next,
     }
-}
-
-fn refused_bake(number: u8) -> Baked
-    ensures { λ r. ⌜ r ≡ bakeCode (refused number) ⌝ }
-{
-    Baked {
-        number,
-        mark: 0,
-        value: 0.0,
-        count: 0,
-    }
-}
-
-fn refused_list(number: u8) -> Counted
-    ensures { λ r. ⌜ (r .number ≡ number) × (r .count ≡ 0) ⌝ }
-{
-    Counted { number, count: 0 }
 }

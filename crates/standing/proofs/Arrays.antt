@@ -19,7 +19,7 @@ use Rattle.clip.specs.declared.storage.Blocks.{Blocks}
 use Rattle.clip.specs.declared.storage.Scratch.{Scratch}
 use Rattle.clip.specs.Holding.{Room, Holds, ArraysWhole, AllRoom, activeIn, activeClips, knotsIn, blocksIn, manifestOf}
 use Rattle.standing.specs.declared.Counts.{Counts}
-use Rattle.standing.specs.Standing.{lentSet, Installed, Packed}
+use Rattle.standing.specs.Standing.{Lengths, lentSet, Installed, Unpacked, Packed}
 
 -- ---- the entries of an array that count
 
@@ -47,9 +47,10 @@ knots-back : (l : List Knot) → knotsOf (knotTimes l) (knotValues l) ≡ l
 knots-back [] = refl
 knots-back (k ∷ l) = ap (λ (m : List Knot). k ∷ m) (knots-back l)
 
--- ---- a prepared set is installed
+-- ---- a prepared set is written over arrays
 
-module _ (set : ClipSet) (H : ArraysWhole set) (p : Scratch) (P : AllRoom p) (starts : List Float) (numbers : List ℕ) (xs ys : List Float)
+module _ (set : ClipSet) (H : ArraysWhole set) (o-starts : List Float) (o-numbers : List ℕ) (o-xs o-ys o-blocks : List Float) (P : Lengths o-starts o-numbers o-xs o-ys o-blocks)
+    (starts : List Float) (numbers : List ℕ) (xs ys : List Float)
     (starts-are : starts ≡ activeTimes (activeIn (set .active))) (numbers-are : numbers ≡ activeClips (activeIn (set .active)))
     (xs-are : xs ≡ knotTimes (knotsIn (set .knots))) (ys-are : ys ≡ knotValues (knotsIn (set .knots))) where
   abbrev n : ℕ
@@ -58,8 +59,11 @@ module _ (set : ClipSet) (H : ArraysWhole set) (p : Scratch) (P : AllRoom p) (st
   abbrev k : ℕ
   k = set .knots .count
 
+  abbrev b : ℕ
+  b = set .blocks .count
+
   abbrev counts : Counts
-  counts = record { starts = n; knots = k; blocks = set .blocks .count }
+  counts = record { starts = n; knots = k; blocks = b }
 
   active-count : length (activeIn (set .active)) ≡ n
   active-count = sym (front (H .active))
@@ -79,33 +83,50 @@ module _ (set : ClipSet) (H : ArraysWhole set) (p : Scratch) (P : AllRoom p) (st
   ys-count : length ys ≡ k
   ys-count = ap length ys-are ∙ length-map (knotsIn (set .knots)) (λ (a : Knot). a .y) ∙ knot-count
 
-  pub arrays-installed : Installed set (record {
-    clips = set .clips;
-    counts = counts;
-    starts = starts ++ drop n (p .times);
-    numbers = numbers ++ drop n (p .numbers);
-    xs = xs ++ drop k (p .xs);
-    ys = ys ++ drop k (p .ys);
-    blocks = set .blocks .items;
-    manifest = manifestOf set;
-  })
-  arrays-installed = record {
+  over-arrays : (blocks : List Float) → Room maxBlocks blocks b → take b blocks ≡ blocksIn (set .blocks)
+      → Unpacked set counts (starts ++ drop n o-starts) (numbers ++ drop n o-numbers) (xs ++ drop k o-xs) (ys ++ drop k o-ys) blocks
+  over-arrays blocks room blocks-are = record {
     whole = record {
-      in-starts = front-room starts (p .times) n maxActive (P .times) (H .active .few) starts-count;
-      in-numbers = front-room numbers (p .numbers) n maxActive (P .numbers) (H .active .few) numbers-count;
-      in-xs = front-room xs (p .xs) k maxKnots (P .xs) (H .knots .few) xs-count;
-      in-ys = front-room ys (p .ys) k maxKnots (P .ys) (H .knots .few) ys-count;
-      in-blocks = H .blocks;
+      in-starts = front-room starts o-starts n maxActive (P .of-starts) (H .active .few) starts-count;
+      in-numbers = front-room numbers o-numbers n maxActive (P .of-numbers) (H .active .few) numbers-count;
+      in-xs = front-room xs o-xs k maxKnots (P .of-xs) (H .knots .few) xs-count;
+      in-ys = front-room ys o-ys k maxKnots (P .of-ys) (H .knots .few) ys-count;
+      in-blocks = room;
     };
     is = unfold setOf in λ i. record {
       clips = set .clips;
-      active = (ap₂ activeOf (front-list starts (p .times) n maxActive (P .times) (H .active .few) starts-count ∙ starts-are) (front-list numbers (p .numbers) n maxActive (P .numbers) (H .active .few) numbers-count ∙ numbers-are) ∙ active-back (activeIn (set .active))) i;
-      knots = (ap₂ knotsOf (front-list xs (p .xs) k maxKnots (P .xs) (H .knots .few) xs-count ∙ xs-are) (front-list ys (p .ys) k maxKnots (P .ys) (H .knots .few) ys-count ∙ ys-are) ∙ knots-back (knotsIn (set .knots))) i;
-      blocks = blocksIn (set .blocks);
+      active = (ap₂ activeOf (front-list starts o-starts n maxActive (P .of-starts) (H .active .few) starts-count ∙ starts-are) (front-list numbers o-numbers n maxActive (P .of-numbers) (H .active .few) numbers-count ∙ numbers-are) ∙ active-back (activeIn (set .active))) i;
+      knots = (ap₂ knotsOf (front-list xs o-xs k maxKnots (P .of-xs) (H .knots .few) xs-count ∙ xs-are) (front-list ys o-ys k maxKnots (P .of-ys) (H .knots .few) ys-count ∙ ys-are) ∙ knots-back (knotsIn (set .knots))) i;
+      blocks = blocks-are i;
       default = set .default;
       interpolateMissing = set .interpolate;
     };
   }
+
+  -- the set's own array of blocks
+  pub arrays-installed : Installed set (record {
+    clips = set .clips;
+    counts = counts;
+    starts = starts ++ drop n o-starts;
+    numbers = numbers ++ drop n o-numbers;
+    xs = xs ++ drop k o-xs;
+    ys = ys ++ drop k o-ys;
+    blocks = set .blocks .items;
+    manifest = manifestOf set;
+  })
+  arrays-installed = let u = over-arrays (set .blocks .items) (H .blocks) refl in record { whole = u .whole; is = u .is }
+
+  -- the blocks written over an array too
+  pub arrays-unpacked : (blocks : List Float) → blocks ≡ blocksIn (set .blocks)
+      → Unpacked set counts (starts ++ drop n o-starts) (numbers ++ drop n o-numbers) (xs ++ drop k o-xs) (ys ++ drop k o-ys) (blocks ++ drop b o-blocks)
+  arrays-unpacked blocks e =
+      let count : length blocks ≡ b = ap length e ∙ sym (front (H .blocks)) in
+      over-arrays (blocks ++ drop b o-blocks) (front-room blocks o-blocks b maxBlocks (P .of-blocks) (H .blocks .few) count)
+      (front-list blocks o-blocks b maxBlocks (P .of-blocks) (H .blocks .few) count ∙ e)
+
+-- arrays with every slot 0
+pub scratch-lengths : (p : Scratch) → AllRoom p → Lengths (p .times) (p .numbers) (p .xs) (p .ys) (p .blocks)
+scratch-lengths p P = record { of-starts = P .times; of-numbers = P .numbers; of-xs = P .xs; of-ys = P .ys; of-blocks = P .blocks }
 
 -- ---- the arrays are packed again
 

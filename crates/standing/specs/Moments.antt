@@ -1,12 +1,10 @@
 -- What a call is lent, as it was lent and as it is left. Assumes nothing.
 use Prim.Native.Nat.{ℕ}
-use mathlib.Core.List.{[]}
-use lib.ListN.{length, take}
+use lib.ListN.{length}
 use lib.Ieee.{Float}
 use Rattle.definitions.specs.declared.Missing.{Missing}
 use Rattle.definitions.specs.ClipSet.{ClipSet}
 use Rattle.definitions.specs.Moments.{Lent, was}
-use Rattle.laws.specs.cell.Lent.{setOf}
 use Rattle.standing.specs.declared.Counts.{Counts}
 use Rattle.standing.specs.Standing.{lentSet, lentUnblocked}
 
@@ -17,7 +15,3 @@ setWas c starts numbers xs ys blocks m ends = lentSet (length (was ends)) c (was
 -- the same without manifest blocks
 abbrev pub openWas : Counts → Lent Float → Lent ℕ → Lent Float → Lent Float → Missing → Lent ℕ → ClipSet
 openWas c starts numbers xs ys m ends = lentUnblocked c (was starts) (was numbers) (was xs) (was ys) m (was ends)
-
--- the set of the first n starts, without knots and blocks
-abbrev pub knotlessWas : Lent Float → Lent ℕ → ℕ → Missing → Lent ℕ → ClipSet
-knotlessWas starts numbers n m ends = setOf (length (was ends)) (take n (was starts)) (take n (was numbers)) [] [] [] m

@@ -3,7 +3,7 @@ use Prim.Native.Nat.{ℕ}
 use mathlib.Core.Path.{_≡_}
 use mathlib.Core.List.{List, []}
 use mathlib.Core.Option.{Option, none, some}
-use lib.ListN.{take}
+use lib.ListN.{length, take}
 use lib.Ieee.{Float}
 use Rattle.definitions.specs.declared.Missing.{Missing}
 use Rattle.definitions.specs.ClipSet as Definitions
@@ -12,7 +12,7 @@ use Rattle.laws.specs.cell.Lent.{setOf, AcceptedLists}
 use Rattle.stage.specs.Times.{timesOf, AcceptedTimes}
 use Rattle.stage.specs.Marks.{unblocked}
 use Rattle.clip.specs.declared.ClipSet.{ClipSet}
-use Rattle.clip.specs.Holding.{Room, ArraysWhole, clipSetOf}
+use Rattle.clip.specs.Holding.{Room, ArraysWhole, clipSetOf, manifestOf}
 use Rattle.standing.specs.declared.Counts.{Counts}
 use Rattle.standing.specs.declared.StandingSet.{StandingSet}
 use Rattle.standing.specs.declared.questions.ActiveClip.{ActiveClip}
@@ -25,6 +25,14 @@ pub record Arrays (c : Counts) (starts : List Float) (numbers : List ℕ) (xs ys
   pub in-xs : Room maxKnots xs (c .knots)
   pub in-ys : Room maxKnots ys (c .knots)
   pub in-blocks : Room maxBlocks blocks (c .blocks)
+
+-- arrays of their lengths
+pub record Lengths (starts : List Float) (numbers : List ℕ) (xs ys blocks : List Float) : Type 0 where
+  pub of-starts : length starts ≡ maxActive
+  pub of-numbers : length numbers ≡ maxActive
+  pub of-xs : length xs ≡ maxKnots
+  pub of-ys : length ys ≡ maxKnots
+  pub of-blocks : length blocks ≡ maxBlocks
 
 -- the set of the entries that count
 abbrev pub lentSet : (clips : ℕ) → Counts → List Float → List ℕ → List Float → List Float → List Float → Missing → Definitions.ClipSet
@@ -42,6 +50,10 @@ Whole s = Arrays (s .counts) (s .starts) (s .numbers) (s .xs) (s .ys) (s .blocks
 pub record Installed (set : ClipSet) (r : StandingSet) : Type 0 where
   pub whole : Whole r
   pub is : setIn r ≡ clipSetOf set
+
+pub record Unpacked (set : ClipSet) (c : Counts) (starts : List Float) (numbers : List ℕ) (xs ys blocks : List Float) : Type 0 where
+  pub whole : Arrays c starts numbers xs ys blocks
+  pub is : lentSet (set .clips) c starts numbers xs ys blocks (manifestOf set) ≡ clipSetOf set
 
 pub record Packed (set : Definitions.ClipSet) (r : ClipSet) : Type 0 where
   pub held : ArraysWhole r

@@ -7,9 +7,9 @@ use definitions::Missing;
 use definitions::limits::BLOCKS;
 use definitions::limits::KNOTS;
 use definitions::limits::STARTS;
-ghost use Rattle.definitions.specs.Moments.{was};
+ghost use Rattle.definitions.specs.Moments.{was, after};
 ghost use Rattle.clip.specs.Holding.{ArraysWhole};
-ghost use Rattle.standing.specs.Standing.{Arrays, lentSet, Installed, Packed};
+ghost use Rattle.standing.specs.Standing.{Arrays, Lengths, lentSet, Installed, Unpacked, Packed};
 
 // How many entries of each array count.
 #[repr(C)]
@@ -69,6 +69,34 @@ pub fn installed(set: ClipSet) -> StandingSet
         ys,
         blocks,
         manifest,
+    }
+}
+
+// A prepared set written to lent arrays: how many entries of each count.
+pub fn unpacked(
+    set: ClipSet,
+    starts: &mut [f64],
+    numbers: &mut [u64],
+    xs: &mut [f64],
+    ys: &mut [f64],
+    blocks: &mut [f64],
+) -> Counts
+    requires { ⌜ ArraysWhole set ⌝ ∗ ⌜ Lengths (now starts) (now numbers) (now xs) (now ys) (now blocks) ⌝ }
+    ensures { λ r. ⌜ Unpacked set r (after starts) (after numbers) (after xs) (after ys) (after blocks) ⌝ }
+{
+    let active = set.active;
+    let knots = set.knots;
+    let held = set.blocks;
+    let n = active.count;
+    let k = knots.count;
+    let b = held.count;
+    storage::unpack_active(active, &mut starts[..n], &mut numbers[..n]);
+    storage::unpack_knots(knots, &mut xs[..k], &mut ys[..k]);
+    storage::unpack_blocks(held, &mut blocks[..b]);
+    Counts {
+        starts: n,
+        knots: k,
+        blocks: b,
     }
 }
 

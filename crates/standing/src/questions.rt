@@ -10,7 +10,6 @@ use sdf::Counted;
 use stage::Written;
 use track::bake::Baked;
 ghost use mathlib.Core.Path.{_≡_};
-ghost use mathlib.Core.List.{[]};
 ghost use Prim.Native.Nat.{ℕ, _<_};
 ghost use lib.Dec.{T};
 ghost use lib.ListN.{length, take};
@@ -22,13 +21,13 @@ ghost use Rattle.definitions.specs.Value.{valueInSet};
 ghost use Rattle.definitions.specs.Moments.{was, after, outsWere, outsLeft};
 ghost use Rattle.laws.specs.list.Every.{Every};
 ghost use Rattle.laws.specs.list.Places.{Ascending};
-ghost use Rattle.laws.specs.cell.Lent.{activeOf, knotsOf, samplesWere, AcceptedLists};
+ghost use Rattle.laws.specs.cell.Lent.{activeOf, knotsOf, samplesWere};
 ghost use Rattle.clip.specs.Holding.{Room};
 ghost use Rattle.value.specs.Untimed.{untimedOf};
 ghost use Rattle.track.specs.Bakes.{trackOf, BakeIs};
 ghost use Rattle.standing.specs.Lists.{countOf, ListsTimes, ListsSamples};
 ghost use Rattle.standing.specs.Standing.{Asked, TimesAsked, lentTimes, SamplesAsked, answered};
-ghost use Rattle.standing.specs.Moments.{setWas, openWas, knotlessWas};
+ghost use Rattle.standing.specs.Moments.{setWas, openWas};
 
 pub enum ActiveClip {
     Clip(u64),
@@ -128,41 +127,6 @@ pub fn bake<'a>(
         &xs[..k],
         &ys[..k],
         &blocks[..b],
-        m,
-        times,
-        values,
-        marks,
-        ends,
-        outtimes,
-        outvalues,
-        outmarks,
-    )
-}
-
-// The same of a set without knots and blocks, whose arrays need not be lent then.
-pub fn bake_knotless<'a>(
-    starts: &'a [f64],
-    numbers: &'a [u64],
-    n: usize,
-    m: Missing,
-    times: &[f64],
-    values: &[f64],
-    marks: &[u8],
-    ends: &[u64],
-    outtimes: &mut [f64],
-    outvalues: &mut [f64],
-    outmarks: &mut [u8],
-) -> Baked
-    requires { ⌜ Room maxActive (now starts) n ⌝ ∗ ⌜ Room maxActive (now numbers) n ⌝ }
-    requires { ⌜ AcceptedLists (take n (now starts)) (take n (now numbers)) [] [] [] m (now times) (now values) (now marks) (now ends) ⌝ }
-    ensures { λ r. ⌜ BakeIs (knotlessWas starts numbers n m ends) (samplesWere times values marks ends) (outsWere outtimes outvalues outmarks) (outsLeft outtimes outvalues outmarks) r ⌝ }
-{
-    track::bake::bake(
-        &starts[..n],
-        &numbers[..n],
-        &starts[..0],
-        &starts[..0],
-        &starts[..0],
         m,
         times,
         values,

@@ -2,7 +2,7 @@
 use mathlib.Core.Path.{sym}
 use borrow.Author.Needs.{needs}
 use Rattle.clip.proofs.Laws.{lent}
-use Rattle.standing.proofs.Arrays.{arrays-installed}
+use Rattle.standing.proofs.Arrays.{arrays-installed, scratch-lengths}
 use Rattle.standing.proofs.installed.Statement.{statement}
 use Rattle.standing.proofs.installed.Tie as tie
 
@@ -36,7 +36,8 @@ returns c =
     let b = c .before .before .before .before .before .before .before .before .before .before .before .before .before .before .before .before .blank in
     let starts = c .before .before .before .before .before .before .before .before .before .unpack-active in
     let knots = c .before .before .before .before .unpack-knots in
-    arrays-installed (s .args .set) (s .pre) (b .result) (b .ensures) (starts .last .1 .0) (starts .last .1 .1 .0) (knots .last .1 .0) (knots .last .1 .1 .0)
+    let p = b .result in
+    arrays-installed (s .args .set) (s .pre) (p .times) (p .numbers) (p .xs) (p .ys) (p .blocks) (scratch-lengths p (b .ensures)) (starts .last .1 .0) (starts .last .1 .1 .0) (knots .last .1 .0) (knots .last .1 .1 .0)
     (starts .ensures .0) (starts .ensures .1) (knots .ensures .0) (knots .ensures .1)
 
 pub installed-spec : {M : Type 1} → statement M

@@ -1,8 +1,8 @@
--- `resolver::refused_bake` meets its contract. Assumes nothing.
+-- `resolver::lent::refused_bake` meets its contract. Assumes nothing.
 use mathlib.Core.Path.{refl}
 use lib.Ieee.{ofBits}
-use Rattle.resolver.proofs.refused_bake.Statement.{statement}
-use Rattle.resolver.proofs.refused_bake.Tie as tie
+use Rattle.resolver.proofs.lent.refused_bake.Statement.{statement}
+use Rattle.resolver.proofs.lent.refused_bake.Tie as tie
 
 returns : tie.Need-returns
 unfolding ofBits
