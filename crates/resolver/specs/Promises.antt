@@ -28,6 +28,7 @@ use Rattle.track.specs.declared.bake.Baked.{Baked}
 use Rattle.track.specs.Bakes.{bakeCode}
 use Rattle.clip.specs.Holding.{clipSetOf, ArraysWhole}
 use Rattle.resolver.specs.declared.Resolver.{Resolver}
+use Rattle.resolver.specs.declared.Shape.{Shape}
 use Rattle.resolver.specs.declared.Accepted.{Accepted}
 use Rattle.resolver.specs.declared.ClipReply.{ClipReply}
 use Rattle.resolver.specs.declared.ClipReply.the-variants.{Clip, NoClip, Refused as ClipRefused}
@@ -37,8 +38,9 @@ use Rattle.resolver.specs.declared.ValueReply.{ValueReply}
 use Rattle.resolver.specs.declared.ValueReply.the-variants.{Answered, Refused as ValueRefused}
 use Rattle.resolver.specs.declared.UntimedReply.{UntimedReply}
 use Rattle.resolver.specs.declared.UntimedReply.the-variants.{Answered as Told, Refused as UntimedRefused}
+use Rattle.standing.specs.Standing.{Lengths}
 use Rattle.standing.specs.Lists.{counted, listed, itself, timeOf, markIn}
-use Rattle.resolver.specs.State.{model, Made}
+use Rattle.resolver.specs.State.{model, Made, lentState}
 
 -- ---- calls that may change what stands
 
@@ -46,6 +48,10 @@ use Rattle.resolver.specs.State.{model, Made}
 pub record Begins (d : Resolver) : Type 0 where
   pub empty : model d ≡ noSet
   pub made : Made d
+
+-- the same of a resolver that is lent, with whatever its lists hold
+abbrev pub BeginsLent : Shape → Type 0
+BeginsLent h = (starts : List Float) (numbers : List ℕ) (xs ys blocks : List Float) → Lengths starts numbers xs ys blocks → Begins (lentState h starts numbers xs ys blocks)
 
 -- "A refused call changes nothing": it hands back the very resolver that went in
 abbrev pub Kept : Resolver → Accepted → Type 0
@@ -69,7 +75,7 @@ pub record Retimes (d : Resolver) (o : LayerOffset) (r : Accepted) : Type 0 wher
   pub after : model (r .resolver) ≡ step (model d) (retime o)
   pub made : Made (r .resolver)
 
--- ---- questions: an enum's cases are 01's numbers and values
+-- ---- questions: an enum's cases are numbers and values of the definitions
 
 abbrev pub clipReply : ClipReply → Reply (Option ℕ)
 clipReply (Clip c) = replied (some c)

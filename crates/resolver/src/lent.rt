@@ -14,6 +14,7 @@ use definitions::StageTime;
 use definitions::TemplateTimes;
 use definitions::refusal;
 use sdf::Counted;
+use standing::Counts;
 use standing::questions;
 use standing::questions::ActiveClip;
 use track::bake::Baked;
@@ -26,7 +27,33 @@ ghost use Rattle.explicit.specs.Parsing.{explicitFields};
 ghost use Rattle.template.specs.Expanding.{templateFields};
 ghost use Rattle.track.specs.Bakes.{bakeCode};
 ghost use Rattle.resolver.specs.State.{Made, lentState, stateWas, settledState};
-ghost use Rattle.resolver.specs.Promises.{Accepts, Expands, Retimes, BakesTrack, TellsTimes, TellsSamples, TellsSampleCount, TellsChangeCount, TellsClip, TellsTime, TellsValue, TellsUntimed, Installable, Installs};
+ghost use Rattle.resolver.specs.Promises.{BeginsLent, Accepts, Expands, Retimes, BakesTrack, TellsTimes, TellsSamples, TellsSampleCount, TellsChangeCount, TellsClip, TellsTime, TellsValue, TellsUntimed, Installable, Installs};
+
+// No set stands, whatever the lists hold.
+pub fn fresh() -> Shape
+    ensures { λ r. ⌜ BeginsLent r ⌝ }
+{
+    let counts = Counts {
+        starts: 0,
+        knots: 0,
+        blocks: 0,
+    };
+    let default = Default {
+        mark: 2,
+        value: 0.0,
+    };
+    let manifest = Missing {
+        default,
+        interpolate: false,
+    };
+    Shape {
+        stands: false,
+        retimed: false,
+        clips: 0,
+        counts,
+        manifest,
+    }
+}
 
 // The set of the fields takes the place of the standing one, unless a number refuses it.
 pub fn accept(

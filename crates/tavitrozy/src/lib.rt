@@ -1,5 +1,5 @@
-// The resolver for C and Rust callers: structs go by value, a slice as a pointer and a length, an enum
-// as a struct of numbers. Each call's contract is the operation's promise.
+// The resolver for C, Rust and Python callers: structs of a few numbers go by value, a slice as a pointer and a length, an enum as a
+// struct of numbers. A resolver is lent, its shape by value and its lists where the caller keeps them. Each call's contract is the operation's promise.
 use cell::step::entry::Entry;
 use definitions::Answer;
 use definitions::ClipTime;
@@ -9,12 +9,13 @@ use definitions::StageTime;
 use definitions::TemplateTimes;
 use definitions::ValueState;
 use names::Named;
-use resolver::Accepted;
 use resolver::ClipReply;
-use resolver::Resolver;
+use resolver::Settled;
+use resolver::Shape;
 use resolver::TimeReply;
 use resolver::UntimedReply;
 use resolver::ValueReply;
+use resolver::lent;
 use sdf::Counted;
 use track::bake::Baked;
 ghost use mathlib.Core.Path.{_≡_};
@@ -26,8 +27,8 @@ ghost use Rattle.explicit.specs.Parsing.{explicitFields};
 ghost use Rattle.template.specs.Expanding.{templateFields};
 ghost use Rattle.normal_form.specs.Normalizes.{Normalizes};
 ghost use Rattle.cell.specs.step.Entries.{entryIs};
-ghost use Rattle.resolver.specs.State.{Made};
-ghost use Rattle.resolver.specs.Promises.{Begins, Accepts, Expands, Retimes, BakesTrack, TellsTimes, TellsSamples, TellsSampleCount, TellsChangeCount};
+ghost use Rattle.resolver.specs.State.{Made, lentState, stateWas, settledState};
+ghost use Rattle.resolver.specs.Promises.{BeginsLent, Accepts, Expands, Retimes, BakesTrack, TellsTimes, TellsSamples, TellsSampleCount, TellsChangeCount};
 ghost use Rattle.tavitrozy.specs.Codes.{clipCode, timeCode, valueCode, untimedCode, TellsClip, TellsTime, TellsValue, TellsUntimed, nameCode, SaysName};
 
 // A clip is active, unless `found` is false.
@@ -147,171 +148,333 @@ fn untimed_code(r: UntimedReply) -> UntimedCode
     }
 }
 
+// ---- a resolver that is lent: its shape by value, its lists as they stand
+
 #[no_mangle]
-pub extern "C" fn tavitrozy_fresh() -> Resolver
-    ensures { λ r. ⌜ Begins r ⌝ }
+pub extern "C" fn tavitrozy_lent_fresh() -> Shape
+    ensures { λ r. ⌜ BeginsLent r ⌝ }
 {
-    Resolver::fresh()
+    lent::fresh()
 }
 
 #[no_mangle]
-pub extern "C" fn tavitrozy_accept(
-    resolver: Resolver,
+pub extern "C" fn tavitrozy_lent_accept(
+    shape: Shape,
+    starts: &mut [f64],
+    numbers: &mut [u64],
+    xs: &mut [f64],
+    ys: &mut [f64],
+    blocks: &mut [f64],
     clips: u64,
-    starts: &[f64],
-    numbers: &[f64],
-    xs: &[f64],
-    ys: &[f64],
-    blocks: &[f64],
+    newstarts: &[f64],
+    newnumbers: &[f64],
+    newxs: &[f64],
+    newys: &[f64],
+    newblocks: &[f64],
     fallback: Default,
     interpolate: bool,
-) -> Accepted
-    requires { ⌜ Made resolver ⌝ }
-    ensures { λ r. ⌜ Accepts resolver (explicitFields clips (was starts) (was numbers) (was xs) (was ys) (was blocks) (manifest fallback interpolate)) r ⌝ }
+) -> Settled
+    requires { ⌜ Made (lentState shape (now starts) (now numbers) (now xs) (now ys) (now blocks)) ⌝ }
+    ensures { λ r. ⌜ Accepts (stateWas shape starts numbers xs ys blocks) (explicitFields clips (was newstarts) (was newnumbers) (was newxs) (was newys) (was newblocks) (manifest fallback interpolate)) (settledState r starts numbers xs ys blocks) ⌝ }
 {
-    resolver.accept(
-        clips,
+    lent::accept(
+        shape,
         starts,
         numbers,
         xs,
         ys,
         blocks,
+        clips,
+        newstarts,
+        newnumbers,
+        newxs,
+        newys,
+        newblocks,
         fallback,
         interpolate,
     )
 }
 
 #[no_mangle]
-pub extern "C" fn tavitrozy_accept_template(
-    resolver: Resolver,
+pub extern "C" fn tavitrozy_lent_accept_template(
+    shape: Shape,
+    starts: &mut [f64],
+    numbers: &mut [u64],
+    xs: &mut [f64],
+    ys: &mut [f64],
+    blocks: &mut [f64],
     pattern: &[u8],
     times: TemplateTimes,
     offset: bool,
-    blocks: &[f64],
+    newblocks: &[f64],
     fallback: Default,
     interpolate: bool,
-) -> Accepted
-    requires { ⌜ Made resolver ⌝ }
-    ensures { λ r. ⌜ Expands resolver (templateFields (was pattern) times offset (was blocks) (manifest fallback interpolate)) r ⌝ }
+) -> Settled
+    requires { ⌜ Made (lentState shape (now starts) (now numbers) (now xs) (now ys) (now blocks)) ⌝ }
+    ensures { λ r. ⌜ Expands (stateWas shape starts numbers xs ys blocks) (templateFields (was pattern) times offset (was newblocks) (manifest fallback interpolate)) (settledState r starts numbers xs ys blocks) ⌝ }
 {
-    resolver.accept_template(pattern, times, offset, blocks, fallback, interpolate)
+    lent::accept_template(
+        shape,
+        starts,
+        numbers,
+        xs,
+        ys,
+        blocks,
+        pattern,
+        times,
+        offset,
+        newblocks,
+        fallback,
+        interpolate,
+    )
 }
 
 #[no_mangle]
-pub extern "C" fn tavitrozy_retime(resolver: Resolver, offset: LayerOffset) -> Accepted
-    requires { ⌜ Made resolver ⌝ }
-    ensures { λ r. ⌜ Retimes resolver offset r ⌝ }
+pub extern "C" fn tavitrozy_lent_retime(
+    shape: Shape,
+    starts: &mut [f64],
+    numbers: &mut [u64],
+    xs: &mut [f64],
+    ys: &mut [f64],
+    blocks: &mut [f64],
+    offset: LayerOffset,
+) -> Settled
+    requires { ⌜ Made (lentState shape (now starts) (now numbers) (now xs) (now ys) (now blocks)) ⌝ }
+    ensures { λ r. ⌜ Retimes (stateWas shape starts numbers xs ys blocks) offset (settledState r starts numbers xs ys blocks) ⌝ }
 {
-    resolver.retime(offset)
+    lent::retime(shape, starts, numbers, xs, ys, blocks, offset)
 }
 
 #[no_mangle]
-pub extern "C" fn tavitrozy_active_clip(resolver: Resolver, time: StageTime) -> ClipCode
-    requires { ⌜ Made resolver ⌝ }
-    ensures { λ a. ⌜ TellsClip resolver time a ⌝ }
+pub extern "C" fn tavitrozy_lent_active_clip<'a>(
+    shape: Shape,
+    starts: &'a [f64],
+    numbers: &'a [u64],
+    xs: &'a [f64],
+    ys: &'a [f64],
+    blocks: &'a [f64],
+    time: StageTime,
+) -> ClipCode
+    requires { ⌜ Made (lentState shape (now starts) (now numbers) (now xs) (now ys) (now blocks)) ⌝ }
+    ensures { λ a. ⌜ TellsClip (stateWas shape starts numbers xs ys blocks) time a ⌝ }
 {
-    clip_code(resolver.active_clip(time))
+    clip_code(lent::active_clip(shape, starts, numbers, xs, ys, blocks, time))
 }
 
 #[no_mangle]
-pub extern "C" fn tavitrozy_clip_time(resolver: Resolver, time: StageTime) -> TimeCode
-    requires { ⌜ Made resolver ⌝ }
-    ensures { λ a. ⌜ TellsTime resolver time a ⌝ }
+pub extern "C" fn tavitrozy_lent_clip_time<'a>(
+    shape: Shape,
+    starts: &'a [f64],
+    numbers: &'a [u64],
+    xs: &'a [f64],
+    ys: &'a [f64],
+    blocks: &'a [f64],
+    time: StageTime,
+) -> TimeCode
+    requires { ⌜ Made (lentState shape (now starts) (now numbers) (now xs) (now ys) (now blocks)) ⌝ }
+    ensures { λ a. ⌜ TellsTime (stateWas shape starts numbers xs ys blocks) time a ⌝ }
 {
-    time_code(resolver.clip_time(time))
+    time_code(lent::clip_time(shape, starts, numbers, xs, ys, blocks, time))
 }
 
 #[no_mangle]
-pub extern "C" fn tavitrozy_value(
-    resolver: Resolver,
+pub extern "C" fn tavitrozy_lent_value<'a>(
+    shape: Shape,
+    starts: &'a [f64],
+    numbers: &'a [u64],
+    xs: &'a [f64],
+    ys: &'a [f64],
+    blocks: &'a [f64],
     times: &[f64],
     values: &[f64],
     marks: &[u8],
     ends: &[u64],
     time: StageTime,
 ) -> ValueCode
-    requires { ⌜ Made resolver ⌝ }
-    ensures { λ a. ⌜ TellsValue resolver (samplesWere times values marks ends) time a ⌝ }
+    requires { ⌜ Made (lentState shape (now starts) (now numbers) (now xs) (now ys) (now blocks)) ⌝ }
+    ensures { λ a. ⌜ TellsValue (stateWas shape starts numbers xs ys blocks) (samplesWere times values marks ends) time a ⌝ }
 {
-    value_code(resolver.value(times, values, marks, ends, time))
+    let r = lent::value(
+        shape,
+        starts,
+        numbers,
+        xs,
+        ys,
+        blocks,
+        times,
+        values,
+        marks,
+        ends,
+        time,
+    );
+    value_code(r)
 }
 
 #[no_mangle]
-pub extern "C" fn tavitrozy_untimed(
-    resolver: Resolver,
+pub extern "C" fn tavitrozy_lent_untimed<'a>(
+    shape: Shape,
+    starts: &'a [f64],
+    numbers: &'a [u64],
+    xs: &'a [f64],
+    ys: &'a [f64],
+    blocks: &'a [f64],
     times: &[f64],
     values: &[f64],
     marks: &[u8],
     ends: &[u64],
 ) -> UntimedCode
-    requires { ⌜ Made resolver ⌝ }
-    ensures { λ a. ⌜ TellsUntimed resolver (samplesWere times values marks ends) a ⌝ }
+    requires { ⌜ Made (lentState shape (now starts) (now numbers) (now xs) (now ys) (now blocks)) ⌝ }
+    ensures { λ a. ⌜ TellsUntimed (stateWas shape starts numbers xs ys blocks) (samplesWere times values marks ends) a ⌝ }
 {
-    untimed_code(resolver.untimed(times, values, marks, ends))
+    let r = lent::untimed(
+        shape,
+        starts,
+        numbers,
+        xs,
+        ys,
+        blocks,
+        times,
+        values,
+        marks,
+        ends,
+    );
+    untimed_code(r)
 }
 
 #[no_mangle]
-pub extern "C" fn tavitrozy_stage_sample_times(
-    resolver: Resolver,
+pub extern "C" fn tavitrozy_lent_stage_sample_times<'a>(
+    shape: Shape,
+    starts: &'a [f64],
+    numbers: &'a [u64],
+    xs: &'a [f64],
+    ys: &'a [f64],
+    blocks: &'a [f64],
     times: &[f64],
     values: &[f64],
     marks: &[u8],
     ends: &[u64],
-    out: &mut [f64],
+    ts: &mut [f64],
 ) -> Counted
-    requires { ⌜ Made resolver ⌝ }
-    ensures { λ r. ⌜ TellsTimes resolver (samplesWere times values marks ends) (was out) (after out) r ⌝ }
+    requires { ⌜ Made (lentState shape (now starts) (now numbers) (now xs) (now ys) (now blocks)) ⌝ }
+    ensures { λ r. ⌜ TellsTimes (stateWas shape starts numbers xs ys blocks) (samplesWere times values marks ends) (was ts) (after ts) r ⌝ }
 {
-    resolver.stage_sample_times(times, values, marks, ends, out)
+    lent::stage_sample_times(
+        shape,
+        starts,
+        numbers,
+        xs,
+        ys,
+        blocks,
+        times,
+        values,
+        marks,
+        ends,
+        ts,
+    )
 }
 
 #[no_mangle]
-pub extern "C" fn tavitrozy_stage_samples(
-    resolver: Resolver,
+pub extern "C" fn tavitrozy_lent_stage_samples<'a>(
+    shape: Shape,
+    starts: &'a [f64],
+    numbers: &'a [u64],
+    xs: &'a [f64],
+    ys: &'a [f64],
+    blocks: &'a [f64],
     times: &[f64],
     values: &[f64],
     marks: &[u8],
     ends: &[u64],
-    outtimes: &mut [f64],
-    outmarks: &mut [u8],
+    ts: &mut [f64],
+    ms: &mut [u8],
 ) -> Counted
-    requires { ⌜ Made resolver ⌝ }
-    ensures { λ r. ⌜ TellsSamples resolver (samplesWere times values marks ends) (was outtimes) (after outtimes) (was outmarks) (after outmarks) r ⌝ }
+    requires { ⌜ Made (lentState shape (now starts) (now numbers) (now xs) (now ys) (now blocks)) ⌝ }
+    ensures { λ r. ⌜ TellsSamples (stateWas shape starts numbers xs ys blocks) (samplesWere times values marks ends) (was ts) (after ts) (was ms) (after ms) r ⌝ }
 {
-    resolver.stage_samples(times, values, marks, ends, outtimes, outmarks)
+    lent::stage_samples(
+        shape,
+        starts,
+        numbers,
+        xs,
+        ys,
+        blocks,
+        times,
+        values,
+        marks,
+        ends,
+        ts,
+        ms,
+    )
 }
 
 #[no_mangle]
-pub extern "C" fn tavitrozy_stage_sample_count(
-    resolver: Resolver,
+pub extern "C" fn tavitrozy_lent_stage_sample_count<'a>(
+    shape: Shape,
+    starts: &'a [f64],
+    numbers: &'a [u64],
+    xs: &'a [f64],
+    ys: &'a [f64],
+    blocks: &'a [f64],
     times: &[f64],
     values: &[f64],
     marks: &[u8],
     ends: &[u64],
 ) -> Counted
-    requires { ⌜ Made resolver ⌝ }
-    ensures { λ r. ⌜ TellsSampleCount resolver (samplesWere times values marks ends) r ⌝ }
+    requires { ⌜ Made (lentState shape (now starts) (now numbers) (now xs) (now ys) (now blocks)) ⌝ }
+    ensures { λ r. ⌜ TellsSampleCount (stateWas shape starts numbers xs ys blocks) (samplesWere times values marks ends) r ⌝ }
 {
-    resolver.stage_sample_count(times, values, marks, ends)
+    lent::stage_sample_count(
+        shape,
+        starts,
+        numbers,
+        xs,
+        ys,
+        blocks,
+        times,
+        values,
+        marks,
+        ends,
+    )
 }
 
 #[no_mangle]
-pub extern "C" fn tavitrozy_change_count(
-    resolver: Resolver,
+pub extern "C" fn tavitrozy_lent_change_count<'a>(
+    shape: Shape,
+    starts: &'a [f64],
+    numbers: &'a [u64],
+    xs: &'a [f64],
+    ys: &'a [f64],
+    blocks: &'a [f64],
     times: &[f64],
     values: &[f64],
     marks: &[u8],
     ends: &[u64],
 ) -> Counted
-    requires { ⌜ Made resolver ⌝ }
-    ensures { λ r. ⌜ TellsChangeCount resolver (samplesWere times values marks ends) r ⌝ }
+    requires { ⌜ Made (lentState shape (now starts) (now numbers) (now xs) (now ys) (now blocks)) ⌝ }
+    ensures { λ r. ⌜ TellsChangeCount (stateWas shape starts numbers xs ys blocks) (samplesWere times values marks ends) r ⌝ }
 {
-    resolver.change_count(times, values, marks, ends)
+    lent::change_count(
+        shape,
+        starts,
+        numbers,
+        xs,
+        ys,
+        blocks,
+        times,
+        values,
+        marks,
+        ends,
+    )
 }
 
 #[no_mangle]
-pub extern "C" fn tavitrozy_bake(
-    resolver: Resolver,
+pub extern "C" fn tavitrozy_lent_bake<'a>(
+    shape: Shape,
+    starts: &'a [f64],
+    numbers: &'a [u64],
+    xs: &'a [f64],
+    ys: &'a [f64],
+    blocks: &'a [f64],
     times: &[f64],
     values: &[f64],
     marks: &[u8],
@@ -320,11 +483,27 @@ pub extern "C" fn tavitrozy_bake(
     outvalues: &mut [f64],
     outmarks: &mut [u8],
 ) -> Baked
-    requires { ⌜ Made resolver ⌝ }
-    ensures { λ r. ⌜ BakesTrack resolver (samplesWere times values marks ends) (outsWere outtimes outvalues outmarks) r (outsLeft outtimes outvalues outmarks) ⌝ }
+    requires { ⌜ Made (lentState shape (now starts) (now numbers) (now xs) (now ys) (now blocks)) ⌝ }
+    ensures { λ r. ⌜ BakesTrack (stateWas shape starts numbers xs ys blocks) (samplesWere times values marks ends) (outsWere outtimes outvalues outmarks) r (outsLeft outtimes outvalues outmarks) ⌝ }
 {
-    resolver.bake(times, values, marks, ends, outtimes, outvalues, outmarks)
+    lent::bake(
+        shape,
+        starts,
+        numbers,
+        xs,
+        ys,
+        blocks,
+        times,
+        values,
+        marks,
+        ends,
+        outtimes,
+        outvalues,
+        outmarks,
+    )
 }
+
+// ---- without a set
 
 #[no_mangle]
 pub extern "C" fn tavitrozy_read(
