@@ -6,10 +6,11 @@ use definitions::Default;
 use definitions::Missing;
 use definitions::refusal;
 ghost use mathlib.Core.Path.{_≡_};
-ghost use Rattle.definitions.specs.ClipSet.{nanDefault};
-ghost use Rattle.definitions.specs.Retime.{sorted};
-ghost use Rattle.definitions.specs.Moments.{was};
-ghost use Rattle.laws.specs.cell.Lent.{setOf};
+ghost use Prim.Native.Nat.{_≤_};
+ghost use lib.ListN.{length};
+ghost use Rattle.definitions.specs.ClipSet.{nanDefault, sortActive, sortKnots};
+ghost use Rattle.definitions.specs.Moments.{was, after};
+ghost use Rattle.laws.specs.cell.Lent.{activeOf, knotsOf, setOf};
 ghost use Rattle.clip.specs.Holding.{emptySet};
 ghost use Rattle.clip.specs.Preparing.{HandsBack};
 ghost use Rattle.clip.specs.Storing.{Fitting, Stores, listsNumber};
@@ -84,7 +85,8 @@ pub fn store(
     Prepared { number: 0, set }
 }
 
-fn check_and_store(
+// The set of lists in order, or the empty one, where 2, 4, 5 or 9 refuses it.
+pub fn check_and_store(
     clips: u64,
     times: &[f64],
     numbers: &[u64],
@@ -103,20 +105,13 @@ fn check_and_store(
     store(clips, times, numbers, xs, ys, blocks, manifest)
 }
 
-// Checks and stores lists in any order.
-pub fn sort_check_and_store(
-    clips: u64,
-    times: &mut [f64],
-    numbers: &mut [u64],
-    xs: &mut [f64],
-    ys: &mut [f64],
-    blocks: &[f64],
-    manifest: Missing,
-) -> Prepared
-    requires { ⌜ Fitting (now times) (now numbers) (now xs) (now ys) (now blocks) ⌝ }
-    ensures { λ r. ⌜ Stores emptySet (sorted (setOf clips (was times) (was numbers) (was xs) (was ys) (was blocks) manifest)) r ⌝ }
+// Lists in any order, sorted. It stands apart from what stores them, whose arrays are then not on the stack while it sorts.
+pub fn sort_lists(times: &mut [f64], numbers: &mut [u64], xs: &mut [f64], ys: &mut [f64])
+    requires { ⌜ (length (now times) ≡ length (now numbers)) × (length (now times) ≤ 512) ⌝ }
+    requires { ⌜ (length (now xs) ≡ length (now ys)) × (length (now xs) ≤ 512) ⌝ }
+    ensures { λ _. ⌜ activeOf (after times) (after numbers) ≡ sortActive (activeOf (was times) (was numbers)) ⌝ }
+    ensures { λ _. ⌜ knotsOf (after xs) (after ys) ≡ sortKnots (knotsOf (was xs) (was ys)) ⌝ }
 {
     lists::sorting::sort_starts(times, numbers);
     lists::sorting::sort_knots(xs, ys);
-    check_and_store(clips, times, numbers, xs, ys, blocks, manifest)
 }

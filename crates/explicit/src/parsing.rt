@@ -46,5 +46,6 @@ pub fn parse_lists(
     copy_clips(numbers, indices);
     lists::writing::copy(xs, us);
     lists::writing::copy(ys, vs);
-    storing::sort_check_and_store(clips, times, indices, us, vs, blocks, manifest)
+    storing::sort_lists(times, indices, us, vs);
+    storing::check_and_store(clips, times, indices, us, vs, blocks, manifest)
 }

@@ -178,17 +178,16 @@ fn install(
             shape,
         };
     }
-    let set = prepared.set;
-    let counts = standing::unpacked(set, starts, numbers, xs, ys, blocks);
-    let default = set.default;
+    let counts = standing::unpacked(prepared.set, starts, numbers, xs, ys, blocks);
+    let default = prepared.set.default;
     let manifest = Missing {
         default,
-        interpolate: set.interpolate,
+        interpolate: prepared.set.interpolate,
     };
     let next = Shape {
         stands: true,
         retimed,
-        clips: set.clips,
+        clips: prepared.set.clips,
         counts,
         manifest,
     };

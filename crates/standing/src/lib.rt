@@ -84,15 +84,12 @@ pub fn unpacked(
     requires { ⌜ ArraysWhole set ⌝ ∗ ⌜ Lengths (now starts) (now numbers) (now xs) (now ys) (now blocks) ⌝ }
     ensures { λ r. ⌜ Unpacked set r (after starts) (after numbers) (after xs) (after ys) (after blocks) ⌝ }
 {
-    let active = set.active;
-    let knots = set.knots;
-    let held = set.blocks;
-    let n = active.count;
-    let k = knots.count;
-    let b = held.count;
-    storage::unpack_active(active, &mut starts[..n], &mut numbers[..n]);
-    storage::unpack_knots(knots, &mut xs[..k], &mut ys[..k]);
-    storage::unpack_blocks(held, &mut blocks[..b]);
+    let n = set.active.count;
+    let k = set.knots.count;
+    let b = set.blocks.count;
+    storage::unpack_active(set.active, &mut starts[..n], &mut numbers[..n]);
+    storage::unpack_knots(set.knots, &mut xs[..k], &mut ys[..k]);
+    storage::unpack_blocks(set.blocks, &mut blocks[..b]);
     Counts {
         starts: n,
         knots: k,

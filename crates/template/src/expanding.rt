@@ -143,5 +143,6 @@ pub fn expand_lists(
     write_knots(ts, times, offset, xs);
     lists::writing::copy(xs, ys);
     let clips = ts.len() as u64;
-    storing::sort_check_and_store(clips, starts, numbers, xs, ys, blocks, manifest)
+    storing::sort_lists(starts, numbers, xs, ys);
+    storing::check_and_store(clips, starts, numbers, xs, ys, blocks, manifest)
 }

@@ -7,7 +7,8 @@ use Rattle.definitions.specs.ClipSet as Definitions
 use Rattle.definitions.specs.Explicit.{ExplicitFields}
 use Rattle.laws.proofs.set.SoundExplicit.{ExplicitLimits}
 use Rattle.clip.specs.Holding.{emptySet}
-use Rattle.clip.specs.Storing.{Stores}
+use Rattle.clip.specs.Storing.{Fitting, Stores}
+use Rattle.clip.proofs.Stored.{sorted-is}
 use Rattle.explicit.specs.Parsing.{explicitFields}
 use Rattle.explicit.proofs.Indices.{clips-indexed}
 use Rattle.explicit.proofs.Acceptance.{fields-fit, fields-clips, explicit-is}
@@ -33,11 +34,11 @@ clips-copied x = x .before .before .before .before
 abbrev xs-copied : tie.After-copy3 → tie.After-copy2
 xs-copied y = y .before .before .before .before
 
-abbrev ys-copied : tie.After-sort-check-and-store-arg4 → tie.After-copy3
+abbrev ys-copied : tie.After-sort-lists-arg4 → tie.After-copy3
 ys-copied c = c .before .before .before .before .before .before
 
-abbrev stored : tie.After-slice-known12 → tie.After-sort-check-and-store
-stored c = c .before .before .before .before .before .before .before .before
+abbrev sorted : tie.After-check-and-store-arg4 → tie.After-sort-lists
+sorted c = c .before .before .before .before .before .before .before .before .before .before .before .before
 
 copy-clips-requires : tie.Need-copy-clips-requires
 copy-clips-requires c κs =
@@ -47,8 +48,10 @@ copy-clips-requires c κs =
 copy-requires-3 : tie.Need-copy-requires-3
 copy-requires-3 c κs = let s = entry (starts-copied (clips-copied (c .before .before .before))) in s .pre .1 .for-ys ∙ limits s .knots-paired
 
-sort-check-and-store-requires : tie.Need-sort-check-and-store-requires
-sort-check-and-store-requires c κs =
+-- lists of their lengths
+fitting : (c : tie.After-sort-lists-arg4) → let w = ys-copied c in let v = xs-copied w in let k = clips-copied v in let h = starts-copied k in
+    Fitting (h .copy .last .1 .0) (k .copy-clips .last .1 .0) (v .copy2 .last .1 .0) (w .copy3 .last .1 .0) (now (entry h .args .blocks))
+fitting c =
     let w = ys-copied c in
     let v = xs-copied w in
     let k = clips-copied v in
@@ -61,26 +64,49 @@ sort-check-and-store-requires c κs =
     let l = limits s in
     record { starts = t ∙ sym i; knots = x ∙ sym y; few-starts = omega arith; few-knots = omega arith; few-blocks = l .blocks }
 
+sort-lists-requires : tie.Need-sort-lists-requires
+sort-lists-requires c κs = let f = fitting c in ((f .starts, omega (arith, f .few-starts)), (f .knots, omega (arith, f .few-knots)))
+
+check-and-store-requires : tie.Need-check-and-store-requires
+check-and-store-requires c κs =
+    let k = sorted c .sort-lists .kept in
+    let f = fitting (sorted c .before) in
+    record {
+      starts = k .0 ∙ f .starts ∙ sym (k .1 .0);
+      knots = k .1 .1 .0 ∙ f .knots ∙ sym (k .1 .1 .1 .0);
+      few-starts = omega (arith, k .0, f .few-starts);
+      few-knots = omega (arith, k .1 .1 .0, f .few-knots);
+      few-blocks = f .few-blocks;
+    }
+
 -- the copy of the clip numbers, from the end
-abbrev numbers-copied : tie.After-slice-known12 → tie.After-copy-clips
-numbers-copied c = clips-copied (xs-copied (ys-copied (stored c .before)))
+abbrev numbers-copied : tie.After-check-and-store → tie.After-copy-clips
+numbers-copied c = clips-copied (xs-copied (ys-copied (sorted (c .before) .before)))
 
 same-length : tie.Need-same-length
-same-length c = stored c .sort-check-and-store .kept .1 .0 ∙ starts-copied (numbers-copied c) .copy .kept .1 .0
+same-length c = sorted (c .before) .sort-lists .kept .0 ∙ starts-copied (numbers-copied c) .copy .kept .1 .0
 
 same-length-2 : tie.Need-same-length-2
-same-length-2 c = stored c .sort-check-and-store .kept .1 .1 .0 ∙ numbers-copied c .copy-clips .kept .1 .0
+same-length-2 c = sorted (c .before) .sort-lists .kept .1 .0 ∙ numbers-copied c .copy-clips .kept .1 .0
+
+same-length-3 : tie.Need-same-length-3
+same-length-3 c = sorted (c .before) .sort-lists .kept .1 .1 .0 ∙ xs-copied (ys-copied (sorted (c .before) .before)) .copy2 .kept .1 .0
+
+same-length-4 : tie.Need-same-length-4
+same-length-4 c = sorted (c .before) .sort-lists .kept .1 .1 .1 .0 ∙ ys-copied (sorted (c .before) .before) .copy3 .kept .1 .0
 
 returns : tie.Need-returns
 returns c =
-    let y = ys-copied (stored c .before) .copy3 in
-    let x = xs-copied (ys-copied (stored c .before)) .copy2 in
+    let o = sorted (c .before) .sort-lists in
+    let y = ys-copied (sorted (c .before) .before) .copy3 in
+    let x = xs-copied (ys-copied (sorted (c .before) .before)) .copy2 in
     let i = numbers-copied c .copy-clips in
     let t = starts-copied (numbers-copied c) .copy in
-    let r = stored c .sort-check-and-store in
+    let r = c .check-and-store in
     let a = entry (starts-copied (numbers-copied c)) .args in
     subst (λ (set : Definitions.ClipSet). Stores emptySet set (r .result))
-    (explicit-is (a .clips) (now (a .starts)) (t .last .1 .0) (now (a .numbers)) (i .last .1 .0) (now (a .xs)) (x .last .1 .0) (now (a .ys)) (y .last .1 .0) (now (a .blocks)) (a .manifest) (t .ensures) (i .ensures) (x .ensures) (y .ensures))
+    (sorted-is (a .clips) (t .last .1 .0) (o .last .0) (i .last .1 .0) (o .last .1 .0) (x .last .1 .0) (y .last .1 .0) (o .last .1 .1 .0) (o .last .1 .1 .1 .0) (now (a .blocks)) (a .manifest) (o .ensures .0) (o .ensures .1)
+    ∙ explicit-is (a .clips) (now (a .starts)) (t .last .1 .0) (now (a .numbers)) (i .last .1 .0) (now (a .xs)) (x .last .1 .0) (now (a .ys)) (y .last .1 .0) (now (a .blocks)) (a .manifest) (t .ensures) (i .ensures) (x .ensures) (y .ensures))
     (r .ensures)
 
 pub parse-lists-spec : {M : Type 1} → statement M
@@ -91,9 +117,10 @@ parse-lists-spec =
     copy-clips-requires
     (λ c κs. search needs)
     copy-requires-3
-    sort-check-and-store-requires
+    sort-lists-requires
+    check-and-store-requires
     same-length
     same-length-2
-    (λ c. search needs)
-    (λ c. search needs)
+    same-length-3
+    same-length-4
     returns)

@@ -15,13 +15,13 @@ returns c = let s = c .before .before .before .before .before .before .before in
 
 unpacked-requires : tie.Need-unpacked-requires
 unpacked-requires c κs =
-    let p = c .before .before .before .before .before .before .before .before .before .before .before .before .before .pre in
+    let p = c .before .before .before .before .before .before .before .before .before .before .before .before .pre in
     let w = p .0 .whole in
     (p .1 .held, record { of-starts = w .in-starts .long; of-numbers = w .in-numbers .long; of-xs = w .in-xs .long; of-ys = w .in-ys .long; of-blocks = w .in-blocks .long })
 
 returns-2 : tie.Need-returns-2
 returns-2 c =
-    let p = c .before .before .before .before .before .before .before .before .before .before .before .before .before .before .before .before .before .before in
+    let p = c .before .before .before .before .before .before .before .before .before .before .before .before .before .before .before .before .before in
     let s = p .before .before .before .before .before .before .before in
     unpacks (state s) (s .args .prepared) (s .args .retimed) (s .pre .1) (p .if1 .left) (c .before .before .before .before .before .before .before .before .before .before .before .unpacked .ensures)
 
