@@ -5,6 +5,9 @@ pub mod storing;
 
 use definitions::Default;
 use definitions::LayerOffset;
+use definitions::limits::BLOCKS;
+use definitions::limits::KNOTS;
+use definitions::limits::STARTS;
 use definitions::refusal;
 use storage::Active;
 use storage::Blocks;
@@ -70,18 +73,14 @@ impl ClipSet {
                 set: self,
             };
         }
-        let active = self.active;
-        let knots = self.knots;
-        let held = self.blocks;
-        let n = active.count;
-        let m = knots.count;
-        let b = held.count;
-        let plain = storage::blank();
-        let mut times = plain.times;
-        let mut numbers = plain.numbers;
-        let mut xs = plain.xs;
-        let mut ys = plain.ys;
-        let mut blocks = plain.blocks;
+        let n = self.active.count;
+        let m = self.knots.count;
+        let b = self.blocks.count;
+        let mut times = [0.0; STARTS];
+        let mut numbers = [0u64; STARTS];
+        let mut xs = [0.0; KNOTS];
+        let mut ys = [0.0; KNOTS];
+        let mut blocks = [0.0; BLOCKS];
         retiming::retime_lists(
             self,
             o,

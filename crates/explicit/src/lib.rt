@@ -3,10 +3,11 @@ mod fields;
 mod parsing;
 
 use clip::Prepared;
-use clip::storage;
 use clip::storing;
 use definitions::Default;
 use definitions::Missing;
+use definitions::limits::KNOTS;
+use definitions::limits::STARTS;
 ghost use Rattle.definitions.specs.Moments.{was};
 ghost use Rattle.clip.specs.Holding.{manifest};
 ghost use Rattle.explicit.specs.Parsing.{explicitFields, Parses};
@@ -34,11 +35,10 @@ pub fn parse_set(
     }
     let n = starts.len();
     let m = xs.len();
-    let plain = storage::blank();
-    let mut times = plain.times;
-    let mut indices = plain.numbers;
-    let mut us = plain.xs;
-    let mut vs = plain.ys;
+    let mut times = [0.0; STARTS];
+    let mut indices = [0u64; STARTS];
+    let mut us = [0.0; KNOTS];
+    let mut vs = [0.0; KNOTS];
     parsing::parse_lists(
         clips,
         starts,

@@ -3,12 +3,13 @@ mod expanding;
 mod fields;
 
 use clip::Prepared;
-use clip::storage;
 use clip::storing;
 use definitions::Default;
 use definitions::Missing;
 use definitions::TemplateTimes;
 use definitions::limits::CLIPS;
+use definitions::limits::KNOTS;
+use definitions::limits::STARTS;
 use definitions::refusal;
 ghost use Rattle.definitions.specs.Moments.{was};
 ghost use Rattle.clip.specs.Holding.{manifest};
@@ -40,11 +41,10 @@ pub fn expand_template(
     }
     let m = expanding::knot_count(n, offset);
     let ts = promoted.items;
-    let plain = storage::blank();
-    let mut starts = plain.times;
-    let mut numbers = plain.numbers;
-    let mut xs = plain.xs;
-    let mut ys = plain.ys;
+    let mut starts = [0.0; STARTS];
+    let mut numbers = [0u64; STARTS];
+    let mut xs = [0.0; KNOTS];
+    let mut ys = [0.0; KNOTS];
     expanding::expand_lists(
         &ts[..n],
         times,

@@ -3,12 +3,13 @@ use mathlib.Core.Path.{_≡_, sym, subst, _∙_}
 use native.Mathlib.Omega.{arith}
 use borrow.Author.Needs.{needs}
 use lib.Dec.{T}
+use lib.Seq.{length-take-le}
 use denote.Ref.{now}
 use Rattle.definitions.specs.Explicit.{ExplicitFields}
 use Rattle.laws.proofs.set.SoundExplicit.{ExplicitLimits, ExplicitFits}
 use Rattle.clip.specs.Holding.{manifest}
 use Rattle.explicit.specs.Parsing.{explicitFields, fieldsNumber}
-use Rattle.clip.proofs.Laws.{all-fit, lent}
+use Rattle.clip.proofs.Laws.{all-fit}
 use Rattle.explicit.proofs.Acceptance.{fields-fit, parse-refuses, parse-settles}
 use Rattle.explicit.proofs.parse_set.Statement.{statement}
 use Rattle.explicit.proofs.parse_set.Tie as tie
@@ -40,45 +41,44 @@ returns c =
     parse-refuses (fields s) (c .before .before .fields-number .result) (c .refused .result) (c .before .before .fields-number .ensures) (c .before .if1 .taken) (c .refused .ensures)
 
 array-borrow-prefix-times : tie.Need-array-borrow-prefix-times
-array-borrow-prefix-times c = omega (arith, limits (c .before .before .before .before .before) .starts, c .before .before .before .before .blank .ensures .times)
+array-borrow-prefix-times c = omega (arith, limits c .starts)
 
 slice-aggregate-parse-lists : tie.Need-slice-aggregate-parse-lists
-slice-aggregate-parse-lists c = let l = limits (c .before .before .before .before .before .before) in let b = c .before .before .before .before .before .blank in sym (lent 256 _ (b .result .times) (b .ensures .times) (l .starts))
+slice-aggregate-parse-lists c = sym (length-take-le _ _ (limits (c .before) .starts))
 
 array-borrow-prefix-indices : tie.Need-array-borrow-prefix-indices
-array-borrow-prefix-indices c = omega (arith, limits (c .before .before .before .before .before .before) .starts, c .before .before .before .before .before .blank .ensures .numbers)
+array-borrow-prefix-indices c = omega (arith, limits (c .before) .starts)
 
 slice-aggregate-parse-lists-2 : tie.Need-slice-aggregate-parse-lists-2
-slice-aggregate-parse-lists-2 c = let l = limits (c .before .before .before .before .before .before .before) in let b = c .before .before .before .before .before .before .blank in sym (lent 256 _ (b .result .numbers) (b .ensures .numbers) (l .starts))
+slice-aggregate-parse-lists-2 c = sym (length-take-le _ _ (limits (c .before .before) .starts))
 
 array-borrow-prefix-us : tie.Need-array-borrow-prefix-us
-array-borrow-prefix-us c = omega (arith, limits (c .before .before .before .before .before .before .before) .knots, c .before .before .before .before .before .before .blank .ensures .xs)
+array-borrow-prefix-us c = omega (arith, limits (c .before .before) .knots)
 
 slice-aggregate-parse-lists-3 : tie.Need-slice-aggregate-parse-lists-3
-slice-aggregate-parse-lists-3 c = let l = limits (c .before .before .before .before .before .before .before .before) in let b = c .before .before .before .before .before .before .before .blank in sym (lent 512 _ (b .result .xs) (b .ensures .xs) (l .knots))
+slice-aggregate-parse-lists-3 c = sym (length-take-le _ _ (limits (c .before .before .before) .knots))
 
 array-borrow-prefix-vs : tie.Need-array-borrow-prefix-vs
-array-borrow-prefix-vs c = omega (arith, limits (c .before .before .before .before .before .before .before .before) .knots, c .before .before .before .before .before .before .before .blank .ensures .ys)
+array-borrow-prefix-vs c = omega (arith, limits (c .before .before .before) .knots)
 
 slice-aggregate-parse-lists-4 : tie.Need-slice-aggregate-parse-lists-4
-slice-aggregate-parse-lists-4 c = let l = limits (c .before .before .before .before .before .before .before .before .before) in let b = c .before .before .before .before .before .before .before .before .blank in sym (lent 512 _ (b .result .ys) (b .ensures .ys) (l .knots))
+slice-aggregate-parse-lists-4 c = sym (length-take-le _ _ (limits (c .before .before .before .before) .knots))
 
 parse-lists-requires : tie.Need-parse-lists-requires
 parse-lists-requires c κs =
-    let l = limits (c .before .before .before .before .before .before .before .before .before) in
-    let b = c .before .before .before .before .before .before .before .before .blank in (
-      none (c .before .before .before .before .before .before .before .before .before),
+    let l = limits (c .before .before .before .before) in (
+      none (c .before .before .before .before),
       record {
-        for-times = lent 256 _ (b .result .times) (b .ensures .times) (l .starts);
-        for-indices = lent 256 _ (b .result .numbers) (b .ensures .numbers) (l .starts);
-        for-xs = lent 512 _ (b .result .xs) (b .ensures .xs) (l .knots);
-        for-ys = lent 512 _ (b .result .ys) (b .ensures .ys) (l .knots);
+        for-times = length-take-le _ _ (l .starts);
+        for-indices = length-take-le _ _ (l .starts);
+        for-xs = length-take-le _ _ (l .knots);
+        for-ys = length-take-le _ _ (l .knots);
       },
     )
 
 returns-2 : tie.Need-returns-2
 returns-2 c =
-    let e = c .before .before .before .before .before .before .before .before .before .before .before .before .before .before in
+    let e = c .before .before .before .before .before .before .before .before .before in
     parse-settles (fields (e .before .before .before .before .before .before .before)) (c .before .before .before .before .parse-lists .result) (fitting (e .before .before)) (none e) (c .before .before .before .before .parse-lists .ensures)
 
 pub parse-set-spec : {M : Type 1} → statement M
@@ -88,7 +88,6 @@ parse-set-spec =
     (λ c κs. search needs)
     (λ c κs. search needs)
     returns
-    (λ c κs. search needs)
     array-borrow-prefix-times
     slice-aggregate-parse-lists
     array-borrow-prefix-indices

@@ -5,9 +5,10 @@ use native.Mathlib.Omega.{arith}
 use borrow.Author.Needs.{needs}
 use lib.Dec.{T}
 use lib.ListN.{length-take}
+use lib.Seq.{length-take-le}
 use lib.Ieee.Scale.{finite}
 use Rattle.laws.specs.list.Places.{Fits}
-use Rattle.clip.proofs.Laws.{untrue, holding, lent}
+use Rattle.clip.proofs.Laws.{untrue, holding}
 use Rattle.clip.proofs.Retimed.{retime-refuses, retime-identity, retime-settles}
 use Rattle.clip.proofs.ClipSet.retime_stage_times.Statement.{statement}
 use Rattle.clip.proofs.ClipSet.retime_stage_times.Tie as tie
@@ -46,22 +47,20 @@ slice-aggregate-retime-lists-5 c = simp length-take (omega arith)
 
 retime-lists-requires : tie.Need-retime-lists-requires
 retime-lists-requires c κs =
-    let s = c .before .before .before .before .before .before .before .before .before .before .before .before .before .before .before .before .before .before in
-    let a = s .args .self in
-    let b = c .before .before .before .before .before .before .before .before .before .before .blank in (
-      s .pre .0,
+    let h = c .before .before .before .before .before .before .before .before .before .pre .0 in (
+      h,
       record {
-        times = lent 256 (a .active .count) (b .result .times) (b .ensures .times) (s .pre .0 .active .few);
-        numbers = lent 256 (a .active .count) (b .result .numbers) (b .ensures .numbers) (s .pre .0 .active .few);
-        xs = lent 512 (a .knots .count) (b .result .xs) (b .ensures .xs) (s .pre .0 .knots .few);
-        ys = lent 512 (a .knots .count) (b .result .ys) (b .ensures .ys) (s .pre .0 .knots .few);
-        blocks = lent 256 (a .blocks .count) (b .result .blocks) (b .ensures .blocks) (s .pre .0 .blocks .few);
+        times = length-take-le _ _ (h .active .few);
+        numbers = length-take-le _ _ (h .active .few);
+        xs = length-take-le _ _ (h .knots .few);
+        ys = length-take-le _ _ (h .knots .few);
+        blocks = length-take-le _ _ (h .blocks .few);
       },
     )
 
 returns-3 : tie.Need-returns-3
 returns-3 c =
-    let i = c .before .before .before .before .before .before .before .before .before .before .before .before .before .before .before .before .before .before .before .before in
+    let i = c .before .before .before .before .before .before .before .before .before .before .before in
     let s = i .before .before .before .before in
     retime-settles (s .args .self) (s .args .o) (s .pre .0) (s .pre .1) (both-finite (i .before .before)) (c .before .before .before .before .before .retime-lists .result) (fitting s) (sym (i .before .is-identity .ensures) ∙ i .if2 .left) (c .before .before .before .before .before .retime-lists .ensures)
 
@@ -73,7 +72,6 @@ retime-stage-times-spec =
     returns
     (λ c κs. search needs)
     returns-2
-    (λ c κs. search needs)
     (λ c. search needs)
     slice-aggregate-retime-lists
     (λ c. search needs)
