@@ -1,4 +1,4 @@
--- What document 01 claims of its definitions, computed: a name with as many bytes as any, the stage sample times of a figure's set, and the value by the sorted list.
+-- What docs/VALUE-CLIPS.md claims of the definitions, computed: a name with as many bytes as any, the stage sample times of a figure's set, and the value by the sorted list.
 -- Assumes nothing.
 use mathlib.Core.Path.{_≡_, refl}
 use Prim.Native.Nat.{ℕ, zero, suc}

@@ -1,4 +1,4 @@
--- The two tracks of document 01's (P) figures, proved at every double: the one that never changes, and the one with a change at 20. Assumes nothing.
+-- The two tracks of the figures marked (P) in docs/VALUE-CLIPS.md, proved at every double: the one that never changes, and the one with a change at 20. Assumes nothing.
 use mathlib.Core.Path.{_≡_, refl, sym, ap, _∙_, subst, subst⁻¹}
 use Prim.Native.Nat.{ℕ, suc}
 use mathlib.Core.Bool.{Bool, true, false, not, _||_, cond}
@@ -23,7 +23,7 @@ use Rattle.definitions.specs.Track.{Change, entryOf, alike, changeAt, Tr
 use Rattle.definitions.proofs.Tracks.{constant, single, no-nan, key-eq, not-le}
 use Rattle.definitions.proofs.Sets.{n, gap, gap-samples, falling, falling-samples}
 
--- ---- block at 0 too: "head 3.0 and no change"
+-- ---- block at 0 too: "head 3.0, no change"
 
 abbrev pub set : ClipSet
 set = explicitSet (gap (n 0 ∷ []) true)
@@ -56,7 +56,7 @@ pub gap-track : TrackOf (valueInSet set gap-samples) (record { initial = record 
 unfolding entryOf
 gap-track = constant (valueInSet set gap-samples) (Value (n 3)) value-is
 
--- ---- starts 0, 20; knots (0,10) (20,0): "head 2.0, a change at 20 to 3.0"
+-- ---- starts 0, 20; knots (0,10) (20,0): "head 2.0; 3.0 at 20"
 
 abbrev pub fall : ClipSet
 fall = explicitSet falling

@@ -1,4 +1,4 @@
--- The figures of document 01, computed by the definitions. `figures`: those marked (P), "proved together, from the definitions, as one table", with their two
+-- docs/VALUE-CLIPS.md, "Worked figures", computed by the definitions. `figures`: those marked (P), proved together, from the definitions, as one table, with their two
 -- tracks, proved at every double; `unmarked`: the values of the one that is not. `examples`: what the Rust gave in runs. `wrong`: false figures, each found false.
 -- Assumes nothing.
 use mathlib.Core.Path.{_≡_, refl}
@@ -130,7 +130,7 @@ wrong-table =
     ∷ eqb (templateNumber (templated "f.###.usd" (n 1) (n 1) (n 1) true (n 0))) 0
     ∷ sameBytes (name (bytes "f.##.##.usd") (clip (frac 1 8))) (bytes "f.00.13.usd")
     ∷ sameBytes (name (bytes "f.###.usd") (clip (-n 5))) (bytes "f.-005.usd")
-    -- "Answering 5 above with 1.0, the direct value"
+    -- "answering 5 with 1.0, the direct value"
     ∷ is (valueAt falling falling-samples (n 5)) (Value (n 1))
     -- "Heeding manifest blocks with the flag off"
     ∷ is (valueAt (gap (n 0 ∷ []) false) gap-samples (n 5)) Blocked

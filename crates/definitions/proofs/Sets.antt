@@ -1,4 +1,4 @@
--- How the figures of document 01 are written in antt, and the sets that they speak of. Assumes nothing.
+-- How the figures of docs/VALUE-CLIPS.md are written in antt, and the sets that they speak of. Assumes nothing.
 use Prim.Native.Nat.{ℕ, suc}
 use Prim.Native.Char.{code}
 use Prim.Native.String.{String, [] as end, _∷_ as _then_}

@@ -1,4 +1,4 @@
--- Document 01, "Doubles": the neighbours, and lists of times in order. What is asked of one double stands in `Doubles` of the crate `gf`, with its arithmetic.
+-- docs/VALUE-CLIPS.md, "Doubles": the neighbours, and lists of times in order. What is asked of one double stands in `Doubles` of the crate `gf`, with its arithmetic.
 -- Assumes nothing.
 use Prim.Native.Nat.{_-_}
 use mathlib.Core.Bool.{Bool, _&&_}

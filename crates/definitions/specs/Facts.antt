@@ -1,4 +1,4 @@
--- What document 01 claims of its own definitions, as statements, each beside its sentence. They are proved where the premises can be named: of names in the
+-- What docs/VALUE-CLIPS.md claims of the definitions, as statements, each beside its sentence. They are proved where the premises can be named: of names in the
 -- crate `names`, of well-formed sets and accepted samples (`Facts` of the crate `laws`) in `laws`. Assumes nothing.
 use Prim.Native.Nat.{ℕ, _≤_}
 use mathlib.Core.Bool.{Bool, true, false, cond}

@@ -1,4 +1,4 @@
--- "Normalising needs no set and takes one list in any order". The Rust's `normalize_time_samples`. Assumes nothing.
+-- docs/VALUE-CLIPS.md, "Normalising": "Normalising needs no set and takes one list in any order". The Rust's `normalize_time_samples`. Assumes nothing.
 use Prim.Native.Nat.{ℕ}
 use mathlib.Core.Bool.{cond}
 use mathlib.Core.List.{List, [], _∷_}

@@ -1,4 +1,4 @@
--- A track that is lent as a head and three lists, and its reading by halves. Assumes nothing.
+-- docs/VALUE-CLIPS.md, "Track": one that is lent as a head and three lists, and its reading by halves. Assumes nothing.
 use Prim.Native.Nat.{ℕ, zero, suc, _+_, _-_, _/_}
 use mathlib.Core.Path.{_≡_}
 use mathlib.Core.Bool.{Bool, cond}

@@ -1,4 +1,4 @@
--- Document 01, "Active clip" and "Clip time". The Rust's `active_position`, `active_entry` and `map_stage_to_clip`. Assumes nothing.
+-- docs/VALUE-CLIPS.md, "Active clip" and "Clip time". The Rust's `active_position`, `active_entry` and `map_stage_to_clip`. Assumes nothing.
 use Prim.Native.Nat.{ℕ, suc}
 use mathlib.Core.Bool.{cond}
 use mathlib.Core.List.{List, [], _∷_}

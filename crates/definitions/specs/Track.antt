@@ -1,4 +1,4 @@
--- Document 01, "Track": a value over all stage times, as what holds first and where it changes. Assumes nothing.
+-- docs/VALUE-CLIPS.md, "Track": a value over all stage times, as what holds first and where it changes. Assumes nothing.
 use Prim.Native.Nat.{ℕ, min}
 use mathlib.Core.Path.{_≡_}
 use mathlib.Core.Bool.{Bool, not, _&&_, _||_, cond}
@@ -48,7 +48,7 @@ pub record Change : Type 0 where
   pub value : Float
   pub mark : ℕ
 
--- "A head and changes (time, value, mark), ascending." `initial` is 01's head: what holds before the first change.
+-- "A head and changes (time, value, mark), ascending." `initial` is the head: what holds before the first change.
 pub record Track : Type 0 where
   pub initial : Entry
   pub changes : List Change

@@ -1,4 +1,4 @@
--- What demand 3 says of a track in the caller's words, with no track in it: the number of its changes, and what the written lists give when they are read. Assumes nothing.
+-- What "Demand 3" says of a track in the caller's words, with no track in it: the number of its changes, and what the written lists give when they are read. Assumes nothing.
 use Prim.Native.Nat.{ℕ, suc, _-_, _≤_, _<_}
 use mathlib.Core.Path.{_≡_}
 use lib.Dec.{T}

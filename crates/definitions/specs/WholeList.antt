@@ -1,4 +1,4 @@
--- Demand 3 over any calls: what stands after a list of them, and the one claim about the whole list. Assumes nothing.
+-- docs/VALUE-CLIPS.md, "Demand 3", over any calls: what stands after a list of them, and the one claim about the whole list. Assumes nothing.
 use Prim.Native.Nat.{_≤_, _<_}
 use mathlib.Core.Path.{_≡_}
 use mathlib.Core.List.{List, [], _∷_, _++_}
@@ -8,7 +8,7 @@ use Rattle.definitions.specs.declared.Answer.{Answer}
 use Rattle.definitions.specs.Questions.{Reply, refused, replied}
 use Rattle.definitions.specs.Track.{Track, TrackOf, Outputs, slots, writeTrack}
 
--- `Model` is what stands by the calls, 01's plain desk, with its beginning and its step.
+-- `Model` is what stands by the calls, the plain desk, with its beginning and its step.
 module _ {Model Call : Type 0} (beginning : Model) (step : Model → Call → Model) where
   unfoldable pub runFrom : Model → List Call → Model
   runFrom m [] = m
@@ -18,7 +18,7 @@ module _ {Model Call : Type 0} (beginning : Model) (step : Model → Call → Mo
   abbrev pub standsAfter : List Call → Model
   standsAfter calls = runFrom beginning calls
 
-  -- The program's state, 01's desk: the fresh one, and what the contracts say of each call. `Moves c d e`: the call c, given the state d, may leave e.
+  -- The program's state, the desk: the fresh one, and what the contracts say of each call. `Moves c d e`: the call c, given the state d, may leave e.
   module _ {State : Type 0} (fresh : State) (Moves : Call → State → State → Type 0) where
     -- "Each call gets the desk as the one before left it; nobody else writes it."
     pub data LeftBy : List Call → State → Type 0 where

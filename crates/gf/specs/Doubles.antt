@@ -1,4 +1,4 @@
--- Document 01, "Doubles": arithmetic, and what is asked of a double. All times and values are doubles.
+-- docs/VALUE-CLIPS.md, "Doubles": arithmetic, and what is asked of a double. All times and values are doubles.
 -- Numeric order and equality are `le`, `lt` and `eq` of `lib.Ieee`: "-0.0 and 0.0 are one time" for them, and no test holds of a NaN.
 -- Assumes nothing.
 use Prim.Native.Nat.{ℕ, _+_, _-_, _*_, _/_, _%_}
@@ -76,7 +76,7 @@ within k x = le (power true k) x && le x (power false k)
 abbrev pub storable : Float → Bool
 storable x = within 40 x
 
--- A finite double with no fraction: the number m * 2 ^ e is m * up e / down e. (01 has the code tell it by the range of the exponent field.)
+-- A finite double with no fraction: the number m * 2 ^ e is m * up e / down e. (The code tells it "by the range of the exponent field".)
 unfoldable pub isWhole : Float → Bool
 isWhole nan = false
 isWhole (inf s) = false

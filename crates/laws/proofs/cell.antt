@@ -17,7 +17,7 @@ pub mod Ends
 pub mod Zeros
 -- The value as a function of the key, and the end of a cell
 pub mod Keys
--- The track over keys, written out, is document 01's, and the only one
+-- The track over keys, written out, is the value's, and the only one
 pub mod Tracks
 -- The neighbours as extremes, in any order, and the cell by them
 pub mod Neighbours

@@ -1,4 +1,4 @@
--- What document 01 claims of its own definitions, for every well-formed set and samples that are accepted for it. Assumes nothing.
+-- What docs/VALUE-CLIPS.md claims of the definitions, for every well-formed set and samples that are accepted for it. Assumes nothing.
 use mathlib.Core.Path.{_≡_}
 use mathlib.Core.List.{List}
 use lib.Dec.{T}

@@ -3,5 +3,5 @@ pub mod cell
 pub mod set
 pub mod list
 pub mod track
--- What document 01 claims of its definitions
+-- What docs/VALUE-CLIPS.md claims of the definitions
 pub mod Facts

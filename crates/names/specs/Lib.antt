@@ -1,4 +1,4 @@
--- What the contracts of the names cite, over document 01's definitions.
+-- What the contracts of the names cite, over the definitions.
 pub mod Pattern
 pub mod Magnitude
 pub mod Put

@@ -1,4 +1,4 @@
--- What a bake promises of the changes, and that document 01's promise follows. Assumes nothing.
+-- What a bake promises of the changes, and that the definitions' promise (`Bakes`) follows. Assumes nothing.
 use mathlib.Core.Path.{_≡_, refl, sym, ap, _∙_, subst}
 use Prim.Native.Nat.{ℕ, zero, suc}
 use lib.ListN.{length}

@@ -31,6 +31,6 @@ pub record BakeIs (set : ClipSet) (s : Samples) (before after : Outputs) (r : Ba
   pub replies : r ≡ bakeCode (reply (roomNumber (slots before) (length (trackOf set s .changes))) (Calls.bakedOf (trackOf set s)))
   pub writes : after ≡ Calls.outputsAfter (roomNumber (slots before) (length (trackOf set s .changes))) (trackOf set s) before
 
--- a reply in document 01's words, by its number
+-- a reply in the definitions' words, by its number
 abbrev pub bakedReply : Baked → Reply Calls.Baked
 bakedReply r = reply (r .number) (record { initial = record { value = r .value; mark = r .mark }; count = r .count })

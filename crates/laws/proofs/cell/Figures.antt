@@ -72,7 +72,7 @@ sound-values : SoundValues (set two saw) samples
 unfolding fits round
 sound-values = record { values = (tt, (tt, tt)); default = tt }
 
--- what 01's facts ask: a well-formed set, and samples that are accepted for it
+-- what the facts ask: a well-formed set, and samples that are accepted for it
 given : Given (set two saw) samples
 unfolding fits round within le lt eq neg isNan equalKnots nanDefault samplesNumber samples1 unlikeLengths samples2 samples9 badMarks closes clipBegin clipEnd clipTimes
 given = record {

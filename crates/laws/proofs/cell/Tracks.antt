@@ -1,4 +1,4 @@
--- The track of the value over keys, written out, is the track of document 01; so there is one, and it is the only one. Assumes nothing.
+-- The track of the value over keys, written out, is the track of the definitions (`TrackOf`); so there is one, and it is the only one. Assumes nothing.
 use mathlib.Core.Path.{_≡_, refl, sym, ap, ap₂, _∙_, subst}
 use mathlib.Core.Logic.{inl, inr, ⊎-elim}
 use mathlib.Core.Bool.{Bool, true, false, not, cond}
@@ -155,7 +155,7 @@ module _ (set : ClipSet) (s : Samples) (S : SoundSet set) (A : SoundSamples s) (
   unfolding valueInSet
   entries-alike a b h = alike-same (says set s (valueSource set s a)) (says set s (valueSource set s b)) (value-fits set s F (valueSource set s a)) (value-fits set s F (valueSource set s b)) h
 
-  -- 01's difference at a finite double is a change at its key
+  -- where the value differs, at a finite double, there is a change at its key
   pub differs-changes : (t : Float) → FiniteDouble t → T (differs (valueInSet set s) t) → steps-laws.ChangesAt (entryAtKey set s) (key t)
   unfolding differs nextLower
   differs-changes t f d e =
@@ -204,7 +204,7 @@ module _ (set : ClipSet) (s : Samples) (S : SoundSet set) (A : SoundSamples s) (
     ones [] r p = tt
     ones (d ∷ ds) r p = (one d (r .0) (p .0), ones ds (r .1) (p .1))
 
-    -- the track over keys, written out, is 01's
+    -- the track over keys, written out, is the value's track
     pub track-written : TrackOf (valueInSet set s) (writtenTrack h cs)
     unfolding lowest readTrack
     track-written = record {
@@ -215,7 +215,7 @@ module _ (set : ClipSet) (s : Samples) (S : SoundSet set) (A : SoundSamples s) (
       gives = λ x f. rw (written-read h cs x f rng ∙ t .exact (key x) (finite→key x (f .fitting) (f .finitely) .0) (finite→key x (f .fitting) (f .finitely) .1) ∙ sym (entry-of-key set s S A x f)) (alike-refl (valueAt (valueInSet set s) x));
     }
 
-  -- Every set and samples have 01's track: the changes over all keys, written out
+  -- Every set and samples have a track: the changes over all keys, written out
   pub track-is : TrackOf (valueInSet set s) (writtenTrack (entryAtKey set s least) (steps.changesTo entry-same (entryAtKey set s) least most))
   track-is = track-written (entryAtKey set s least) (steps.changesTo entry-same (entryAtKey set s) least most) (track-of entry-same (entryAtKey set s) least most (lit≤ tt))
 
@@ -311,7 +311,7 @@ module _ (set : ClipSet) (s : Samples) (S : SoundSet set) (A : SoundSamples s) (
         ∙ y .1
         ∙ entries-alike set s S A F (stage (y .0)) (stage (ofKey k)) (subst (λ (e : Entry). T (alike e (entryAtKey set s k))) (y .1) (t .gives (ofKey k) f))
 
-    -- 01's track, by its keys, is the track over keys
+    -- the value's track, by its keys, is the track over keys
     pub track-keyed : steps-laws.TrackOf least most (entryAtKey set s) (track .initial) keyed
     unfolding lowest
     track-keyed = record {

@@ -1,4 +1,4 @@
--- What every standing set is: 01's limits and orders, as facts. Each acceptance gives it, and a retiming keeps it (the modules below). Assumes nothing.
+-- What every standing set is: the limits and the orders, as facts. Each acceptance gives it, and a retiming keeps it (the modules below). Assumes nothing.
 use mathlib.Core.Path.{_≡_}
 use Prim.Native.Nat.{_≤_}
 use mathlib.Core.Bool.{false}

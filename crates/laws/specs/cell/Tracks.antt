@@ -1,4 +1,4 @@
--- Entries can be told apart; and a track over keys, written out as a track of document 01. Assumes nothing.
+-- Entries can be told apart; and a track over keys, written out as a track of the definitions. Assumes nothing.
 use mathlib.Core.Path.{_≡_, refl, ap}
 use mathlib.Core.Bool.{Bool, Bool-discrete}
 use mathlib.Core.List.{List, map}
@@ -50,7 +50,7 @@ entry-same a b = go (float-same (a .value) (b .value)) (ℕ-discrete (a .mark) (
 
 -- ---- written out
 
--- a change over keys as document 01 writes it: "time zero as 0.0"
+-- a change over keys as a track writes it: "time zero as 0.0"
 abbrev pub writtenChange : steps.Change Entry → Change
 writtenChange c = record { time = ofKey (c .key); value = c .value .value; mark = c .value .mark }
 

@@ -1,4 +1,4 @@
--- `value::value::value_in` meets its contract, case by case as document 01 has them. Assumes nothing.
+-- `value::value::value_in` meets its contract, case by case as "Value" of docs/VALUE-CLIPS.md has them. Assumes nothing.
 use mathlib.Core.Path.{refl, sym, _∙_}
 use mathlib.Core.List.{[]}
 use denote.Ref.{now}
