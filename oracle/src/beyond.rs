@@ -1,4 +1,4 @@
-//! What the Rust does where document 01 refuses: DIFFERENCES-FOUND.md lists these, and here they are run.
+//! What the Rust does where docs/VALUE-CLIPS.md refuses: docs/DIFFERENCES.md lists these, and here they are run.
 
 use crate::calls::{Explicit, Filling, Template};
 use crate::desk::{explicit_dictionary, template_dictionary};

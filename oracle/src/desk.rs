@@ -1,5 +1,5 @@
-//! The desk of document 01 over the Rust: numbers by the document, everything else by the Rust's own functions. Where asked
-//! to, every answer is also worked out from the document's text, and a difference is told.
+//! The desk of docs/VALUE-CLIPS.md over the Rust: numbers by the document, everything else by the Rust's own functions.
+//! Where asked to, every answer is also worked out from the document's text, and a difference is told.
 
 use crate::calls::{Call, Explicit, Filling, Samples, Template};
 use crate::doubles::{at, place};

@@ -15,7 +15,7 @@ pub fn at(place: i64) -> f64 {
     f64::from_bits(sign | place.unsigned_abs())
 }
 
-/// A listed time that 01's number 2 passes.
+/// A listed time that number 2 passes.
 pub fn listed(d: f64) -> bool {
     d.is_finite() && d.abs() <= FAR
 }

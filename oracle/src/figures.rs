@@ -1,4 +1,4 @@
-//! figures.txt: document 01's worked figures and the traps beside them, tried as assertions.
+//! figures.txt: the worked figures of docs/VALUE-CLIPS.md and its finer points, tried as assertions.
 
 use crate::doubles::{at, place};
 use crate::text::Line;

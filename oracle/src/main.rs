@@ -81,9 +81,9 @@ fn answer(input: &mut dyn BufRead, output: &mut dyn Write, check: bool, timed: b
 const USAGE: &str =
     "oracle [check | timed | probe | test | gen SEED REPLIES | short PART OF | compare CASES A B | sample FOLDER]
   (nothing)            case text on standard input, replies on standard output
-  check                the same, and every reply worked out from document 01 too; differences go to standard error
+  check                the same, and every reply worked out from docs/VALUE-CLIPS.md too; differences go to standard error
   timed                the same, with the time of each reply on standard error
-  test                 document 01's figures, and what the Rust does beyond the document
+  test                 the worked figures, and what the Rust does beyond the document
   gen SEED REPLIES     case text from a seed, at least that many replies' worth
   short PART OF        every OF-th of all short sets and lists, beginning with PART
   compare CASES A B    two lists of replies to the same case text

@@ -1,4 +1,5 @@
-//! Document 01's refusals, each call's in its order. Written from the document alone.
+//! The refusals of docs/VALUE-CLIPS.md, each call's in its order. Written from the document alone, apart from the
+//! definitions and the code.
 
 use crate::calls::{Explicit, Filling, Samples, Template};
 use crate::doubles::listed;

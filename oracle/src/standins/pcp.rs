@@ -1,5 +1,5 @@
-//! `crate::pcp`: clip.rs and clip_manifest.rs as published, and stand-ins for the modules beside them, as document 01's
-//! "Kept and written anew" says.
+//! `crate::pcp`: clip.rs and clip_manifest.rs as published, and stand-ins for the modules beside them (README.md says
+//! which).
 
 use std::sync::Arc;
 
