@@ -1,6 +1,6 @@
 -- The order of the numbers, computed by the definitions: for each operation and each two neighbours of its chain a call to which both apply, and the
 -- number that it gets, which is the first. Two neighbours have no row, since they can't meet: 20 and 21 (no set stands, or one does), and a template's second
--- 2 and its 4 (starts fall together only below 2^53 / 10000, and 256 clips that dense end there too, far below 2^40). Assumes nothing.
+-- 2 and its 4 (argued in docs/DECISIONS.md, "Acceptance and numbers"). Assumes nothing.
 use mathlib.Core.Path.{_≡_, refl}
 use Prim.Native.Nat.{ℕ, zero, suc, _+_}
 use Prim.Native.String.{String}
