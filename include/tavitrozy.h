@@ -1,32 +1,102 @@
-/* Tavitrozy: OpenUSD value clips resolved and baked, exactly.
+/* Tavitrozy: OpenUSD value clips resolved and baked, exactly. Version 0.1.0, for x86-64 Linux.
  *
- * A resolver holds one clip set, or none. It is a plain value: a call takes it and, where it may change, hands it back. Nothing is allocated,
- * nothing is kept: every list is the caller's, lent for the length of the call, and read-only unless it is an output.
- * A resolver may only come from tavitrozy_fresh or from a call that handed one back; then every call below ends with its reply, whatever its arguments.
+ * A resolver holds one clip set, or none. It answers what an attribute is at a stage time, and bakes the whole answer into a track: a head, and every
+ * change at the very double where the value changes. docs/VALUE-CLIPS.md says what every call answers, for every argument; the words used here:
  *
- * A refusal carries its number alone. A refused call writes to no output, and the set that stood still stands.
+ *   start   an entry of `active`: from this stage time on that clip is active       block   no value: nothing is drawn
+ *   knot    an entry of `times`: at stage time x the clip time is y                 head    what holds before a track's first change
  *
- *    1  a clip count or an input list above its limit, paired lists of unlike length, or clip ends unlike the set's clips in number
- *    2  a time, or a template's or retiming's number, not finite; a time beyond 2^40 (also after expansion or retiming); a NaN under mark 0
- *    3  a clip number not finite, negative, not whole or not below the clip count
- *    4  two equal starts                          5  three equal knots
- *    6  a template that cannot be read            7  stride <= 0, end < start, |offset| > stride
- *    8  a 257th clip from a template
- *    9  samples not strictly ascending within a clip, clip ends falling or not closing the list, a mark not allowed in its place
- *   10  a stage time asked about that is not finite
- *   20  no set stands                            21  the set is already retimed
- *   22  the shortest of the output lists is shorter than the reply
+ * USE
+ *   tavitrozy_resolver resolver;
+ *   tavitrozy_fresh(&resolver);
+ *   number = tavitrozy_accept(&resolver, ..);                    0, or why it is refused
+ *   count  = tavitrozy_change_count(&resolver, ..).count;        ask for the count,
+ *   track  = tavitrozy_bake(&resolver, .., slots);               then lend that many slots, and bake
+ *   entry  = tavitrozy_read(head, .., stage time);               the track alone is enough to draw from
  *
- * Limits: 256 clips, 256 starts, 512 knots, 256 block times, 4,096 samples over all clips, 255 template bytes, 2^40 for every stored time.
- * Marks: 0 a value, 1 a block, 2 none (the manifest default, and the head of a set without starts).
+ * REFUSALS. A call is accepted (number 0) or refused with one of the numbers below. A refused call writes to no list and the set that stood still stands;
+ * the other fields of its reply are 0, false and 0.0, and mean nothing: look at the number first.
+ *
+ * LISTS. Nothing is allocated and nothing is kept: every list is the caller's, lent as a pointer and a length for the length of the call.
+ *   - NULL is fine where the length is 0.
+ *   - What a call writes must not overlap anything else that it is lent: not its outputs each other or its inputs, and not the resolver its lists.
+ *     The library is proved on this premise. A bake into its own samples reads what it has just written and may write behind its lists; normalising in
+ *     place loses a sample. Lists that are only read may overlap.
+ *   - A list's length may be any, and its numbers too: what is wrong is refused, NaNs and infinities included. A pointer must be good for its length.
+ *
+ * THE RESOLVER may be read and copied (it is one plain struct), but its fields are written by these calls alone: every call rests on that.
+ *
+ * THREADS. There is no global state. Any threads may call at once, as long as none writes a resolver or a list that another is using.
+ *
+ * FLOATING POINT. Calls need the environment that a C program begins with: round to nearest, no flush to zero (FTZ), no denormals-are-zero (DAZ).
+ * Animation hosts and -ffast-math often set FTZ and DAZ; many tracks are then wrong. tavitrozy_environment_is_exact() tells, for the calling thread.
+ *
+ * STACK. Bytes of stack that a call needs, as tests/stack.c measures it at the limits:
+ *   (stack table: to be filled in from tests/stack.c)
  */
 #ifndef TAVITROZY_H
 #define TAVITROZY_H
 #include <stdbool.h>
 #include <stddef.h>
 #include <stdint.h>
-#ifdef __cplusplus
+#include <string.h>
+
+/* ---- version */
+
+#define TAVITROZY_VERSION_MAJOR 0
+#define TAVITROZY_VERSION_MINOR 1
+#define TAVITROZY_VERSION_PATCH 0
+#define TAVITROZY_VERSION "0.1.0"
+
+/* ---- refusals. Where several apply the first in the order given at the call is told. */
+
+#define TAVITROZY_REFUSED_MISSHAPEN 1           /* a clip count or an input list above its limit, paired lists of unlike length, clip ends unlike the set's clips in number */
+#define TAVITROZY_REFUSED_UNSTORABLE 2          /* a time, or a template's or retiming's number, not finite; a time beyond 2^40 (also after expansion or retiming); a NaN under mark 0 */
+#define TAVITROZY_REFUSED_NO_CLIP_NUMBER 3      /* a clip number not finite, negative, not whole or not below the clip count */
+#define TAVITROZY_REFUSED_EQUAL_STARTS 4        /* two equal starts (-0.0 and 0.0 are equal) */
+#define TAVITROZY_REFUSED_THREE_EQUAL_KNOTS 5   /* three knots of one x (two are a jump, and fine) */
+#define TAVITROZY_REFUSED_UNREADABLE_TEMPLATE 6 /* a pattern without #, with a # too many, or with too wide a run of them */
+#define TAVITROZY_REFUSED_DISORDERED_TEMPLATE 7 /* stride <= 0, end < start, |offset| > stride */
+#define TAVITROZY_REFUSED_TOO_MANY_CLIPS 8      /* a 257th clip from a template */
+#define TAVITROZY_REFUSED_BAD_SAMPLES 9         /* samples not strictly ascending within a clip, clip ends falling or not closing the list, a mark not allowed in its place */
+#define TAVITROZY_REFUSED_TIME_NOT_FINITE 10    /* a stage time asked about that is not finite */
+#define TAVITROZY_REFUSED_NO_SET 20             /* no set stands */
+#define TAVITROZY_REFUSED_ALREADY_RETIMED 21    /* the set is already retimed */
+#define TAVITROZY_REFUSED_NO_ROOM 22            /* the shortest of the output lists is shorter than the reply */
+
+/* ---- marks: what a value slot holds */
+
+#define TAVITROZY_VALUE 0 /* the value beside it */
+#define TAVITROZY_BLOCK 1 /* a block */
+#define TAVITROZY_NONE 2  /* nothing: as a manifest default, and as what a set without starts answers */
+
+/* ---- states: what tavitrozy_untimed answers */
+
+#define TAVITROZY_PRESENT 0 /* a clip that a start names has samples, or the default is a value */
+#define TAVITROZY_BLOCKED 1 /* there are starts, and none of that */
+#define TAVITROZY_ABSENT 2  /* a set without starts */
+
+/* ---- limits */
+
+#define TAVITROZY_MAX_CLIPS 256
+#define TAVITROZY_MAX_STARTS 256
+#define TAVITROZY_MAX_KNOTS 512
+#define TAVITROZY_MAX_BLOCKS 256         /* manifest block times */
+#define TAVITROZY_MAX_SAMPLES 4096       /* over all clips */
+#define TAVITROZY_MAX_TEMPLATE_BYTES 255
+#define TAVITROZY_MAX_NAME_BYTES 268     /* a name is never longer */
+#define TAVITROZY_MAX_TIME 1099511627776.0 /* 2^40, the magnitude of every stored time; a stage time asked about may be any finite double */
+
+#if defined(__cplusplus)
+#define TAVITROZY_RESTRICT __restrict
 extern "C" {
+#else
+#define TAVITROZY_RESTRICT restrict
+#endif
+
+#if defined(__clang__)
+#pragma clang diagnostic push
+#pragma clang diagnostic ignored "-Wpadded"
 #endif
 
 /* ---- times */
@@ -36,141 +106,253 @@ extern "C" {
 typedef struct { double value; } tavitrozy_at_stage;
 typedef struct { double value; } tavitrozy_at_clip;
 
-/* ---- the set, by value */
+/* ---- what is handed over by value */
 
+/* The manifest default: what holds where the active clip has no samples. Its value counts under mark TAVITROZY_VALUE alone;
+ * TAVITROZY_BLOCK and TAVITROZY_NONE answer alike. */
 typedef struct { uint8_t mark; double value; } tavitrozy_default;
 typedef struct { double start, end, stride, offset; } tavitrozy_template_times;
+/* A stage time t becomes offset + scale * t. */
 typedef struct { double offset, scale; } tavitrozy_layer_offset;
 
-/* How many entries of each array below count. */
+/* ---- the resolver: to be read, and written by the calls alone */
+
+/* How many entries of each list below count. */
 typedef struct { size_t starts, knots, blocks; } tavitrozy_counts;
-/* What stands in for a missing sample. */
+/* What stands in for a clip without samples: the default, and whether other clips are looked at (see tavitrozy_accept). */
 typedef struct { tavitrozy_default fallback; bool interpolate; } tavitrozy_manifest;
-/* clips: the clip count; numbers: the clip number of each start; xs, ys: the knots. */
+/* Everything but the lists. Where no set stands nothing else here counts. */
 typedef struct {
+  bool stands;
+  bool retimed;
   uint64_t clips;
   tavitrozy_counts counts;
-  double starts[256];
-  uint64_t numbers[256];
-  double xs[512];
-  double ys[512];
-  double blocks[256];
   tavitrozy_manifest manifest;
-} tavitrozy_standing_set;
-typedef struct { bool stands; bool retimed; tavitrozy_standing_set set; } tavitrozy_resolver;
+} tavitrozy_shape;
+/* The set as it was sorted, expanded and retimed. What lies behind the counts means nothing. */
+typedef struct {
+  tavitrozy_shape shape;
+  double starts[TAVITROZY_MAX_STARTS];    /* stage times, ascending */
+  uint64_t numbers[TAVITROZY_MAX_STARTS]; /* the clip number of each start */
+  double xs[TAVITROZY_MAX_KNOTS];         /* the knots' stage times, ascending */
+  double ys[TAVITROZY_MAX_KNOTS];         /* and the clip time at each */
+  double blocks[TAVITROZY_MAX_BLOCKS];    /* manifest block times, in the order they were lent */
+} tavitrozy_resolver;
 
-/* ---- replies */
+/* ---- replies. number: 0, or what refused the call; the rest then is 0. */
 
-/* number: 0, or what refused the call. */
-typedef struct { uint8_t number; tavitrozy_resolver resolver; } tavitrozy_accepted;
 /* found: whether a clip is active (none is where the set has no starts). */
 typedef struct { uint8_t number; bool found; uint64_t clip; } tavitrozy_clip_reply;
 typedef struct { uint8_t number; tavitrozy_at_clip time; } tavitrozy_time_reply;
-/* mark 0: value; 1: blocked; 2: absent (a set without starts). */
+/* mark TAVITROZY_VALUE: the value; TAVITROZY_BLOCK: blocked; TAVITROZY_NONE: absent (a set without starts). */
 typedef struct { uint8_t number; uint8_t mark; double value; } tavitrozy_value_reply;
-/* state 0: present; 1: blocked; 2: absent. */
 typedef struct { uint8_t number; uint8_t state; } tavitrozy_untimed_reply;
 typedef struct { uint8_t number; size_t count; } tavitrozy_counted;
-/* The head (mark and value) and the count of a baked track. */
+/* The head (mark and value) of a baked track, and how many changes were written. */
 typedef struct { uint8_t number; uint8_t mark; double value; size_t count; } tavitrozy_baked;
-/* An entry of a track: mark 0 and a value, or 1 or 2 and 0.0. */
+/* An entry of a track: TAVITROZY_VALUE and a value, or TAVITROZY_BLOCK or TAVITROZY_NONE and 0.0. */
 typedef struct { double value; uint8_t mark; } tavitrozy_entry;
+typedef struct { uint8_t number; tavitrozy_shape shape; } tavitrozy_settled;
 
-/* ---- calls that may change what stands */
-
-tavitrozy_resolver tavitrozy_fresh(void);
-
-/* 1, 2, 3, 4, 5, 9. Starts: stage times and clip numbers; knots: stage x and clip y; each list is sorted by the call. */
-tavitrozy_accepted tavitrozy_accept(tavitrozy_resolver resolver, uint64_t clips,
-  const double *starts, size_t starts_len, const double *numbers, size_t numbers_len,
-  const double *xs, size_t xs_len, const double *ys, size_t ys_len,
-  const double *blocks, size_t blocks_len, tavitrozy_default fallback, bool interpolate);
-
-/* 1, 2, 7, 6, 8, 2, 4, 5, 9. Where has_offset is false the offset's slot is not looked at. */
-tavitrozy_accepted tavitrozy_accept_template(tavitrozy_resolver resolver, const uint8_t *pattern, size_t pattern_len,
-  tavitrozy_template_times times, bool has_offset,
-  const double *blocks, size_t blocks_len, tavitrozy_default fallback, bool interpolate);
-
-/* 20, 21, 2, 4, 5. Once for each set; (0, 1) changes nothing and counts. */
-tavitrozy_accepted tavitrozy_retime(tavitrozy_resolver resolver, tavitrozy_layer_offset offset);
-
-/* ---- questions: samples are lent as times, values and marks (0 or 1), and one end for each clip of the standing set */
-
-tavitrozy_clip_reply tavitrozy_active_clip(tavitrozy_resolver resolver, tavitrozy_at_stage time);   /* 20, 10 */
-tavitrozy_time_reply tavitrozy_clip_time(tavitrozy_resolver resolver, tavitrozy_at_stage time);     /* 20, 10 */
-
-/* 20, 1, 2, 9, 10 */
-tavitrozy_value_reply tavitrozy_value(tavitrozy_resolver resolver,
-  const double *times, size_t times_len, const double *values, size_t values_len,
-  const uint8_t *marks, size_t marks_len, const uint64_t *ends, size_t ends_len, tavitrozy_at_stage time);
-
-/* 20, 1, 2, 9 */
-tavitrozy_untimed_reply tavitrozy_untimed(tavitrozy_resolver resolver,
-  const double *times, size_t times_len, const double *values, size_t values_len,
-  const uint8_t *marks, size_t marks_len, const uint64_t *ends, size_t ends_len);
-
-/* 20, 1, 2, 9: how many stage sample times there are, and stage samples. Ask for the count, then lend that many slots. */
-tavitrozy_counted tavitrozy_stage_sample_count(tavitrozy_resolver resolver,
-  const double *times, size_t times_len, const double *values, size_t values_len,
-  const uint8_t *marks, size_t marks_len, const uint64_t *ends, size_t ends_len);
-
-/* 20, 1, 2, 9, 22: the stage sample times, ascending. */
-tavitrozy_counted tavitrozy_stage_sample_times(tavitrozy_resolver resolver,
-  const double *times, size_t times_len, const double *values, size_t values_len,
-  const uint8_t *marks, size_t marks_len, const uint64_t *ends, size_t ends_len,
-  double *out_times, size_t out_times_len);
-
-/* 20, 1, 2, 9, 22: each with a mark, 0 where something opaque is supplied, 1 where a block is. */
-tavitrozy_counted tavitrozy_stage_samples(tavitrozy_resolver resolver,
-  const double *times, size_t times_len, const double *values, size_t values_len,
-  const uint8_t *marks, size_t marks_len, const uint64_t *ends, size_t ends_len,
-  double *out_times, size_t out_times_len, uint8_t *out_marks, size_t out_marks_len);
-
-/* 20, 1, 2, 9: how many changes the track has. Ask for the count, then lend that many slots. */
-tavitrozy_counted tavitrozy_change_count(tavitrozy_resolver resolver,
-  const double *times, size_t times_len, const double *values, size_t values_len,
-  const uint8_t *marks, size_t marks_len, const uint64_t *ends, size_t ends_len);
-
-/* 20, 1, 2, 9, 22: the track. 22 means precisely fewer slots, in the shortest output, than there are changes. Slots past the count are untouched. */
-tavitrozy_baked tavitrozy_bake(tavitrozy_resolver resolver,
-  const double *times, size_t times_len, const double *values, size_t values_len,
-  const uint8_t *marks, size_t marks_len, const uint64_t *ends, size_t ends_len,
-  double *out_times, size_t out_times_len, double *out_values, size_t out_values_len,
-  uint8_t *out_marks, size_t out_marks_len);
+#if defined(__clang__)
+#pragma clang diagnostic pop
+#endif
 
 /* ---- without a set */
 
-/* What a track gives at a stage time: the last change at or before it, else the head, by halves: the times ascend, as a bake writes them. Reads as many changes as the shortest list has. Never refused. */
-tavitrozy_entry tavitrozy_read(tavitrozy_entry head, const double *times, size_t times_len,
-  const double *values, size_t values_len, const uint8_t *marks, size_t marks_len, tavitrozy_at_stage time);
+/* What a track gives at a stage time: the last change at or before it, else the head. Never refused.
+ * As many changes count as the shortest list has. The change is found by halves, so the times must ascend, as a bake writes them; where they do not it is
+ * some change of the lists or the head, and never one outside of them. A NaN as the time gives the head, and so does minus infinity; infinity gives the last
+ * change. Mark and value are handed on as they stand, marks that no bake writes too. */
+tavitrozy_entry tavitrozy_read(tavitrozy_entry head, const double *TAVITROZY_RESTRICT times, size_t times_len,
+  const double *TAVITROZY_RESTRICT values, size_t values_len, const uint8_t *TAVITROZY_RESTRICT marks, size_t marks_len, tavitrozy_at_stage time);
 
-/* 1, 2, 6, 22: the name of the template's clip at a clip time, at most 268 bytes. */
-tavitrozy_counted tavitrozy_name(const uint8_t *pattern, size_t pattern_len, tavitrozy_at_clip time, uint8_t *out, size_t out_len);
+/* 1, 2, 6, 22: the file name of the template's clip at a clip time; count: its bytes, at most TAVITROZY_MAX_NAME_BYTES. No zero byte is written after it. */
+tavitrozy_counted tavitrozy_name(const uint8_t *TAVITROZY_RESTRICT pattern, size_t pattern_len, tavitrozy_at_clip time,
+  uint8_t *TAVITROZY_RESTRICT out, size_t out_len);
 
-/* 1, 2, 9, 22: samples in any order, sorted; of equal times the first time with the last value and mark. */
-tavitrozy_counted tavitrozy_normalize(const double *times, size_t times_len, const double *values, size_t values_len,
-  const uint8_t *marks, size_t marks_len, double *out_times, size_t out_times_len,
-  double *out_values, size_t out_values_len, uint8_t *out_marks, size_t out_marks_len);
+/* 2, 7, 8, 22: the clip times of a template's clips, one for each clip in order, at most TAVITROZY_MAX_CLIPS: clip i's file is the tavitrozy_name at entry i.
+ * The offset moves starts and not clip times; where has_offset is false its slot is not looked at. */
+tavitrozy_counted tavitrozy_template_clip_times(tavitrozy_template_times times, bool has_offset, double *TAVITROZY_RESTRICT out_times, size_t out_times_len);
 
-/* ---- the same with the resolver behind a pointer: it is changed where the call is accepted, and the number is returned */
+/* 1, 2, 9, 22: one clip's samples in any order, sorted; of equal times the first time stays, with the last value and mark. At most as many as were lent.
+ * Not in place: the outputs must be other lists. */
+tavitrozy_counted tavitrozy_normalize(const double *TAVITROZY_RESTRICT times, size_t times_len, const double *TAVITROZY_RESTRICT values, size_t values_len,
+  const uint8_t *TAVITROZY_RESTRICT marks, size_t marks_len, double *TAVITROZY_RESTRICT out_times, size_t out_times_len,
+  double *TAVITROZY_RESTRICT out_values, size_t out_values_len, uint8_t *TAVITROZY_RESTRICT out_marks, size_t out_marks_len);
 
-static inline uint8_t tavitrozy_accept_into(tavitrozy_resolver *resolver, uint64_t clips,
-  const double *starts, const double *numbers, size_t start_count, const double *xs, const double *ys, size_t knot_count,
-  const double *blocks, size_t block_count, tavitrozy_default fallback, bool interpolate) {
-  tavitrozy_accepted a = tavitrozy_accept(*resolver, clips, starts, start_count, numbers, start_count,
-    xs, knot_count, ys, knot_count, blocks, block_count, fallback, interpolate);
-  *resolver = a.resolver;
-  return a.number;
+/* Whether the calling thread computes as the library needs it: round to nearest, no FTZ, no DAZ. To be asked where a program or a thread begins. */
+static inline bool tavitrozy_environment_is_exact(void) {
+  volatile double one = 1.0;
+  volatile double half_step = 1.1102230246251565e-16;  /* 2^-53: 1 + it is a tie, and goes to the even 1 */
+  volatile double more = 1.6653345369377348e-16;       /* 1.5 * 2^-53: 1 + it goes up */
+  volatile double least_normal = 2.2250738585072014e-308, half = 0.5;
+  volatile double least = 4.9406564584124654e-324, lifted = 4503599627370496.0;
+  volatile double tie = one + half_step;
+  volatile double up = one + more;
+  volatile double subnormal = least_normal * half;     /* 0 with FTZ */
+  volatile double normal = least * lifted;             /* 0 with DAZ */
+  return !(tie > one) && up > one && subnormal > 0.0 && normal > 0.0;
 }
 
-static inline uint8_t tavitrozy_retime_into(tavitrozy_resolver *resolver, double offset, double scale) {
-  tavitrozy_layer_offset o = {offset, scale};
-  tavitrozy_accepted a = tavitrozy_retime(*resolver, o);
-  *resolver = a.resolver;
-  return a.number;
+/* ---- the library's own symbols: the shape by value and the lists lent. Call the functions below instead; these are for bindings. */
+
+#define TAVITROZY_SET(CONST) tavitrozy_shape shape, CONST double *TAVITROZY_RESTRICT starts, size_t starts_len, \
+  CONST uint64_t *TAVITROZY_RESTRICT numbers, size_t numbers_len, CONST double *TAVITROZY_RESTRICT xs, size_t xs_len, \
+  CONST double *TAVITROZY_RESTRICT ys, size_t ys_len, CONST double *TAVITROZY_RESTRICT blocks, size_t blocks_len
+#define TAVITROZY_CHANGED_SET TAVITROZY_SET(/* written */)
+#define TAVITROZY_ASKED_SET TAVITROZY_SET(const)
+#define TAVITROZY_SAMPLES const double *TAVITROZY_RESTRICT times, size_t times_len, const double *TAVITROZY_RESTRICT values, size_t values_len, \
+  const uint8_t *TAVITROZY_RESTRICT marks, size_t marks_len, const uint64_t *TAVITROZY_RESTRICT ends, size_t ends_len
+
+tavitrozy_shape tavitrozy_lent_fresh(void);
+tavitrozy_settled tavitrozy_lent_accept(TAVITROZY_CHANGED_SET, uint64_t clips,
+  const double *TAVITROZY_RESTRICT start_times, size_t start_times_len, const double *TAVITROZY_RESTRICT start_clips, size_t start_clips_len,
+  const double *TAVITROZY_RESTRICT knot_xs, size_t knot_xs_len, const double *TAVITROZY_RESTRICT knot_ys, size_t knot_ys_len,
+  const double *TAVITROZY_RESTRICT block_times, size_t block_times_len, tavitrozy_default fallback, bool interpolate);
+tavitrozy_settled tavitrozy_lent_accept_template(TAVITROZY_CHANGED_SET, const uint8_t *TAVITROZY_RESTRICT pattern, size_t pattern_len,
+  tavitrozy_template_times times, bool has_offset,
+  const double *TAVITROZY_RESTRICT block_times, size_t block_times_len, tavitrozy_default fallback, bool interpolate);
+tavitrozy_settled tavitrozy_lent_retime(TAVITROZY_CHANGED_SET, tavitrozy_layer_offset offset);
+tavitrozy_clip_reply tavitrozy_lent_active_clip(TAVITROZY_ASKED_SET, tavitrozy_at_stage time);
+tavitrozy_time_reply tavitrozy_lent_clip_time(TAVITROZY_ASKED_SET, tavitrozy_at_stage time);
+tavitrozy_value_reply tavitrozy_lent_value(TAVITROZY_ASKED_SET, TAVITROZY_SAMPLES, tavitrozy_at_stage time);
+tavitrozy_untimed_reply tavitrozy_lent_untimed(TAVITROZY_ASKED_SET, TAVITROZY_SAMPLES);
+tavitrozy_counted tavitrozy_lent_stage_sample_count(TAVITROZY_ASKED_SET, TAVITROZY_SAMPLES);
+tavitrozy_counted tavitrozy_lent_stage_sample_times(TAVITROZY_ASKED_SET, TAVITROZY_SAMPLES, double *TAVITROZY_RESTRICT out_times, size_t out_times_len);
+tavitrozy_counted tavitrozy_lent_stage_samples(TAVITROZY_ASKED_SET, TAVITROZY_SAMPLES,
+  double *TAVITROZY_RESTRICT out_times, size_t out_times_len, uint8_t *TAVITROZY_RESTRICT out_marks, size_t out_marks_len);
+tavitrozy_counted tavitrozy_lent_change_count(TAVITROZY_ASKED_SET, TAVITROZY_SAMPLES);
+tavitrozy_baked tavitrozy_lent_bake(TAVITROZY_ASKED_SET, TAVITROZY_SAMPLES, double *TAVITROZY_RESTRICT out_times, size_t out_times_len,
+  double *TAVITROZY_RESTRICT out_values, size_t out_values_len, uint8_t *TAVITROZY_RESTRICT out_marks, size_t out_marks_len);
+
+/* A resolver as the calls above take it. */
+#define TAVITROZY_LENT(R) (R)->shape, (R)->starts, TAVITROZY_MAX_STARTS, (R)->numbers, TAVITROZY_MAX_STARTS, \
+  (R)->xs, TAVITROZY_MAX_KNOTS, (R)->ys, TAVITROZY_MAX_KNOTS, (R)->blocks, TAVITROZY_MAX_BLOCKS
+#define TAVITROZY_LENT_SAMPLES times, times_len, values, values_len, marks, marks_len, ends, ends_len
+
+/* What is handed back counts where it is accepted; a refused call leaves every byte of the resolver. */
+static inline uint8_t tavitrozy_settle(tavitrozy_resolver *resolver, tavitrozy_settled settled) {
+  if (settled.number == 0) resolver->shape = settled.shape;
+  return settled.number;
 }
 
-#ifdef __cplusplus
+/* ---- calls that may change what stands: they return the number */
+
+/* Makes a resolver in which no set stands. Every resolver begins so. */
+static inline void tavitrozy_fresh(tavitrozy_resolver *resolver) {
+  memset(resolver, 0, sizeof *resolver);
+  resolver->shape = tavitrozy_lent_fresh();
+}
+
+/* 1, 2, 3, 4, 5, 9. An explicit set, which replaces the one that stood.
+ * starts and numbers: stage times and the clip number at each; xs and ys: the knots. Lists in any order: the call sorts. No starts is legal, no knots too
+ * (clip time is then stage time).
+ * blocks: manifest block times, the starts at which a clip is known to have no value. They count only with interpolate on.
+ * fallback: the manifest default; it holds where the active clip has no samples.
+ * interpolate: OpenUSD's interpolateMissingClipValues, which here interpolates nothing: a value that is missing, with no default that is a value, is looked
+ * for at other starts, the nearest before the active one first, then the nearest after. Off, it is blocked. */
+static inline uint8_t tavitrozy_accept(tavitrozy_resolver *TAVITROZY_RESTRICT resolver, uint64_t clips,
+  const double *TAVITROZY_RESTRICT starts, size_t starts_len, const double *TAVITROZY_RESTRICT numbers, size_t numbers_len,
+  const double *TAVITROZY_RESTRICT xs, size_t xs_len, const double *TAVITROZY_RESTRICT ys, size_t ys_len,
+  const double *TAVITROZY_RESTRICT blocks, size_t blocks_len, tavitrozy_default fallback, bool interpolate) {
+  return tavitrozy_settle(resolver, tavitrozy_lent_accept(TAVITROZY_LENT(resolver), clips, starts, starts_len, numbers, numbers_len,
+    xs, xs_len, ys, ys_len, blocks, blocks_len, fallback, interpolate));
+}
+
+/* 1, 2, 7, 6, 8, 2, 4, 5, 9. A template set, one clip for each stride from start to end. pattern: bytes with one or two runs of #, as f.###.usd; no zero
+ * byte ends it. Where has_offset is false the offset's slot is not looked at. blocks, fallback and interpolate as above. */
+static inline uint8_t tavitrozy_accept_template(tavitrozy_resolver *TAVITROZY_RESTRICT resolver,
+  const uint8_t *TAVITROZY_RESTRICT pattern, size_t pattern_len, tavitrozy_template_times times, bool has_offset,
+  const double *TAVITROZY_RESTRICT blocks, size_t blocks_len, tavitrozy_default fallback, bool interpolate) {
+  return tavitrozy_settle(resolver, tavitrozy_lent_accept_template(TAVITROZY_LENT(resolver), pattern, pattern_len, times, has_offset,
+    blocks, blocks_len, fallback, interpolate));
+}
+
+/* 20, 21, 2, 4, 5. Moves starts, knots and block times. Once for each set; (0, 1) changes nothing and counts. */
+static inline uint8_t tavitrozy_retime(tavitrozy_resolver *TAVITROZY_RESTRICT resolver, tavitrozy_layer_offset offset) {
+  return tavitrozy_settle(resolver, tavitrozy_lent_retime(TAVITROZY_LENT(resolver), offset));
+}
+
+/* ---- questions: they change nothing
+ *
+ * Samples are lent as three lists of one length, the clips one after the other: times (clip times, strictly ascending within a clip), values, and marks
+ * (TAVITROZY_VALUE or TAVITROZY_BLOCK; under a block the value's slot may hold anything).
+ * ends: one for each clip of the standing set, the place where the clip's samples end. Ends 2, 2, 3: clip 0 has the first two samples, clip 1 none, clip 2
+ * the third. The last end is the lists' length. */
+
+/* 20, 10: the number of the clip that is active at a stage time. */
+static inline tavitrozy_clip_reply tavitrozy_active_clip(const tavitrozy_resolver *TAVITROZY_RESTRICT resolver, tavitrozy_at_stage time) {
+  return tavitrozy_lent_active_clip(TAVITROZY_LENT(resolver), time);
+}
+
+/* 20, 10: the clip time at a stage time. */
+static inline tavitrozy_time_reply tavitrozy_clip_time(const tavitrozy_resolver *TAVITROZY_RESTRICT resolver, tavitrozy_at_stage time) {
+  return tavitrozy_lent_clip_time(TAVITROZY_LENT(resolver), time);
+}
+
+/* 20, 1, 2, 9, 10: the value at a stage time. */
+static inline tavitrozy_value_reply tavitrozy_value(const tavitrozy_resolver *TAVITROZY_RESTRICT resolver,
+  const double *TAVITROZY_RESTRICT times, size_t times_len, const double *TAVITROZY_RESTRICT values, size_t values_len,
+  const uint8_t *TAVITROZY_RESTRICT marks, size_t marks_len, const uint64_t *TAVITROZY_RESTRICT ends, size_t ends_len, tavitrozy_at_stage time) {
+  return tavitrozy_lent_value(TAVITROZY_LENT(resolver), TAVITROZY_LENT_SAMPLES, time);
+}
+
+/* 20, 1, 2, 9: whether there is a value at all, asked without a time: TAVITROZY_PRESENT, TAVITROZY_BLOCKED or TAVITROZY_ABSENT. */
+static inline tavitrozy_untimed_reply tavitrozy_untimed(const tavitrozy_resolver *TAVITROZY_RESTRICT resolver,
+  const double *TAVITROZY_RESTRICT times, size_t times_len, const double *TAVITROZY_RESTRICT values, size_t values_len,
+  const uint8_t *TAVITROZY_RESTRICT marks, size_t marks_len, const uint64_t *TAVITROZY_RESTRICT ends, size_t ends_len) {
+  return tavitrozy_lent_untimed(TAVITROZY_LENT(resolver), TAVITROZY_LENT_SAMPLES);
+}
+
+/* 20, 1, 2, 9: how many stage sample times there are, and stage samples. Ask for the count, then lend that many slots. */
+static inline tavitrozy_counted tavitrozy_stage_sample_count(const tavitrozy_resolver *TAVITROZY_RESTRICT resolver,
+  const double *TAVITROZY_RESTRICT times, size_t times_len, const double *TAVITROZY_RESTRICT values, size_t values_len,
+  const uint8_t *TAVITROZY_RESTRICT marks, size_t marks_len, const uint64_t *TAVITROZY_RESTRICT ends, size_t ends_len) {
+  return tavitrozy_lent_stage_sample_count(TAVITROZY_LENT(resolver), TAVITROZY_LENT_SAMPLES);
+}
+
+/* 20, 1, 2, 9, 22: the stage times at which starts, knots and samples lie, ascending. Neither interpolate nor blocks count here. */
+static inline tavitrozy_counted tavitrozy_stage_sample_times(const tavitrozy_resolver *TAVITROZY_RESTRICT resolver,
+  const double *TAVITROZY_RESTRICT times, size_t times_len, const double *TAVITROZY_RESTRICT values, size_t values_len,
+  const uint8_t *TAVITROZY_RESTRICT marks, size_t marks_len, const uint64_t *TAVITROZY_RESTRICT ends, size_t ends_len,
+  double *TAVITROZY_RESTRICT out_times, size_t out_times_len) {
+  return tavitrozy_lent_stage_sample_times(TAVITROZY_LENT(resolver), TAVITROZY_LENT_SAMPLES, out_times, out_times_len);
+}
+
+/* 20, 1, 2, 9, 22: the same times, each with a mark: TAVITROZY_VALUE where a value is supplied, TAVITROZY_BLOCK where none is. */
+static inline tavitrozy_counted tavitrozy_stage_samples(const tavitrozy_resolver *TAVITROZY_RESTRICT resolver,
+  const double *TAVITROZY_RESTRICT times, size_t times_len, const double *TAVITROZY_RESTRICT values, size_t values_len,
+  const uint8_t *TAVITROZY_RESTRICT marks, size_t marks_len, const uint64_t *TAVITROZY_RESTRICT ends, size_t ends_len,
+  double *TAVITROZY_RESTRICT out_times, size_t out_times_len, uint8_t *TAVITROZY_RESTRICT out_marks, size_t out_marks_len) {
+  return tavitrozy_lent_stage_samples(TAVITROZY_LENT(resolver), TAVITROZY_LENT_SAMPLES, out_times, out_times_len, out_marks, out_marks_len);
+}
+
+/* 20, 1, 2, 9: how many changes the track has. Ask for the count, then lend that many slots. */
+static inline tavitrozy_counted tavitrozy_change_count(const tavitrozy_resolver *TAVITROZY_RESTRICT resolver,
+  const double *TAVITROZY_RESTRICT times, size_t times_len, const double *TAVITROZY_RESTRICT values, size_t values_len,
+  const uint8_t *TAVITROZY_RESTRICT marks, size_t marks_len, const uint64_t *TAVITROZY_RESTRICT ends, size_t ends_len) {
+  return tavitrozy_lent_change_count(TAVITROZY_LENT(resolver), TAVITROZY_LENT_SAMPLES);
+}
+
+/* 20, 1, 2, 9, 22: the track. 22 means precisely fewer slots, in the shortest output, than there are changes. Slots past the count are untouched. */
+static inline tavitrozy_baked tavitrozy_bake(const tavitrozy_resolver *TAVITROZY_RESTRICT resolver,
+  const double *TAVITROZY_RESTRICT times, size_t times_len, const double *TAVITROZY_RESTRICT values, size_t values_len,
+  const uint8_t *TAVITROZY_RESTRICT marks, size_t marks_len, const uint64_t *TAVITROZY_RESTRICT ends, size_t ends_len,
+  double *TAVITROZY_RESTRICT out_times, size_t out_times_len, double *TAVITROZY_RESTRICT out_values, size_t out_values_len,
+  uint8_t *TAVITROZY_RESTRICT out_marks, size_t out_marks_len) {
+  return tavitrozy_lent_bake(TAVITROZY_LENT(resolver), TAVITROZY_LENT_SAMPLES,
+    out_times, out_times_len, out_values, out_values_len, out_marks, out_marks_len);
+}
+
+#undef TAVITROZY_SET
+#undef TAVITROZY_CHANGED_SET
+#undef TAVITROZY_ASKED_SET
+#undef TAVITROZY_SAMPLES
+#undef TAVITROZY_LENT
+#undef TAVITROZY_LENT_SAMPLES
+
+#if defined(__cplusplus)
 }
 #endif
 #endif

@@ -1,0 +1,503 @@
+/* The library as a C program meets it: the worked figures, every refusal number, NULL and the limits, what a refused call leaves, and the odd readings.
+ * It is built as C11 and as C++17, so it keeps to what both have. Prints what is not so; status 1 if anything is not. */
+#include <fenv.h>
+#include <math.h>
+#include <stdio.h>
+#include <stdlib.h>
+#include <string.h>
+#if defined(__x86_64__)
+#include <xmmintrin.h>
+#endif
+#include "tavitrozy.h"
+
+static int failures, checks;
+#define CHECK(C) check((C), #C, __LINE__)
+static void check(bool so, const char *what, int line) {
+  checks++;
+  if (so) return;
+  failures++;
+  printf("boundary.c:%d: not so: %s\n", line, what);
+}
+
+/* ---- what is lent */
+
+typedef struct { double times[4200], values[4200]; uint8_t marks[4200]; uint64_t ends[300]; size_t len, clips; } samples;
+#define LENT(S) (S)->times, (S)->len, (S)->values, (S)->len, (S)->marks, (S)->len, (S)->ends, (S)->clips
+#define NO_SAMPLES NULL, 0, NULL, 0, NULL, 0, NULL, 0
+
+typedef struct { double times[64], values[64]; uint8_t marks[64]; } track_lists;
+#define OUT(T, N) (T)->times, N, (T)->values, N, (T)->marks, N
+
+static const tavitrozy_default none = {TAVITROZY_NONE, 0.0};
+
+static tavitrozy_at_stage at(double t) { tavitrozy_at_stage a; a.value = t; return a; }
+static tavitrozy_at_clip in_clip(double t) { tavitrozy_at_clip a; a.value = t; return a; }
+static tavitrozy_default value_default(double v) { tavitrozy_default d = {TAVITROZY_VALUE, 0.0}; d.value = v; return d; }
+static tavitrozy_layer_offset moving(double offset, double scale) { tavitrozy_layer_offset o; o.offset = offset, o.scale = scale; return o; }
+static tavitrozy_template_times stepping(double start, double end, double stride, double offset) {
+  tavitrozy_template_times t;
+  t.start = start, t.end = end, t.stride = stride, t.offset = offset;
+  return t;
+}
+
+static void add(samples *s, double time, double value) {
+  s->times[s->len] = time, s->values[s->len] = value, s->marks[s->len] = TAVITROZY_VALUE, s->len++;
+}
+static void end_clip(samples *s) { s->ends[s->clips++] = s->len; }
+
+static uint8_t accept(tavitrozy_resolver *r, uint64_t clips, const double *starts, const double *numbers, size_t n, const double *xs, const double *ys, size_t k) {
+  return tavitrozy_accept(r, clips, starts, n, numbers, n, xs, k, ys, k, NULL, 0, none, false);
+}
+static uint8_t template_of(tavitrozy_resolver *r, const char *pattern, tavitrozy_template_times t, bool has_offset) {
+  return tavitrozy_accept_template(r, (const uint8_t *)pattern, strlen(pattern), t, has_offset, NULL, 0, none, false);
+}
+
+static bool same_bits(double a, double b) { return memcmp(&a, &b, sizeof a) == 0; }
+
+/* ---- the worked figures */
+
+static void active_clips(void) {
+  const double starts[] = {0, 10}, numbers[] = {0, 1};
+  tavitrozy_resolver r;
+  tavitrozy_fresh(&r);
+  CHECK(accept(&r, 2, starts, numbers, 2, NULL, NULL, 0) == 0);
+  CHECK(tavitrozy_active_clip(&r, at(-5)).found && tavitrozy_active_clip(&r, at(-5)).clip == 0);
+  CHECK(tavitrozy_active_clip(&r, at(9.5)).clip == 0);
+  CHECK(tavitrozy_active_clip(&r, at(10)).clip == 1);
+}
+
+static void equal_entries(void) {
+  const double zeros[] = {0.0, -0.0}, both[] = {0, 1}, start[] = {0}, half[] = {1.5}, clip[] = {0}, fives[] = {5, 5, 5}, ys[] = {1, 2, 3};
+  tavitrozy_resolver r;
+  tavitrozy_fresh(&r);
+  CHECK(accept(&r, 2, zeros, both, 2, NULL, NULL, 0) == TAVITROZY_REFUSED_EQUAL_STARTS);
+  CHECK(accept(&r, 2, start, half, 1, NULL, NULL, 0) == TAVITROZY_REFUSED_NO_CLIP_NUMBER);
+  CHECK(accept(&r, 1, start, clip, 1, fives, ys, 3) == TAVITROZY_REFUSED_THREE_EQUAL_KNOTS);
+  CHECK(accept(&r, 1, start, clip, 1, fives, ys, 2) == 0);
+}
+
+static void clip_times(void) {
+  const double xs[] = {0, 10, 10, 20}, ys[] = {0, 10, 0, 10}, start[] = {0}, clip[] = {0};
+  const double asked[] = {-1, 5, 10, 15, 25}, told[] = {0, 5, 0, 5, 10};
+  tavitrozy_resolver r;
+  tavitrozy_fresh(&r);
+  CHECK(accept(&r, 1, start, clip, 1, xs, ys, 4) == 0);
+  for (int i = 0; i < 5; i++) CHECK(tavitrozy_clip_time(&r, at(asked[i])).time.value == told[i]);
+}
+
+static bool named(const char *pattern, double time, const char *name) {
+  uint8_t out[TAVITROZY_MAX_NAME_BYTES];
+  tavitrozy_counted c = tavitrozy_name((const uint8_t *)pattern, strlen(pattern), in_clip(time), out, sizeof out);
+  return c.number == 0 && c.count == strlen(name) && memcmp(out, name, c.count) == 0;
+}
+
+static void templates(void) {
+  tavitrozy_resolver r;
+  double times[3] = {0, 0, 0};
+  tavitrozy_fresh(&r);
+  CHECK(template_of(&r, "f.###.usd", stepping(1, 3, 1, NAN), false) == 0 && r.shape.clips == 3);
+  CHECK(tavitrozy_template_clip_times(stepping(1, 3, 1, NAN), false, times, 3).count == 3);
+  CHECK(named("f.###.usd", times[0], "f.001.usd") && named("f.###.usd", times[1], "f.002.usd") && named("f.###.usd", times[2], "f.003.usd"));
+  /* an offset moves the starts, and not the clip times */
+  CHECK(template_of(&r, "f.###.usd", stepping(101, 103, 1, 0.5), true) == 0 && r.starts[0] == 101.5);
+  CHECK(tavitrozy_template_clip_times(stepping(101, 103, 1, 0.5), true, times, 3).count == 3 && times[0] == 101 && times[1] == 102 && times[2] == 103);
+  CHECK(template_of(&r, "f.###.usd", stepping(1, 1, 1, 0), true) == TAVITROZY_REFUSED_THREE_EQUAL_KNOTS);
+  CHECK(template_of(&r, "f.###.usd", stepping(1, 1, 1, 0), false) == 0);
+  CHECK(named("f.###.usd", -5, "f.-05.usd") && named("f.##.##.usd", -0.5, "f.-00.50.usd"));
+  CHECK(named("f.##.##.usd", 0.125, "f.00.12.usd") && named("f.##.##.usd", 0.375, "f.00.38.usd"));
+}
+
+static void held(void) {
+  const double starts[] = {0, 20}, numbers[] = {0, 1}, xs[] = {0, 20}, ys[] = {10, 0};
+  static samples s;
+  track_lists t;
+  tavitrozy_resolver r;
+  tavitrozy_fresh(&r);
+  add(&s, 0, 1), add(&s, 10, 2), end_clip(&s), add(&s, 0, 3), end_clip(&s);
+  CHECK(accept(&r, 2, starts, numbers, 2, xs, ys, 2) == 0);
+  tavitrozy_value_reply v = tavitrozy_value(&r, LENT(&s), at(5));
+  CHECK(v.number == 0 && v.mark == TAVITROZY_VALUE && v.value == 2);
+  tavitrozy_baked b = tavitrozy_bake(&r, LENT(&s), OUT(&t, 64));
+  CHECK(b.number == 0 && b.mark == TAVITROZY_VALUE && b.value == 2 && b.count == 1);
+  CHECK(t.times[0] == 20 && t.values[0] == 3 && t.marks[0] == TAVITROZY_VALUE);
+  CHECK(tavitrozy_change_count(&r, LENT(&s)).count == 1);
+}
+
+static void missing(void) {
+  const double starts[] = {0, 10, 20}, numbers[] = {0, 1, 2}, block[] = {0};
+  static samples s;
+  track_lists t;
+  tavitrozy_resolver r;
+  tavitrozy_fresh(&r);
+  add(&s, 0, 1), end_clip(&s), end_clip(&s), add(&s, 20, 3), end_clip(&s);
+  CHECK(tavitrozy_accept(&r, 3, starts, 3, numbers, 3, NULL, 0, NULL, 0, NULL, 0, none, false) == 0);
+  tavitrozy_value_reply v = tavitrozy_value(&r, LENT(&s), at(15));
+  CHECK(v.number == 0 && v.mark == TAVITROZY_BLOCK && same_bits(v.value, 0.0));
+  CHECK(tavitrozy_accept(&r, 3, starts, 3, numbers, 3, NULL, 0, NULL, 0, NULL, 0, none, true) == 0);
+  v = tavitrozy_value(&r, LENT(&s), at(15));
+  CHECK(v.mark == TAVITROZY_VALUE && v.value == 1);
+  CHECK(tavitrozy_accept(&r, 3, starts, 3, numbers, 3, NULL, 0, NULL, 0, block, 1, none, true) == 0);
+  tavitrozy_baked b = tavitrozy_bake(&r, LENT(&s), OUT(&t, 64));
+  CHECK(b.number == 0 && b.mark == TAVITROZY_VALUE && b.value == 3 && b.count == 0);
+  CHECK(tavitrozy_accept(&r, 3, starts, 3, numbers, 3, NULL, 0, NULL, 0, NULL, 0, value_default(7), false) == 0);
+  CHECK(tavitrozy_value(&r, LENT(&s), at(15)).value == 7);
+}
+
+static void falling(void) {
+  const double start[] = {0}, clip[] = {0}, xs[] = {0, 10}, ys[] = {10, 0};
+  static samples s;
+  track_lists t;
+  tavitrozy_resolver r;
+  tavitrozy_fresh(&r);
+  add(&s, 0, 1), add(&s, 5, 2), add(&s, 10, 3), end_clip(&s);
+  CHECK(accept(&r, 1, start, clip, 1, xs, ys, 2) == 0);
+  tavitrozy_baked b = tavitrozy_bake(&r, LENT(&s), OUT(&t, 64));
+  CHECK(b.number == 0 && b.value == 3 && b.count == 2);
+  CHECK(t.times[0] > 0 && t.times[0] < 1e-14 && t.values[0] == 2);
+  CHECK(tavitrozy_value(&r, LENT(&s), at(nextafter(t.times[0], -1))).value == 3 && tavitrozy_clip_time(&r, at(nextafter(t.times[0], -1))).time.value == 10);
+  CHECK(t.times[1] == nextafter(5.0, 6.0) && t.values[1] == 1);
+  CHECK(tavitrozy_value(&r, LENT(&s), at(5)).value == 2);
+}
+
+/* ---- every refusal number, and what it leaves: nothing is written */
+
+/* A resolver and outputs whose bytes a refused call must leave. */
+typedef struct { tavitrozy_resolver resolver; track_lists track; uint8_t name[300]; } desk;
+static desk here, before;
+
+/* Refused with this number, and every byte as it was. */
+static bool refuses(uint8_t expected, uint8_t number) {
+  bool kept = memcmp(&here, &before, sizeof here) == 0;
+  memcpy(&here, &before, sizeof here);
+  return expected == number && kept;
+}
+
+/* Starts 0, 10 for clips 0, 1, with a sample each. */
+static void set_up(samples *s) {
+  const double starts[] = {0, 10}, numbers[] = {0, 1};
+  memset(&here, 0xA5, sizeof here);
+  memset(s, 0, sizeof *s);
+  tavitrozy_fresh(&here.resolver);
+  add(s, 0, 1), end_clip(s), add(s, 0, 2), end_clip(s);
+  CHECK(accept(&here.resolver, 2, starts, numbers, 2, NULL, NULL, 0) == 0);
+  memcpy(&before, &here, sizeof here);
+}
+
+static void refused_acceptances(void) {
+  static samples s;
+  set_up(&s);
+  tavitrozy_resolver *r = &here.resolver;
+  const double three[] = {0, 1, 2}, nan_time[] = {NAN}, far_time[] = {1099511627777.0}, fives[] = {5, 5, 5}, equal[] = {3, 3}, clip[] = {0, 0}, beyond[] = {2};
+  const tavitrozy_default bad_mark = {3, 0.0};
+  CHECK(refuses(1, tavitrozy_accept(r, 3, three, 3, three, 2, NULL, 0, NULL, 0, NULL, 0, none, false)));
+  CHECK(refuses(1, tavitrozy_accept(r, 257, NULL, 0, NULL, 0, NULL, 0, NULL, 0, NULL, 0, none, false)));
+  CHECK(refuses(2, accept(r, 1, nan_time, clip, 1, NULL, NULL, 0)));
+  CHECK(refuses(2, accept(r, 1, far_time, clip, 1, NULL, NULL, 0)));
+  CHECK(refuses(2, tavitrozy_accept(r, 1, NULL, 0, NULL, 0, NULL, 0, NULL, 0, NULL, 0, value_default(NAN), false)));
+  CHECK(refuses(3, accept(r, 2, three, beyond, 1, NULL, NULL, 0)));
+  CHECK(refuses(4, accept(r, 2, equal, clip, 2, NULL, NULL, 0)));
+  CHECK(refuses(5, accept(r, 1, three, clip, 1, fives, three, 3)));
+  CHECK(refuses(9, tavitrozy_accept(r, 1, three, 1, clip, 1, NULL, 0, NULL, 0, NULL, 0, bad_mark, false)));
+  CHECK(refuses(2, template_of(r, "f.#.usd", stepping(NAN, 3, 1, 0), false)));
+  CHECK(refuses(7, template_of(r, "f.#.usd", stepping(1, 3, 0, 0), false)));
+  CHECK(refuses(7, template_of(r, "f.#.usd", stepping(3, 1, 1, 0), false)));
+  CHECK(refuses(7, template_of(r, "f.#.usd", stepping(1, 3, 1, 2), true)));
+  CHECK(refuses(6, template_of(r, "f.usd", stepping(1, 3, 1, 0), false)));
+  CHECK(refuses(8, template_of(r, "f.#.usd", stepping(1, 257, 1, 0), false)));
+  CHECK(refuses(5, template_of(r, "f.#.usd", stepping(1, 1, 1, 0), true)));
+}
+
+static void refused_retimings(void) {
+  static samples s;
+  tavitrozy_resolver fresh;
+  tavitrozy_fresh(&fresh);
+  CHECK(tavitrozy_retime(&fresh, moving(0, 1)) == TAVITROZY_REFUSED_NO_SET);
+  set_up(&s);
+  tavitrozy_resolver *r = &here.resolver;
+  CHECK(refuses(2, tavitrozy_retime(r, moving(NAN, 1))));
+  CHECK(refuses(2, tavitrozy_retime(r, moving(0, 1e12))));
+  CHECK(refuses(4, tavitrozy_retime(r, moving(0, 0))));
+  CHECK(tavitrozy_retime(r, moving(5, -2)) == 0 && r->shape.retimed);
+  CHECK(r->starts[0] == -15 && r->starts[1] == 5 && r->numbers[0] == 1 && r->numbers[1] == 0);
+  memcpy(&before, &here, sizeof here);
+  CHECK(refuses(21, tavitrozy_retime(r, moving(0, 1))));
+}
+
+static void refused_without_set(void) {
+  memset(&here, 0xA5, sizeof here);
+  tavitrozy_fresh(&here.resolver);
+  memcpy(&before, &here, sizeof here);
+  const tavitrozy_resolver *r = &here.resolver;
+  track_lists *t = &here.track;
+  CHECK(refuses(20, tavitrozy_active_clip(r, at(NAN)).number));
+  CHECK(refuses(20, tavitrozy_clip_time(r, at(0)).number));
+  CHECK(refuses(20, tavitrozy_value(r, NO_SAMPLES, at(0)).number));
+  CHECK(refuses(20, tavitrozy_untimed(r, NO_SAMPLES).number));
+  CHECK(refuses(20, tavitrozy_stage_sample_count(r, NO_SAMPLES).number));
+  CHECK(refuses(20, tavitrozy_stage_sample_times(r, NO_SAMPLES, t->times, 64).number));
+  CHECK(refuses(20, tavitrozy_stage_samples(r, NO_SAMPLES, t->times, 64, t->marks, 64).number));
+  CHECK(refuses(20, tavitrozy_change_count(r, NO_SAMPLES).number));
+  CHECK(refuses(20, tavitrozy_bake(r, NO_SAMPLES, OUT(t, 64)).number));
+}
+
+/* Each question that takes samples, refused alike for them. */
+static void refused_for_samples(uint8_t number, const samples *s) {
+  const tavitrozy_resolver *r = &here.resolver;
+  track_lists *t = &here.track;
+  CHECK(refuses(number, tavitrozy_value(r, LENT(s), at(NAN)).number));
+  CHECK(refuses(number, tavitrozy_untimed(r, LENT(s)).number));
+  CHECK(refuses(number, tavitrozy_stage_sample_count(r, LENT(s)).number));
+  CHECK(refuses(number, tavitrozy_stage_sample_times(r, LENT(s), t->times, 64).number));
+  CHECK(refuses(number, tavitrozy_stage_samples(r, LENT(s), t->times, 64, t->marks, 64).number));
+  CHECK(refuses(number, tavitrozy_change_count(r, LENT(s)).number));
+  CHECK(refuses(number, tavitrozy_bake(r, LENT(s), OUT(t, 64)).number));
+}
+
+static void refused_samples(void) {
+  static samples s;
+  set_up(&s);
+  s.clips = 1;
+  refused_for_samples(1, &s);
+  set_up(&s);
+  s.times[0] = INFINITY;
+  refused_for_samples(2, &s);
+  set_up(&s);
+  s.values[1] = NAN;
+  refused_for_samples(2, &s);
+  set_up(&s);
+  s.marks[1] = 2;
+  refused_for_samples(9, &s);
+  set_up(&s);
+  s.ends[0] = 2;
+  refused_for_samples(9, &s);
+  set_up(&s);
+  s.ends[0] = s.len + 1;
+  refused_for_samples(9, &s);
+}
+
+static void refused_for_room_or_time(void) {
+  static samples s;
+  set_up(&s);
+  const tavitrozy_resolver *r = &here.resolver;
+  track_lists *t = &here.track;
+  CHECK(refuses(10, tavitrozy_active_clip(r, at(INFINITY)).number) && refuses(10, tavitrozy_clip_time(r, at(NAN)).number));
+  CHECK(refuses(10, tavitrozy_value(r, LENT(&s), at(-INFINITY)).number));
+  CHECK(tavitrozy_change_count(r, LENT(&s)).count == 1 && tavitrozy_stage_sample_count(r, LENT(&s)).count == 2);
+  CHECK(refuses(22, tavitrozy_bake(r, LENT(&s), t->times, 64, t->values, 0, t->marks, 64).number));
+  CHECK(refuses(22, tavitrozy_stage_sample_times(r, LENT(&s), t->times, 1).number));
+  CHECK(refuses(22, tavitrozy_stage_samples(r, LENT(&s), t->times, 64, t->marks, 1).number));
+  CHECK(refuses(22, tavitrozy_normalize(s.times, 2, s.values, 2, s.marks, 2, t->times, 64, t->values, 64, t->marks, 0).number));
+  CHECK(refuses(2, tavitrozy_name((const uint8_t *)"#", 1, in_clip(NAN), here.name, 300).number));
+  CHECK(refuses(6, tavitrozy_name((const uint8_t *)"a", 1, in_clip(1), here.name, 300).number));
+  CHECK(refuses(22, tavitrozy_name((const uint8_t *)"###", 3, in_clip(1), here.name, 2).number));
+  CHECK(refuses(2, tavitrozy_template_clip_times(stepping(1, 3, 1, INFINITY), true, t->times, 64).number));
+  CHECK(refuses(7, tavitrozy_template_clip_times(stepping(1, 3, -1, 0), false, t->times, 64).number));
+  CHECK(refuses(8, tavitrozy_template_clip_times(stepping(1, 257, 1, 0), false, t->times, 64).number));
+  CHECK(refuses(22, tavitrozy_template_clip_times(stepping(1, 3, 1, 0), false, t->times, 2).number));
+}
+
+/* The fields beside a number are 0. */
+static void refused_fields(void) {
+  tavitrozy_resolver r;
+  tavitrozy_fresh(&r);
+  tavitrozy_clip_reply c = tavitrozy_active_clip(&r, at(0));
+  tavitrozy_value_reply v = tavitrozy_value(&r, NO_SAMPLES, at(0));
+  tavitrozy_baked b = tavitrozy_bake(&r, NO_SAMPLES, NULL, 0, NULL, 0, NULL, 0);
+  CHECK(!c.found && c.clip == 0 && same_bits(tavitrozy_clip_time(&r, at(0)).time.value, 0.0));
+  CHECK(v.mark == 0 && same_bits(v.value, 0.0) && tavitrozy_untimed(&r, NO_SAMPLES).state == 0);
+  CHECK(b.mark == 0 && same_bits(b.value, 0.0) && b.count == 0 && tavitrozy_change_count(&r, NO_SAMPLES).count == 0);
+  CHECK(tavitrozy_name(NULL, 0, in_clip(0), NULL, 0).count == 0);
+}
+
+/* ---- NULL with length 0, and a set without starts */
+
+static void nothing_lent(void) {
+  tavitrozy_resolver r;
+  double time = 0;
+  uint8_t mark = 0;
+  tavitrozy_fresh(&r);
+  CHECK(tavitrozy_accept(&r, 0, NULL, 0, NULL, 0, NULL, 0, NULL, 0, NULL, 0, none, false) == 0);
+  CHECK(!tavitrozy_active_clip(&r, at(3)).found && tavitrozy_clip_time(&r, at(3)).time.value == 3);
+  CHECK(tavitrozy_value(&r, NO_SAMPLES, at(3)).number == 0 && tavitrozy_value(&r, NO_SAMPLES, at(3)).mark == TAVITROZY_NONE);
+  CHECK(tavitrozy_untimed(&r, NO_SAMPLES).number == 0 && tavitrozy_untimed(&r, NO_SAMPLES).state == TAVITROZY_ABSENT);
+  CHECK(tavitrozy_stage_sample_count(&r, NO_SAMPLES).number == 0 && tavitrozy_stage_sample_count(&r, NO_SAMPLES).count == 0);
+  CHECK(tavitrozy_stage_sample_times(&r, NO_SAMPLES, NULL, 0).number == 0 && tavitrozy_stage_samples(&r, NO_SAMPLES, NULL, 0, NULL, 0).number == 0);
+  CHECK(tavitrozy_change_count(&r, NO_SAMPLES).number == 0);
+  tavitrozy_baked b = tavitrozy_bake(&r, NO_SAMPLES, NULL, 0, NULL, 0, NULL, 0);
+  CHECK(b.number == 0 && b.mark == TAVITROZY_NONE && b.count == 0);
+  CHECK(tavitrozy_retime(&r, moving(1, 2)) == 0);
+  CHECK(tavitrozy_normalize(NULL, 0, NULL, 0, NULL, 0, NULL, 0, NULL, 0, NULL, 0).number == 0);
+  CHECK(tavitrozy_normalize(&time, 1, &time, 1, &mark, 1, NULL, 0, NULL, 0, NULL, 0).number == TAVITROZY_REFUSED_NO_ROOM);
+  CHECK(tavitrozy_name(NULL, 0, in_clip(0), NULL, 0).number == TAVITROZY_REFUSED_UNREADABLE_TEMPLATE);
+  CHECK(tavitrozy_name((const uint8_t *)"#", 1, in_clip(0), NULL, 0).number == TAVITROZY_REFUSED_NO_ROOM);
+  CHECK(tavitrozy_template_clip_times(stepping(1, 3, 1, 0), false, NULL, 0).number == TAVITROZY_REFUSED_NO_ROOM);
+  CHECK(tavitrozy_accept_template(&r, NULL, 0, stepping(1, 3, 1, 0), false, NULL, 0, none, false) == TAVITROZY_REFUSED_UNREADABLE_TEMPLATE);
+}
+
+/* ---- the limits, and one over */
+
+static double many[600], many_numbers[600], many_ys[600];
+
+static void limits_of_sets(void) {
+  tavitrozy_resolver r;
+  tavitrozy_fresh(&r);
+  for (size_t i = 0; i < 600; i++) many[i] = (double)i, many_numbers[i] = (double)(i % 256), many_ys[i] = (double)(i % 7);
+  CHECK(tavitrozy_accept(&r, 256, many, 256, many_numbers, 256, many, 512, many_ys, 512, many, 256, none, true) == 0);
+  CHECK(r.shape.counts.starts == 256 && r.shape.counts.knots == 512 && r.shape.counts.blocks == 256 && r.shape.clips == 256);
+  CHECK(r.starts[255] == 255 && r.numbers[255] == 255 && r.xs[511] == 511 && r.ys[511] == (double)(511 % 7) && r.blocks[255] == 255);
+  CHECK(tavitrozy_accept(&r, 257, NULL, 0, NULL, 0, NULL, 0, NULL, 0, NULL, 0, none, false) == 1);
+  CHECK(tavitrozy_accept(&r, 256, many, 257, many_numbers, 257, NULL, 0, NULL, 0, NULL, 0, none, false) == 1);
+  CHECK(tavitrozy_accept(&r, 256, NULL, 0, NULL, 0, many, 513, many_ys, 513, NULL, 0, none, false) == 1);
+  CHECK(tavitrozy_accept(&r, 256, NULL, 0, NULL, 0, NULL, 0, NULL, 0, many, 257, none, false) == 1);
+  const double edge[] = {-TAVITROZY_MAX_TIME, TAVITROZY_MAX_TIME}, clip[] = {0, 0};
+  const double over[] = {nextafter(TAVITROZY_MAX_TIME, INFINITY)};
+  CHECK(accept(&r, 1, edge, clip, 2, edge, edge, 2) == 0);
+  CHECK(accept(&r, 1, over, clip, 1, NULL, NULL, 0) == 2);
+}
+
+static void limits_of_templates(void) {
+  tavitrozy_resolver r;
+  static char pattern[257];
+  uint8_t name[TAVITROZY_MAX_NAME_BYTES];
+  double times[TAVITROZY_MAX_CLIPS];
+  tavitrozy_fresh(&r);
+  memset(pattern, 'a', 256);
+  pattern[254] = '#', pattern[255] = 0;
+  CHECK(template_of(&r, pattern, stepping(1, 256, 1, 0), false) == 0 && r.shape.clips == 256);
+  CHECK(tavitrozy_template_clip_times(stepping(1, 256, 1, 0), false, times, 256).count == 256 && times[255] == 256);
+  /* the longest name: 254 bytes, and -2^40 in place of one # */
+  CHECK(tavitrozy_name((const uint8_t *)pattern, 255, in_clip(-TAVITROZY_MAX_TIME), name, sizeof name).count == TAVITROZY_MAX_NAME_BYTES);
+  CHECK(memcmp(name + 254, "-1099511627776", 14) == 0);
+  CHECK(tavitrozy_name((const uint8_t *)pattern, 255, in_clip(-TAVITROZY_MAX_TIME), name, sizeof name - 1).number == 22);
+  pattern[255] = 'a';
+  CHECK(template_of(&r, pattern, stepping(1, 2, 1, 0), false) == 1);
+  CHECK(tavitrozy_name((const uint8_t *)pattern, 256, in_clip(1), name, sizeof name).number == 1);
+}
+
+static void limits_of_samples(void) {
+  const double start[] = {0}, clip[] = {0};
+  static samples s;
+  static double times[4097], values[4097];
+  static uint8_t marks[4097];
+  tavitrozy_resolver r;
+  tavitrozy_fresh(&r);
+  CHECK(accept(&r, 1, start, clip, 1, NULL, NULL, 0) == 0);
+  for (int i = 0; i < 4096; i++) add(&s, i, i);
+  end_clip(&s);
+  tavitrozy_baked b = tavitrozy_bake(&r, LENT(&s), times, 4095, values, 4095, marks, 4095);
+  CHECK(tavitrozy_change_count(&r, LENT(&s)).count == 4095 && b.number == 0 && b.count == 4095 && times[4094] == 4095 && values[4094] == 4095);
+  CHECK(tavitrozy_normalize(s.times, 4096, s.values, 4096, s.marks, 4096, times, 4096, values, 4096, marks, 4096).count == 4096);
+  add(&s, 4096, 0), s.ends[0] = 4097;
+  CHECK(tavitrozy_bake(&r, LENT(&s), times, 4097, values, 4097, marks, 4097).number == 1);
+  CHECK(tavitrozy_normalize(s.times, 4097, s.values, 4097, s.marks, 4097, times, 4097, values, 4097, marks, 4097).number == 1);
+}
+
+/* ---- what is written, and what is not */
+
+static void outputs(void) {
+  static samples s;
+  set_up(&s);
+  track_lists *t = &here.track;
+  tavitrozy_baked b = tavitrozy_bake(&here.resolver, LENT(&s), OUT(t, 64));
+  CHECK(b.number == 0 && b.count == 1 && b.value == 1 && t->times[0] == 10 && t->values[0] == 2 && t->marks[0] == 0);
+  CHECK(memcmp(t->times + 1, before.track.times + 1, 63 * sizeof *t->times) == 0 && memcmp(t->values + 1, before.track.values + 1, 63 * sizeof *t->values) == 0);
+  CHECK(memcmp(t->marks + 1, before.track.marks + 1, 63) == 0);
+  CHECK(memcmp(&here.resolver, &before.resolver, sizeof here.resolver) == 0);
+  tavitrozy_counted c = tavitrozy_stage_samples(&here.resolver, LENT(&s), t->times, 64, t->marks, 64);
+  CHECK(c.number == 0 && c.count == 2 && t->times[0] == 0 && t->times[1] == 10 && t->marks[0] == TAVITROZY_VALUE && t->marks[1] == TAVITROZY_VALUE);
+  CHECK(tavitrozy_stage_sample_times(&here.resolver, LENT(&s), t->values, 64).count == 2 && t->values[1] == 10);
+  CHECK(tavitrozy_untimed(&here.resolver, LENT(&s)).state == TAVITROZY_PRESENT);
+}
+
+static void stands_as_sorted(void) {
+  const double starts[] = {10, 0}, numbers[] = {1, 0}, xs[] = {20, 0, 10}, ys[] = {7, 8, 9}, blocks[] = {10, 0, 5};
+  tavitrozy_resolver r;
+  tavitrozy_fresh(&r);
+  CHECK(!r.shape.stands);
+  CHECK(tavitrozy_accept(&r, 2, starts, 2, numbers, 2, xs, 3, ys, 3, blocks, 3, value_default(4), true) == 0);
+  CHECK(r.shape.stands && !r.shape.retimed && r.shape.clips == 2 && r.shape.manifest.interpolate && r.shape.manifest.fallback.value == 4);
+  CHECK(r.shape.counts.starts == 2 && r.starts[0] == 0 && r.starts[1] == 10 && r.numbers[0] == 0 && r.numbers[1] == 1);
+  CHECK(r.shape.counts.knots == 3 && r.xs[0] == 0 && r.ys[0] == 8 && r.xs[2] == 20 && r.ys[2] == 7);
+  CHECK(r.shape.counts.blocks == 3 && r.blocks[0] == 10 && r.blocks[1] == 0 && r.blocks[2] == 5);
+  /* a copy is a resolver of its own */
+  tavitrozy_resolver copy = r;
+  CHECK(tavitrozy_retime(&r, moving(1, 1)) == 0 && r.starts[0] == 1 && copy.starts[0] == 0 && tavitrozy_retime(&copy, moving(0, 1)) == 0);
+  CHECK(r.blocks[0] == 11 && r.blocks[1] == 1);
+}
+
+static void normal_form(void) {
+  const double times[] = {2, 1, 2}, values[] = {5, 6, 7};
+  const uint8_t marks[] = {0, 0, 1};
+  track_lists t;
+  tavitrozy_counted c = tavitrozy_normalize(times, 3, values, 3, marks, 3, OUT(&t, 64));
+  CHECK(c.number == 0 && c.count == 2 && t.times[0] == 1 && t.values[0] == 6 && t.times[1] == 2 && t.values[1] == 7 && t.marks[1] == TAVITROZY_BLOCK);
+}
+
+/* ---- odd readings of a track */
+
+static void readings(void) {
+  const double times[] = {0, 10, 20}, values[] = {1, NAN, -0.0};
+  const uint8_t marks[] = {0, 200, 1};
+  const tavitrozy_entry head = {-7.0, 99};
+#define READ(T) tavitrozy_read(head, times, 3, values, 3, marks, 3, at(T))
+  CHECK(READ(-1).mark == 99 && READ(-1).value == -7 && READ(0).value == 1 && READ(9.999).mark == 0);
+  CHECK(READ(10).mark == 200 && isnan(READ(10).value) && READ(25).mark == 1 && same_bits(READ(25).value, -0.0));
+  CHECK(READ(NAN).mark == 99 && READ(-INFINITY).mark == 99 && READ(INFINITY).mark == 1 && READ(-0.0).value == 1);
+  CHECK(tavitrozy_read(head, NULL, 0, NULL, 0, NULL, 0, at(5)).mark == 99);
+  /* as many changes as the shortest list has */
+  CHECK(tavitrozy_read(head, times, 3, values, 1, marks, 3, at(25)).value == 1 && tavitrozy_read(head, times, 3, values, 3, NULL, 0, at(25)).mark == 99);
+}
+
+/* Times that do not ascend, or are no numbers: some change of the lists, or the head. */
+static void readings_out_of_order(void) {
+  static double times[1000], values[1000];
+  static uint8_t marks[1000];
+  const tavitrozy_entry head = {-1.0, 0};
+  srand(1);
+  for (int round = 0; round < 2000; round++) {
+    size_t n = (size_t)(rand() % 1000);
+    for (size_t i = 0; i < n; i++) times[i] = rand() % 9 ? (double)(rand() % 100) : NAN, values[i] = (double)i, marks[i] = (uint8_t)(i % 251);
+    tavitrozy_entry e = tavitrozy_read(head, times, n, values, n, marks, n, at(rand() % 110));
+    bool listed = e.value >= 0 && e.value < (double)n && e.mark == (uint8_t)((size_t)e.value % 251);
+    if (!listed && e.value != -1.0) CHECK(listed);
+  }
+}
+
+/* ---- the floating-point environment */
+
+static void environment(void) {
+  CHECK(tavitrozy_environment_is_exact());
+  const int roundings[] = {FE_UPWARD, FE_DOWNWARD, FE_TOWARDZERO};
+  for (int i = 0; i < 3; i++) {
+    fesetround(roundings[i]);
+    bool exact = tavitrozy_environment_is_exact();
+    fesetround(FE_TONEAREST);
+    CHECK(!exact);
+  }
+#if defined(__x86_64__)
+  const unsigned bits[] = {0x8000u /* FTZ */, 0x0040u /* DAZ */, 0x8040u};
+  for (int i = 0; i < 3; i++) {
+    unsigned usual = _mm_getcsr();
+    _mm_setcsr(usual | bits[i]);
+    bool exact = tavitrozy_environment_is_exact();
+    _mm_setcsr(usual);
+    CHECK(!exact);
+  }
+#endif
+  CHECK(tavitrozy_environment_is_exact());
+}
+
+static void version(void) {
+  char text[32];
+  snprintf(text, sizeof text, "%d.%d.%d", TAVITROZY_VERSION_MAJOR, TAVITROZY_VERSION_MINOR, TAVITROZY_VERSION_PATCH);
+  CHECK(strcmp(text, TAVITROZY_VERSION) == 0);
+}
+
+int main(void) {
+  active_clips(), equal_entries(), clip_times(), templates(), held(), missing(), falling();
+  refused_acceptances(), refused_retimings(), refused_without_set(), refused_samples(), refused_for_room_or_time(), refused_fields();
+  nothing_lent(), limits_of_sets(), limits_of_templates(), limits_of_samples();
+  outputs(), stands_as_sorted(), normal_form(), readings(), readings_out_of_order(), environment(), version();
+  printf("boundary: %d checks, %d not so\n", checks, failures);
+  return failures != 0;
+}

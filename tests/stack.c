@@ -1,0 +1,139 @@
+/* How much stack each call needs, for x86-64. A thread's stack is painted, the call is run in it, and what is no longer painted was used.
+ * Each call is in a function of its own, so that frames do not add up, and is run over several sets at the limits: the greatest use is told.
+ * Usage: stack [LIMIT]: status 1 if a call needs more than LIMIT bytes. */
+#define _GNU_SOURCE
+#include <pthread.h>
+#include <stdio.h>
+#include <stdlib.h>
+#include <string.h>
+#include <sys/mman.h>
+#include "tavitrozy.h"
+
+enum { PAINT = 0xA5, STACK = 1 << 20, SLOTS = 2200000 };
+
+/* ---- sets at the limits */
+
+typedef struct { size_t starts, knots, blocks, samples; bool interpolate; } kind;
+static const kind kinds[] = {
+  {256, 512, 256, 4096, true}, {256, 512, 256, 4096, false}, {256, 0, 256, 4096, true}, {1, 512, 0, 4096, false},
+  {2, 512, 256, 4096, true},   {256, 512, 256, 0, true},     {0, 512, 256, 4096, true},
+};
+enum { KINDS = sizeof kinds / sizeof *kinds };
+
+static const kind *now;
+static tavitrozy_resolver standing, other;
+static double starts[256], numbers[256], xs[512], ys[512], blocks[256], times[4096], values[4096], shuffled[4096];
+static uint8_t marks[4096], name[TAVITROZY_MAX_NAME_BYTES];
+static uint64_t ends[256];
+static double *out_times, *out_values;
+static uint8_t *out_marks;
+static volatile int refused;
+
+static const tavitrozy_default none = {TAVITROZY_NONE, 0.0};
+static const tavitrozy_at_stage asked = {123.4};
+static const tavitrozy_template_times stepping = {1, 254, 1, 0.5};
+
+static void lists(void) {
+  for (size_t i = 0; i < 256; i++) starts[i] = (double)(255 - i), numbers[i] = (double)i, blocks[i] = (double)i + (i % 2 ? 0.25 : 0.0);
+  for (size_t i = 0; i < 512; i++) xs[i] = (double)(511 - i) * 0.5, ys[i] = i % 2 ? 0.1 : 60.0;
+  for (size_t i = 0; i < 4096; i++) times[i] = (double)(i % 16), values[i] = (double)i, shuffled[i] = (double)((i * 1031) % 4096);
+  out_times = malloc(SLOTS * sizeof *out_times), out_values = malloc(SLOTS * sizeof *out_values), out_marks = malloc(SLOTS);
+  if (!out_times || !out_values || !out_marks) exit(2);
+}
+
+static uint8_t accept_into(tavitrozy_resolver *r) {
+  return tavitrozy_accept(r, 256, starts, now->starts, numbers, now->starts, xs, now->knots, ys, now->knots, blocks, now->blocks, none, now->interpolate);
+}
+
+static void stand(const kind *k) {
+  now = k;
+  for (size_t i = 0; i < 256; i++) ends[i] = k->samples ? 16 * (i + 1) : 0;
+  tavitrozy_fresh(&standing);
+  if (accept_into(&standing)) exit(2);
+}
+
+/* ---- the calls, one in each function */
+
+#define SAMPLES times, now->samples, values, now->samples, marks, now->samples, ends, 256
+#define CALL __attribute__((noinline)) static void
+CALL call_fresh(void) { tavitrozy_fresh(&other); }
+CALL call_accept(void) { refused = accept_into(&other); }
+CALL call_accept_template(void) {
+  refused = tavitrozy_accept_template(&other, (const uint8_t *)"f.###.usd", 9, stepping, true, blocks, 256, none, true);
+}
+CALL call_retime(void) { tavitrozy_layer_offset o = {1, -2}; refused = tavitrozy_retime(&other, o); }
+CALL call_active_clip(void) { refused = tavitrozy_active_clip(&standing, asked).number; }
+CALL call_clip_time(void) { refused = tavitrozy_clip_time(&standing, asked).number; }
+CALL call_value(void) { refused = tavitrozy_value(&standing, SAMPLES, asked).number; }
+CALL call_untimed(void) { refused = tavitrozy_untimed(&standing, SAMPLES).number; }
+CALL call_stage_sample_count(void) { refused = tavitrozy_stage_sample_count(&standing, SAMPLES).number; }
+CALL call_stage_sample_times(void) { refused = tavitrozy_stage_sample_times(&standing, SAMPLES, out_times, SLOTS).number; }
+CALL call_stage_samples(void) { refused = tavitrozy_stage_samples(&standing, SAMPLES, out_times, SLOTS, out_marks, SLOTS).number; }
+CALL call_change_count(void) { refused = tavitrozy_change_count(&standing, SAMPLES).number; }
+CALL call_bake(void) { refused = tavitrozy_bake(&standing, SAMPLES, out_times, SLOTS, out_values, SLOTS, out_marks, SLOTS).number; }
+CALL call_read(void) { tavitrozy_entry h = {0, 0}; refused = tavitrozy_read(h, times, 16, values, 16, marks, 16, asked).mark; }
+CALL call_name(void) { tavitrozy_at_clip c = {0.125}; refused = tavitrozy_name((const uint8_t *)"f.###.######.usd", 16, c, name, sizeof name).number; }
+CALL call_template_clip_times(void) { refused = tavitrozy_template_clip_times(stepping, true, out_times, 256).number; }
+CALL call_normalize(void) {
+  refused = tavitrozy_normalize(shuffled, 4096, values, 4096, marks, 4096, out_times, 4096, out_values, 4096, out_marks, 4096).number;
+}
+
+typedef struct { const char *name; void (*call)(void); } row;
+#define ROW(N) {#N, call_##N}
+static const row rows[] = {
+  ROW(fresh), ROW(accept), ROW(accept_template), ROW(retime), ROW(active_clip), ROW(clip_time), ROW(value), ROW(untimed), ROW(stage_sample_count),
+  ROW(stage_sample_times), ROW(stage_samples), ROW(change_count), ROW(bake), ROW(read), ROW(name), ROW(template_clip_times), ROW(normalize),
+};
+
+/* ---- the measure */
+
+typedef struct { unsigned char *stack; void (*call)(void); size_t used; } measure;
+
+/* Paints all below its own frame, calls, and looks how far down the paint is gone. Volatile, and no call beside the one: nothing else uses that stack. */
+static void *run(void *given) {
+  measure *m = given;
+  volatile unsigned char *here, *p;
+  __asm__ volatile("mov %%rsp, %0" : "=r"(here));
+  for (p = m->stack; p < here; p++) *p = PAINT;
+  m->call();
+  for (p = m->stack; p < here && *p == PAINT; p++) {}
+  m->used = (size_t)(here - p);
+  return NULL;
+}
+
+static size_t used_by(void (*call)(void)) {
+  measure m = {mmap(NULL, STACK, PROT_READ | PROT_WRITE, MAP_PRIVATE | MAP_ANONYMOUS, -1, 0), call, 0};
+  pthread_attr_t attributes;
+  pthread_t thread;
+  if (m.stack == MAP_FAILED) exit(2);
+  if (pthread_attr_init(&attributes) || pthread_attr_setstack(&attributes, m.stack, STACK) || pthread_create(&thread, &attributes, run, &m)) exit(2);
+  pthread_join(thread, NULL);
+  munmap(m.stack, STACK);
+  return m.used;
+}
+
+/* The greatest use over all kinds of sets. A retiming begins from a set that is not retimed. */
+static size_t most_used(const row *r) {
+  size_t most = 0;
+  for (size_t i = 0; i < KINDS; i++) {
+    stand(&kinds[i]);
+    other = standing;
+    size_t used = used_by(r->call);
+    if (refused) printf("%s is refused with %d\n", r->name, refused), exit(2);
+    if (used > most) most = used;
+  }
+  return most;
+}
+
+int main(int argc, char **argv) {
+  size_t limit = argc > 1 ? strtoull(argv[1], NULL, 10) : STACK;
+  int status = 0;
+  lists();
+  for (size_t i = 0; i < sizeof rows / sizeof *rows; i++) {
+    refused = 0;
+    size_t used = most_used(&rows[i]);
+    printf("tavitrozy_%-22s %7zu\n", rows[i].name, used);
+    if (used > limit) status = 1;
+  }
+  return status;
+}
