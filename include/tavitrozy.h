@@ -31,8 +31,8 @@
  * FLOATING POINT. Calls need the environment that a C program begins with: round to nearest, no flush to zero (FTZ), no denormals-are-zero (DAZ).
  * Animation hosts and -ffast-math often set FTZ and DAZ; many tracks are then wrong. tavitrozy_environment_is_exact() tells, for the calling thread.
  *
- * STACK. Bytes of stack that a call needs, as tests/stack.c measures it at the limits:
- *   (stack table: to be filled in from tests/stack.c)
+ * STACK. Bytes of stack that a call needs at most, as tests/stack.c measures it with sets at the limits (make test holds the two together):
+ *   (stack table: to be filled in with what 'target/tests/stack table' prints)
  */
 #ifndef TAVITROZY_H
 #define TAVITROZY_H

@@ -1,6 +1,6 @@
 /* How much stack each call needs, for x86-64. A thread's stack is painted, the call is run in it, and what is no longer painted was used.
  * Each call is in a function of its own, so that frames do not add up, and is run over several sets at the limits: the greatest use is told.
- * Usage: stack [LIMIT]: status 1 if a call needs more than LIMIT bytes. */
+ * Usage: stack [table]: bytes for each call; 'table' is the header's table, each number rounded up to the next 256. */
 #define _GNU_SOURCE
 #include <pthread.h>
 #include <stdio.h>
@@ -116,6 +116,7 @@ static size_t used_by(void (*call)(void)) {
 static size_t most_used(const row *r) {
   size_t most = 0;
   for (size_t i = 0; i < KINDS; i++) {
+    refused = 0;
     stand(&kinds[i]);
     other = standing;
     size_t used = used_by(r->call);
@@ -125,15 +126,15 @@ static size_t most_used(const row *r) {
   return most;
 }
 
+static void print_table(void) {
+  for (size_t i = 0; i < sizeof rows / sizeof *rows; i++)
+    printf("%s%s %zu", i % 5 ? "   " : i ? "\n *   " : " *   ", rows[i].name, (most_used(&rows[i]) / 256 + 1) * 256);
+  printf("\n");
+}
+
 int main(int argc, char **argv) {
-  size_t limit = argc > 1 ? strtoull(argv[1], NULL, 10) : STACK;
-  int status = 0;
   lists();
-  for (size_t i = 0; i < sizeof rows / sizeof *rows; i++) {
-    refused = 0;
-    size_t used = most_used(&rows[i]);
-    printf("tavitrozy_%-22s %7zu\n", rows[i].name, used);
-    if (used > limit) status = 1;
-  }
-  return status;
+  if (argc > 1 && !strcmp(argv[1], "table")) return print_table(), 0;
+  for (size_t i = 0; i < sizeof rows / sizeof *rows; i++) printf("%s %zu\n", rows[i].name, most_used(&rows[i]));
+  return 0;
 }
