@@ -1,55 +1,218 @@
-/* Draws a baked track as an SVG: values as steps, blocks as gaps. Usage: figure FIGURE, where FIGURE is 'held' or 'falling':
- * the two figures of docs/READING-A-TRACK.md. */
+/* Draws a clip set and its track as an SVG. Above, values over stage time: the track as thick steps, blocks as hatched gaps, the samples of the active clip as
+ * faint dots. Below, clip time over stage time: the knots as a thin line, and a tick at each start.
+ * Usage: figure held|falling|blocked, the figures of docs/READING-A-TRACK.md. */
+#include <math.h>
 #include <stdio.h>
+#include <stdlib.h>
 #include <string.h>
 #include "tavitrozy.h"
 
+enum { SLOTS = 16 };
+
 typedef struct {
-  const char *title;
+  const char *name, *title;
   size_t starts; double start[4], number[4];
   size_t knots; double x[4], y[4];
   size_t samples; double time[8], value[8]; uint8_t mark[8];
-  uint64_t clips, end[4];
-  double from, to;
+  size_t clips; uint64_t end[4];
+  double from, to, lowest_clip_time, highest_clip_time, step, clip_step;
 } figure;
 
-static const figure held = {"starts 0, 20; knots (0,10) (20,0) (30,10); clip 0: 0 to 1.0, 10 to 2.0; clip 1: 0 to 3.0, 5 to a block",
-  2, {0, 20}, {0, 1}, 3, {0, 20, 30}, {10, 0, 10}, 4, {0, 10, 0, 5}, {1, 2, 3, 0}, {0, 0, 0, 1}, 2, {2, 4}, -5, 35};
-static const figure falling = {"one start 0; knots (0,10) (10,0); samples 0 to 1.0, 5 to 2.0, 10 to 3.0",
-  1, {0}, {0}, 2, {0, 10}, {10, 0}, 3, {0, 5, 10}, {1, 2, 3}, {0, 0, 0}, 1, {3}, -5, 15};
+static const figure figures[] = {
+  {"held", "starts 0, 20; knots (0,10) (20,0) (30,10); clip 0: 0 to 1.0, 10 to 2.0; clip 1: 0 to 3.0, 5 to a block",
+   2, {0, 20}, {0, 1}, 3, {0, 20, 30}, {10, 0, 10}, 4, {0, 10, 0, 5}, {1, 2, 3, 0}, {0, 0, 0, 1}, 2, {2, 4}, -5, 35, 0, 10, 5, 5},
+  {"falling", "one start 0; knots (0,10) (10,0); clip 0: 0 to 1.0, 5 to 2.0, 10 to 3.0",
+   1, {0}, {0}, 2, {0, 10}, {10, 0}, 3, {0, 5, 10}, {1, 2, 3}, {0, 0, 0}, 1, {3}, -5, 15, 0, 10, 5, 5},
+  {"blocked", "starts 0, 10, 20; no knots; clip 0: 0 to 1.0; clip 1 has no samples; clip 2: 20 to 3.0; no default, interpolate off",
+   3, {0, 10, 20}, {0, 1, 2}, 0, {0}, {0}, 2, {0, 20}, {1, 3}, {0, 0}, 3, {1, 1, 2}, -5, 30, 0, 30, 5, 10},
+};
 
-static double across(const figure *f, double t) { return 50 + (t - f->from) / (f->to - f->from) * 500; }
-static double up(double v) { return 190 - v * 40; }
+typedef struct { tavitrozy_entry head; double times[SLOTS], values[SLOTS]; uint8_t marks[SLOTS]; size_t count; } track;
+
+/* ---- where things lie */
+
+static const double left = 70, right = 700, top = 78, bottom = 238, clip_top = 268, clip_bottom = 368;
+static const double highest_value = 3.6, character = 6.4;
+static const char ink[] = "#1b4f9c", faint[] = "#9a9a9a", grid[] = "#e4e4e4";
+
+static double across(const figure *f, double t) { return left + (t - f->from) / (f->to - f->from) * (right - left); }
+static double up(double value) { return bottom - value / highest_value * (bottom - top); }
+static double clip_up(const figure *f, double c) {
+  return clip_bottom - (c - f->lowest_clip_time) / (f->highest_clip_time - f->lowest_clip_time) * (clip_bottom - clip_top);
+}
+
+/* ---- pieces of SVG */
+
+static void line(double x1, double y1, double x2, double y2, const char *colour, const char *more) {
+  printf("<path d=\"M%.1f %.1fL%.1f %.1f\" stroke=\"%s\"%s/>\n", x1, y1, x2, y2, colour, more);
+}
+static void dot(double x, double y, double radius, const char *colour) {
+  printf("<circle cx=\"%.1f\" cy=\"%.1f\" r=\"%.1f\" fill=\"%s\"/>\n", x, y, radius, colour);
+}
+static void text(double x, double y, const char *colour, const char *more, const char *words) {
+  printf("<text x=\"%.1f\" y=\"%.1f\" fill=\"%s\"%s>%s</text>\n", x, y, colour, more, words);
+}
+
+/* A double as short as it can be told: six digits if they read back as it, else as many as tell it apart. */
+static const char *digits(double d) {
+  static char words[32];
+  snprintf(words, sizeof words, "%.6g", d);
+  if (strtod(words, NULL) != d) snprintf(words, sizeof words, "%.17g", d);
+  return words;
+}
+
+/* ---- the axes */
+
+static void frame(const figure *f) {
+  printf("<svg xmlns=\"http://www.w3.org/2000/svg\" width=\"720\" height=\"420\" viewBox=\"0 0 720 420\" font-family=\"sans-serif\" font-size=\"11\">\n");
+  printf("<title>%s</title>\n<rect width=\"720\" height=\"420\" fill=\"white\"/>\n", f->title);
+  printf("<defs><pattern id=\"hatch\" width=\"8\" height=\"8\" patternUnits=\"userSpaceOnUse\" patternTransform=\"rotate(45)\">"
+    "<path d=\"M0 0V8\" stroke=\"#d0d0d0\" stroke-width=\"3\"/></pattern></defs>\n");
+  text(left, 18, "#222", "", f->title);
+}
+
+static void axes(const figure *f) {
+  for (double t = f->from; t <= f->to; t += f->step) {
+    line(across(f, t), top, across(f, t), bottom, grid, "");
+    line(across(f, t), clip_top, across(f, t), clip_bottom + 4, grid, "");
+    text(across(f, t), clip_bottom + 17, "#222", " text-anchor=\"middle\"", digits(t));
+  }
+  for (int v = 0; v <= 3; v++) {
+    line(left - 4, up(v), right, up(v), grid, "");
+    text(left - 8, up(v) + 4, "#222", " text-anchor=\"end\"", digits(v));
+  }
+  for (double c = f->lowest_clip_time; c <= f->highest_clip_time; c += f->clip_step) {
+    line(left - 4, clip_up(f, c), right, clip_up(f, c), grid, "");
+    text(left - 8, clip_up(f, c) + 4, "#222", " text-anchor=\"end\"", digits(c));
+  }
+  line(left, top, left, bottom, "#222", "");
+  line(left, bottom, right, bottom, "#222", "");
+  line(left, clip_top, left, clip_bottom, "#222", "");
+  line(left, clip_bottom, right, clip_bottom, "#222", "");
+  text((left + right) / 2, clip_bottom + 36, "#222", " text-anchor=\"middle\"", "stage time");
+  printf("<text transform=\"translate(30 %.1f) rotate(-90)\" text-anchor=\"middle\" fill=\"#222\">value</text>\n", (top + bottom) / 2);
+  printf("<text transform=\"translate(30 %.1f) rotate(-90)\" text-anchor=\"middle\" fill=\"#222\">clip time</text>\n", (clip_top + clip_bottom) / 2);
+}
+
+/* ---- the set, faint */
+
+/* Clip time over stage time, as the library answers it at the knots and at both ends. */
+static void draw_knots(const figure *f, const tavitrozy_resolver *set) {
+  printf("<path fill=\"none\" stroke=\"%s\" stroke-width=\"1.5\" d=\"M", faint);
+  const double first = set->shape.counts.knots ? f->from : f->lowest_clip_time, last = set->shape.counts.knots ? f->to : f->highest_clip_time;
+  const tavitrozy_at_stage begin = {first}, end = {last};
+  printf("%.1f %.1f", across(f, first), clip_up(f, tavitrozy_clip_time(set, begin).time.value));
+  for (size_t i = 0; i < set->shape.counts.knots; i++) printf("L%.1f %.1f", across(f, set->xs[i]), clip_up(f, set->ys[i]));
+  printf("L%.1f %.1f\"/>\n", across(f, last), clip_up(f, tavitrozy_clip_time(set, end).time.value));
+  for (size_t i = 0; i < set->shape.counts.knots; i++) dot(across(f, set->xs[i]), clip_up(f, set->ys[i]), 2.5, faint);
+}
+
+static void draw_starts(const figure *f, const tavitrozy_resolver *set) {
+  char words[32];
+  for (size_t i = 0; i < set->shape.counts.starts; i++) {
+    const double x = across(f, set->starts[i]);
+    line(x, clip_top - 14, x, clip_bottom + 6, faint, " stroke-width=\"1.5\"");
+    snprintf(words, sizeof words, "from here clip %llu", (unsigned long long)set->numbers[i]);
+    text(x + 4, clip_top - 5, "#666", "", words);
+  }
+}
+
+/* A sample that lies at stage time x, if it does so where its clip is active and within the picture. */
+static void draw_sample(const figure *f, const tavitrozy_resolver *set, uint64_t clip, double x, size_t sample) {
+  const tavitrozy_at_stage at = {x};
+  if (x < f->from || x > f->to || tavitrozy_active_clip(set, at).clip != clip) return;
+  dot(across(f, x), clip_up(f, f->time[sample]), 3.5, "#c2c2c2");
+  if (f->mark[sample] == TAVITROZY_VALUE) dot(across(f, x), up(f->value[sample]), 6, "#c2c2c2");
+}
+
+/* The stage times of a sample: by each pair of knots that its clip time lies between, or itself where there are none. */
+static void draw_sample_everywhere(const figure *f, const tavitrozy_resolver *set, uint64_t clip, size_t sample) {
+  const double c = f->time[sample];
+  if (set->shape.counts.knots == 0) draw_sample(f, set, clip, c, sample);
+  for (size_t k = 0; k + 1 < set->shape.counts.knots; k++) {
+    const double xa = set->xs[k], xb = set->xs[k + 1], ca = set->ys[k], cb = set->ys[k + 1];
+    if (ca != cb && fmin(ca, cb) <= c && c <= fmax(ca, cb)) draw_sample(f, set, clip, xa + (c - ca) / (cb - ca) * (xb - xa), sample);
+  }
+}
+
+static void draw_samples(const figure *f, const tavitrozy_resolver *set) {
+  size_t sample = 0;
+  for (uint64_t clip = 0; clip < f->clips; clip++)
+    for (; sample < f->end[clip]; sample++) draw_sample_everywhere(f, set, clip, sample);
+}
+
+/* ---- the track, in front */
+
+static double begin_of(const figure *f, const track *t, size_t step) { return step ? t->times[step - 1] : f->from; }
+static double end_of(const figure *f, const track *t, size_t step) { return step < t->count ? t->times[step] : f->to; }
+
+/* Step 0 is the head, step i the i-th change. */
+static void draw_step(const figure *f, const track *t, size_t step) {
+  const double from = across(f, begin_of(f, t, step)), to = across(f, end_of(f, t, step));
+  const double value = step ? t->values[step - 1] : t->head.value;
+  char words[64];
+  if ((step ? t->marks[step - 1] : t->head.mark) == TAVITROZY_VALUE) {
+    line(from, up(value), to, up(value), ink, " stroke-width=\"4\"");
+    if (step) dot(from, up(value), 4, ink);
+    snprintf(words, sizeof words, step ? "%s" : "head: %s", digits(value));
+    text(from + 8, up(value) - 8, ink, " font-weight=\"bold\"", words);
+  } else {
+    printf("<rect x=\"%.1f\" y=\"%.1f\" width=\"%.1f\" height=\"%.1f\" fill=\"url(#hatch)\"/>\n", from, top, to - from, bottom - top);
+    printf("<rect x=\"%.1f\" y=\"%.1f\" width=\"92\" height=\"18\" fill=\"white\"/>\n", (from + to) / 2 - 46, bottom - 26);
+    text((from + to) / 2, bottom - 13, ink, " font-weight=\"bold\" text-anchor=\"middle\"", "block: no value");
+  }
+}
+
+/* The time of each change above its line, in a second row where it would run into the one before. */
+static void draw_change_times(const figure *f, const track *t) {
+  double free_from[2] = {0, 0};
+  for (size_t i = 0; i < t->count; i++) {
+    const char *words = digits(t->times[i]);
+    const double x = across(f, t->times[i]), width = (double)strlen(words) * character + 10;
+    const double begin = x + width > right ? x - width + 6 : x - 4;
+    const size_t row = begin < free_from[0] ? 1 : 0;
+    free_from[row] = begin + width;
+    line(x, row ? top - 20 : top - 8, x, bottom, ink, " stroke-dasharray=\"3 3\"");
+    text(begin, row ? top - 24 : top - 11, ink, "", words);
+  }
+}
+
+static void legend(void) {
+  const double y = 34;
+  line(left, y, left + 24, y, ink, " stroke-width=\"4\"");
+  text(left + 30, y + 4, "#222", "", "track, with the times of its changes");
+  dot(left + 262, y, 6, "#c2c2c2");
+  text(left + 272, y + 4, "#222", "", "sample of the active clip");
+  line(left + 430, y, left + 454, y, faint, " stroke-width=\"1.5\"");
+  text(left + 460, y + 4, "#222", "", "clip time");
+}
+
+/* ---- */
+
+static uint8_t bake(const figure *f, tavitrozy_resolver *set, track *t) {
+  const tavitrozy_default none = {TAVITROZY_NONE, 0};
+  tavitrozy_fresh(set);
+  uint8_t number = tavitrozy_accept(set, f->clips, f->start, f->starts, f->number, f->starts, f->x, f->knots, f->y, f->knots, NULL, 0, none, false);
+  if (number) return number;
+  tavitrozy_baked b = tavitrozy_bake(set, f->time, f->samples, f->value, f->samples, f->mark, f->samples, f->end, f->clips,
+    t->times, SLOTS, t->values, SLOTS, t->marks, SLOTS);
+  t->head.mark = b.mark, t->head.value = b.value, t->count = b.count;
+  return b.number;
+}
 
 int main(int argc, char **argv) {
-  const figure *f = argc > 1 && !strcmp(argv[1], "falling") ? &falling : &held;
-  const tavitrozy_default none = {2, 0.0};
-  tavitrozy_accepted a = tavitrozy_accept(tavitrozy_fresh(), f->clips, f->start, f->starts, f->number, f->starts,
-    f->x, f->knots, f->y, f->knots, NULL, 0, none, false);
-  double times[64], values[64];
-  uint8_t marks[64];
-  tavitrozy_baked t = tavitrozy_bake(a.resolver, f->time, f->samples, f->value, f->samples, f->mark, f->samples, f->end, f->clips,
-    times, 64, values, 64, marks, 64);
-  if (a.number || t.number) return 1;
-
-  printf("<svg xmlns=\"http://www.w3.org/2000/svg\" width=\"600\" height=\"230\" font-family=\"sans-serif\" font-size=\"11\">\n");
-  printf("<rect width=\"600\" height=\"230\" fill=\"white\"/><text x=\"50\" y=\"16\">%s</text>\n", f->title);
-  printf("<path d=\"M50 190H550\" stroke=\"gray\"/>\n");
-  double begin = f->from, value = t.value;
-  uint8_t mark = t.mark;
-  for (size_t i = 0; i <= t.count; i++) {
-    double end = i < t.count && times[i] < f->to ? times[i] : f->to;
-    if (mark == 0) {
-      printf("<path d=\"M%.1f %.1fH%.1f\" stroke=\"black\" stroke-width=\"3\"/>\n", across(f, begin), up(value), across(f, end));
-      printf("<text x=\"%.1f\" y=\"%.1f\">%g</text>\n", across(f, begin) + 4, up(value) - 6, value);
-    } else {
-      printf("<text x=\"%.1f\" y=\"180\" fill=\"gray\">block</text>\n", across(f, begin) + 4);
-    }
-    if (i == t.count) break;
-    printf("<path d=\"M%.1f 30V190\" stroke=\"gray\" stroke-dasharray=\"3 3\"/><text x=\"%.1f\" y=\"%d\">%.6g</text>\n",
-      across(f, times[i]), across(f, times[i]), 204 + (int)(i % 2) * 12, times[i]);
-    begin = times[i], value = values[i], mark = marks[i];
-  }
+  static tavitrozy_resolver set;
+  static track t;
+  const figure *f = NULL;
+  for (size_t i = 0; i < sizeof figures / sizeof *figures; i++)
+    if (argc == 2 && !strcmp(argv[1], figures[i].name)) f = &figures[i];
+  if (!f) return fprintf(stderr, "usage: figure held|falling|blocked\n"), 2;
+  uint8_t number = bake(f, &set, &t);
+  if (number) return fprintf(stderr, "refused with %d\n", number), 1;
+  frame(f), legend(), axes(f);
+  draw_knots(f, &set), draw_starts(f, &set), draw_samples(f, &set);
+  for (size_t step = 0; step <= t.count; step++) draw_step(f, &t, step);
+  draw_change_times(f, &t);
   printf("</svg>\n");
   return 0;
 }
