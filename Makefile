@@ -3,6 +3,7 @@
 #   make                                target/lib: libtavitrozy.a, libtavitrozy.so.0.1.0 with its links, tavitrozy.pc
 #   make install PREFIX=.. [DESTDIR=..] header, libraries, pkg-config file, licence
 #   make uninstall PREFIX=.. [DESTDIR=..]
+#   make examples                       target/examples: the C and C++ programs of examples/
 #   make test                           builds programs against an installed tree and runs them
 #
 # The first build proves the library (needs rt, the Rattle toolchain). With TAVITROZY_ARCHIVE=path that archive is taken instead.
@@ -14,13 +15,16 @@ LIBDIR ?= $(PREFIX)/lib
 INCLUDEDIR ?= $(PREFIX)/include
 DOCDIR ?= $(PREFIX)/share/doc/tavitrozy
 CC ?= cc
+CXX ?= c++
+CFLAGS ?= -O2
+CXXFLAGS ?= -O2
 INSTALL ?= install
 
 SHELL = /bin/bash
 .SHELLFLAGS = -eu -o pipefail -c
 .DELETE_ON_ERROR:
 .SUFFIXES:
-.PHONY: all install uninstall test clean force
+.PHONY: all examples install uninstall test clean force
 
 lib = target/lib
 static = $(lib)/libtavitrozy.a
@@ -65,6 +69,27 @@ filled_in = sed -e 's|@PREFIX@|$(abspath $(PREFIX))|' -e 's|@LIBDIR@|$(call from
 $(lib)/tavitrozy.pc: packaging/tavitrozy.pc.in Makefile
 	@mkdir -p $(lib)
 	@$(filled_in) >$@
+
+# ---- examples
+
+programs = target/examples/sheet_c target/examples/sheet_cpp target/examples/figure
+warnings = -Wall -Wextra -pedantic -Wconversion
+
+examples: all $(programs)
+
+target/examples/sheet_c target/examples/figure: target/examples/%: $(static) include/tavitrozy.h
+	@mkdir -p target/examples
+	@$(CC) -std=c11 $(CFLAGS) $(warnings) -Iinclude examples/$(subst _c,,$*).c $(static) -lm -o $@
+	@echo "$@"
+
+target/examples/sheet_cpp: $(static) include/tavitrozy.h
+	@mkdir -p target/examples
+	@$(CXX) -std=c++17 $(CXXFLAGS) $(warnings) -Iinclude examples/sheet.cpp $(static) -o $@
+	@echo "$@"
+
+target/examples/sheet_c: examples/sheet.c
+target/examples/sheet_cpp: examples/sheet.cpp
+target/examples/figure: examples/figure.c
 
 # ---- where it goes
 

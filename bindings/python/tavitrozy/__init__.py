@@ -1,0 +1,64 @@
+"""Tavitrozy: OpenUSD value clips resolved and baked, exactly.
+
+A `Resolver` holds one clip set, or none. It answers what an attribute is at a stage time, and bakes the whole answer into a `Track`: what holds first,
+and every change, at the very double where the value changes.
+
+    >>> import tavitrozy
+    >>> resolver = tavitrozy.Resolver()
+    >>> resolver.accept(2, starts=[(20, 0), (28, 1)], knots=[(20, 10), (28, 0), (36, 8)])
+    >>> samples = tavitrozy.Samples.of_clips([[(0, 1.0), (10, 2.0)], [(0, 3.0), (2, None)]])
+    >>> track = resolver.bake(samples)
+    >>> track.read(24)
+    Value(value=2.0)
+    >>> track.read(30)
+    Blocked()
+
+Values are doubles and held, never interpolated; one attribute at a time. docs/VALUE-CLIPS.md of the repository says what every call answers.
+A *start* is an entry of OpenUSD's `active`, a *knot* an entry of `times`, a *block* is no value: nothing is drawn.
+
+Lists may be numpy arrays, array.array, memoryviews or any sequences of numbers. Calls on one resolver from several threads are fine as long as none of
+them is `accept`, `accept_template` or `retime`.
+"""
+
+from ._answers import Absent, Answer, Blocked, Refused, State, Value
+from ._library import (
+    MAX_BLOCKS,
+    MAX_CLIPS,
+    MAX_KNOTS,
+    MAX_NAME_BYTES,
+    MAX_SAMPLES,
+    MAX_STARTS,
+    MAX_TEMPLATE_BYTES,
+    MAX_TIME,
+)
+from ._resolver import Resolver, Samples, StageSample, StandingSet
+from ._track import Track
+from ._without_set import environment_is_exact, name, normalize, template_clip_times
+
+__version__ = "0.1.0"
+
+__all__ = [
+    "Absent",
+    "Answer",
+    "Blocked",
+    "MAX_BLOCKS",
+    "MAX_CLIPS",
+    "MAX_KNOTS",
+    "MAX_NAME_BYTES",
+    "MAX_SAMPLES",
+    "MAX_STARTS",
+    "MAX_TEMPLATE_BYTES",
+    "MAX_TIME",
+    "Refused",
+    "Resolver",
+    "Samples",
+    "StageSample",
+    "StandingSet",
+    "State",
+    "Track",
+    "Value",
+    "environment_is_exact",
+    "name",
+    "normalize",
+    "template_clip_times",
+]

@@ -1,0 +1,241 @@
+"""The resolver: one clip set, and every question about it."""
+
+import ctypes
+import operator
+from array import array
+from ctypes import c_double, c_uint64
+from typing import Any, Callable, Iterable, NamedTuple, Optional, Tuple, Union
+
+from . import _library, _lists
+from ._answers import Absent, Answer, Blocked, State, Value, accepted, answer_of
+from ._library import calls
+from ._track import Track
+from ._without_set import template_times
+
+Default = Union[None, float, Value, Blocked, Absent]
+
+
+class Samples:
+    """The samples of all clips of a set, as three lists of one length, the clips one after the other, and where each clip ends.
+
+    times: clip times, strictly ascending within a clip. values: doubles. marks: 0 a value, 1 a block (the value's slot may then hold anything).
+    ends: one for each clip of the set; ends 2, 2, 3 give clip 0 the first two samples, clip 1 none and clip 2 the third.
+    A writable buffer of the right type (float64, float64, uint8, uint64) is lent as it is, without a copy: later changes to it are seen.
+    """
+
+    __slots__ = ("_lists", "_lent")
+
+    def __init__(self, times: Any, values: Any, marks: Any, ends: Any) -> None:
+        self._lists = tuple(_lists.lend(code, items) for code, items in zip("ddBQ", (times, values, marks, ends)))
+        self._lent = tuple(part for lent in self._lists for part in lent.pair)
+
+    @classmethod
+    def of_clips(cls, clips: Iterable[Iterable[Tuple[float, Optional[float]]]]) -> "Samples":
+        """From each clip's samples as pairs of clip time and value, `None` for a block."""
+        times, values, marks, ends = [], [], [], []
+        for clip in clips:
+            for time, value in clip:
+                times.append(time)
+                values.append(0.0 if value is None else value)
+                marks.append(_library.BLOCK if value is None else _library.VALUE)
+            ends.append(len(times))
+        return cls(times, values, marks, ends)
+
+    def __len__(self) -> int:
+        """How many samples there are, over all clips."""
+        return self._lists[0].length
+
+
+class StageSample(NamedTuple):
+    """A stage time at which a start, a knot or a sample lies, and whether no value is supplied there."""
+
+    time: float
+    blocked: bool
+
+
+class StandingSet(NamedTuple):
+    """The set that stands: sorted, expanded and retimed. A copy."""
+
+    clips: int
+    starts: Tuple[Tuple[float, int], ...]
+    knots: Tuple[Tuple[float, float], ...]
+    blocks: Tuple[float, ...]
+    default: Union[None, Value, Blocked]
+    interpolate: bool
+    retimed: bool
+
+
+def _default(given: Default) -> _library.Default:
+    """The manifest default, as it is handed over: None (or Absent()) is none."""
+    if given is None or isinstance(given, Absent):
+        return _library.Default(_library.NONE, 0.0)
+    if isinstance(given, Blocked):
+        return _library.Default(_library.BLOCK, 0.0)
+    return _library.Default(_library.VALUE, given.value if isinstance(given, Value) else given)
+
+
+def _count(clips: int) -> int:
+    count = operator.index(clips)
+    if not 0 <= count < 2**64:
+        raise OverflowError("a clip count is a whole number from 0 on")
+    return count
+
+
+class Resolver:
+    """Holds one clip set, or none; answers questions about it. A refused call raises `Refused` and changes nothing."""
+
+    __slots__ = ("_shape", "_arrays", "_lent")
+
+    def __init__(self) -> None:
+        self._shape = calls.tavitrozy_lent_fresh()
+        self._arrays = (
+            (c_double * _library.MAX_STARTS)(),
+            (c_uint64 * _library.MAX_STARTS)(),
+            (c_double * _library.MAX_KNOTS)(),
+            (c_double * _library.MAX_KNOTS)(),
+            (c_double * _library.MAX_BLOCKS)(),
+        )
+        self._lent = tuple(part for items in self._arrays for part in (items, len(items)))
+
+    def __copy__(self) -> "Resolver":
+        """A resolver of its own with the same set."""
+        other = Resolver()
+        for mine, copy in zip(self._arrays, other._arrays):
+            ctypes.memmove(copy, mine, ctypes.sizeof(mine))
+        other._shape = _library.Shape.from_buffer_copy(self._shape)
+        return other
+
+    def __deepcopy__(self, memo: Any) -> "Resolver":
+        return self.__copy__()
+
+    def __reduce__(self):
+        raise TypeError("a resolver is not pickled: accept its set again")
+
+    # ---- calls that may change what stands
+
+    def _settle(self, call: Callable[..., _library.Settled], *arguments: Any) -> None:
+        settled = call(self._shape, *self._lent, *arguments)
+        accepted(settled.number)
+        self._shape = settled.shape
+
+    def accept(
+        self, clips: int, starts: Any, knots: Any = (), blocks: Any = (), default: Default = None, interpolate: bool = False
+    ) -> None:
+        """An explicit set, which replaces the one that stood. Refused with 1, 2, 3, 4, 5 or 9.
+
+        clips: how many clips there are. starts: pairs of a stage time and the number of the clip that is active from there on (OpenUSD's `active`).
+        knots: pairs of a stage time and the clip time there (`times`); without knots clip time is stage time. Each list may be in any order, or a
+        buffer of two columns. blocks: manifest block times, the starts at which a clip is known to have no value; they count with `interpolate` alone.
+        default: the manifest default, which holds where the active clip has no samples: a number, `Blocked()` or None.
+        interpolate: OpenUSD's interpolateMissingClipValues. It interpolates nothing: a missing value is looked for at other starts.
+        """
+        times, numbers = _lists.pairs(starts)
+        xs, ys = _lists.pairs(knots)
+        given = _lists.lend("d", blocks)
+        self._settle(
+            calls.tavitrozy_lent_accept,
+            _count(clips),
+            *times.pair,
+            *numbers.pair,
+            *xs.pair,
+            *ys.pair,
+            *given.pair,
+            _default(default),
+            bool(interpolate),
+        )
+
+    def accept_template(
+        self,
+        pattern: Union[str, bytes],
+        start: float,
+        end: float,
+        stride: float,
+        offset: Optional[float] = None,
+        blocks: Any = (),
+        default: Default = None,
+        interpolate: bool = False,
+    ) -> None:
+        """A template set: a clip for each stride from start to end. Refused with 1, 2, 7, 6, 8, 2, 4, 5 or 9.
+
+        pattern: a file name with one or two runs of #, as f.###.usd. offset: None, or how far each start lies from its clip time. The rest as in `accept`.
+        """
+        text = _lists.lend("B", pattern.encode() if isinstance(pattern, str) else pattern)
+        given = _lists.lend("d", blocks)
+        numbers = template_times(start, end, stride, offset)
+        self._settle(
+            calls.tavitrozy_lent_accept_template, *text.pair, *numbers, *given.pair, _default(default), bool(interpolate)
+        )
+
+    def retime(self, offset: float = 0.0, scale: float = 1.0) -> None:
+        """Moves all stage times t of the set to offset + scale * t, once for each set. Refused with 20, 21, 2, 4 or 5."""
+        self._settle(calls.tavitrozy_lent_retime, _library.LayerOffset(offset, scale))
+
+    # ---- questions
+
+    @property
+    def standing(self) -> Optional[StandingSet]:
+        """The set that stands, or None."""
+        shape, counts = self._shape, self._shape.counts
+        if not shape.stands:
+            return None
+        starts, numbers, xs, ys, blocks = self._arrays
+        fallback = shape.manifest.fallback
+        default = answer_of(fallback.mark, fallback.value)
+        return StandingSet(
+            shape.clips,
+            tuple(zip(starts[: counts.starts], numbers[: counts.starts])),
+            tuple(zip(xs[: counts.knots], ys[: counts.knots])),
+            tuple(blocks[: counts.blocks]),
+            None if isinstance(default, Absent) else default,
+            shape.manifest.interpolate,
+            shape.retimed,
+        )
+
+    def active_clip(self, stage_time: float) -> Optional[int]:
+        """The number of the clip that is active at a stage time; None in a set without starts. Refused with 20 or 10."""
+        reply = calls.tavitrozy_lent_active_clip(self._shape, *self._lent, _library.StageTime(stage_time))
+        accepted(reply.number)
+        return reply.clip if reply.found else None
+
+    def clip_time(self, stage_time: float) -> float:
+        """The clip time at a stage time. Refused with 20 or 10."""
+        reply = calls.tavitrozy_lent_clip_time(self._shape, *self._lent, _library.StageTime(stage_time))
+        accepted(reply.number)
+        return reply.time.value
+
+    def value(self, samples: Samples, stage_time: float) -> Answer:
+        """The value at a stage time. Refused with 20, 1, 2, 9 or 10."""
+        reply = calls.tavitrozy_lent_value(self._shape, *self._lent, *samples._lent, _library.StageTime(stage_time))
+        accepted(reply.number)
+        return answer_of(reply.mark, reply.value)
+
+    def _ask(self, call: Callable[..., Any], samples: Samples, *outputs: array) -> Any:
+        """A question about the samples, with lists to write to."""
+        lent = [part for items in outputs for part in _lists.lend_array(items).pair]
+        reply = call(self._shape, *self._lent, *samples._lent, *lent)
+        accepted(reply.number)
+        return reply
+
+    def untimed(self, samples: Samples) -> State:
+        """Whether there is a value at all, asked without a time. Refused with 20, 1, 2 or 9."""
+        return State(self._ask(calls.tavitrozy_lent_untimed, samples).state)
+
+    def stage_sample_times(self, samples: Samples) -> array:
+        """The stage times at which starts, knots and samples lie, ascending. Refused with 20, 1, 2 or 9."""
+        times = _lists.slots("d", self._ask(calls.tavitrozy_lent_stage_sample_count, samples).count)
+        self._ask(calls.tavitrozy_lent_stage_sample_times, samples, times)
+        return times
+
+    def stage_samples(self, samples: Samples) -> "list[StageSample]":
+        """The same times, each with whether a value is supplied there. Refused with 20, 1, 2 or 9."""
+        count = self._ask(calls.tavitrozy_lent_stage_sample_count, samples).count
+        times, marks = _lists.slots("d", count), _lists.slots("B", count)
+        self._ask(calls.tavitrozy_lent_stage_samples, samples, times, marks)
+        return [StageSample(time, mark == _library.BLOCK) for time, mark in zip(times, marks)]
+
+    def bake(self, samples: Samples) -> Track:
+        """The track: the value at every stage time. Refused with 20, 1, 2 or 9."""
+        count = self._ask(calls.tavitrozy_lent_change_count, samples).count
+        times, values, marks = _lists.slots("d", count), _lists.slots("d", count), _lists.slots("B", count)
+        baked = self._ask(calls.tavitrozy_lent_bake, samples, times, values, marks)
+        return Track._of(answer_of(baked.mark, baked.value), times, values, marks)

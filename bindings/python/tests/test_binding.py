@@ -1,0 +1,213 @@
+"""The binding's own part: tracks, buffers, copies, the library's place, the floating-point environment."""
+
+import copy
+import ctypes
+import math
+import os
+import pickle
+import subprocess
+import sys
+import unittest
+from array import array
+
+import tavitrozy
+from tavitrozy import Absent, Blocked, Refused, Resolver, Samples, Track, Value, _library, _lists
+
+try:
+    import numpy
+except ImportError:
+    numpy = None
+
+
+class Tracks(unittest.TestCase):
+    def test_read(self):
+        track = Track(Value(-7), [0, 10, 20], [1, 0, 3], [0, 1, 0])
+        self.assertEqual([track.read(t) for t in (-1, 0, 9.9, 10, 25)], [Value(-7.0), Value(1.0), Value(1.0), Blocked(), Value(3.0)])
+        self.assertEqual((track.read(math.nan), track.read(-math.inf), track.read(math.inf)), (Value(-7.0), Value(-7.0), Value(3.0)))
+        self.assertEqual((len(track), bool(Track(Absent(), [], [], []))), (3, True))
+
+    def test_equal_by_bits(self):
+        track = Track(Value(1), [0], [0.0], [0])
+        self.assertEqual(track, Track(Value(1), [0], [0.0], [0]))
+        self.assertEqual(hash(track), hash(Track(Value(1), [0], [0.0], [0])))
+        for other in (
+            Track(Value(1), [0], [-0.0], [0]),
+            Track(Value(1), [0], [0.0], [1]),
+            Track(Value(1), [1], [0.0], [0]),
+            Track(Value(2), [0], [0.0], [0]),
+            Track(Blocked(), [0], [0.0], [0]),
+            Track(Value(1), [], [], []),
+        ):
+            self.assertNotEqual(track, other)
+        self.assertNotEqual(Track(Value(0.0), [], [], []), Track(Value(-0.0), [], [], []))
+        self.assertNotEqual(track, "a track")
+        self.assertEqual(pickle.loads(pickle.dumps(track)), track)
+
+    def test_not_writable(self):
+        times = array("d", [1, 2])
+        track = Track(Value(0), times, [1, 2], [0, 0])
+        times[0] = 5
+        self.assertEqual(list(track.times), [1, 2])
+        with self.assertRaises(TypeError):
+            track.times[0] = 3
+        with self.assertRaises(AttributeError):
+            track.times = []
+
+    def test_bad_lists(self):
+        with self.assertRaises(ValueError):
+            Track(Value(0), [1], [1, 2], [0])
+        with self.assertRaises(ValueError):
+            Track(Value(0), [1], [1], [3])
+        with self.assertRaises(TypeError):
+            Track(0.0, [], [], [])
+
+    def test_many_changes(self):
+        r = Resolver()
+        knots = [(i, i % 2 * 4095) for i in range(512)]
+        r.accept(1, [(0, 0)], knots)
+        samples = Samples(range(4096), range(4096), bytes(4096), [4096])
+        track = r.bake(samples)
+        self.assertEqual(len(track), 4095 * 511)
+        self.assertEqual(track.read(0.5), r.value(samples, 0.5))
+
+
+class Lists(unittest.TestCase):
+    def baked(self, times, values, marks, ends):
+        r = Resolver()
+        r.accept(2, [(0, 0), (10, 1)])
+        return r.bake(Samples(times, values, marks, ends))
+
+    def setUp(self):
+        self.track = self.baked([0.0, 1.0, 0.0], [1.0, 2.0, 3.0], [0, 1, 0], [2, 3])
+
+    def test_kinds(self):
+        t, v, m, e = array("d", [0, 1, 0]), array("d", [1, 2, 3]), array("B", [0, 1, 0]), array("Q", [2, 3])
+        self.assertEqual(self.baked(t, v, m, e), self.track)
+        self.assertEqual(self.baked(*(memoryview(x) for x in (t, v, m, e))), self.track)
+        self.assertEqual(self.baked(*(memoryview(x).toreadonly() for x in (t, v, m, e))), self.track)
+        self.assertEqual(self.baked(array("f", t), array("i", [1, 2, 3]), bytes([0, 1, 0]), (2, 3)), self.track)
+        self.assertEqual(self.baked(memoryview(array("d", [0, 9, 1, 9, 0]))[::2], v, bytearray(m), array("L", [2, 3])), self.track)
+        self.assertEqual(self.baked(range(0), [], b"", [0, 0]).head, Blocked())
+
+    def test_without_a_copy(self):
+        times = array("d", [0, 1, 0])
+        lent = _lists.lend("d", times)
+        self.assertEqual(ctypes.addressof(lent.pointer.contents), times.buffer_info()[0])
+        with self.assertRaises(BufferError):  # lent memory does not move
+            times.append(1)
+        self.assertNotEqual(ctypes.addressof(_lists.lend("d", memoryview(times).toreadonly()).pointer.contents), times.buffer_info()[0])
+
+    def test_numbers_stay_what_they_are(self):
+        for code, items, error in [
+            ("d", [2**53 + 1], ValueError),
+            ("d", ["1"], TypeError),
+            ("d", "12", TypeError),
+            ("d", [10**400], OverflowError),
+            ("B", [256], OverflowError),
+            ("B", [-1], OverflowError),
+            ("B", [0.5], TypeError),
+            ("Q", [-1], OverflowError),
+            ("Q", [2**64], OverflowError),
+            ("Q", array("d", [1.0]), TypeError),
+            ("d", memoryview(bytes(16)).cast("d", [1, 2]), TypeError),
+            ("d", None, TypeError),
+        ]:
+            with self.subTest(code=code, items=items), self.assertRaises(error):
+                _lists.lend(code, items)
+
+    def test_pairs(self):
+        columns = memoryview(array("d", [0, 0, 10, 1]).tobytes()).cast("d", [2, 2])
+        r = Resolver()
+        r.accept(2, columns)
+        self.assertEqual(r.standing.starts, ((0.0, 0), (10.0, 1)))
+        for bad in ([(1, 2, 3)], [1], memoryview(bytes(8)), 5):
+            with self.assertRaises((TypeError, ValueError)):
+                r.accept(2, bad)
+        with self.assertRaises(OverflowError):
+            r.accept(-1, [])
+        with self.assertRaises(TypeError):
+            r.accept(1.5, [])
+
+    @unittest.skipIf(numpy is None, "numpy is not there")
+    def test_numpy(self):
+        t, v = numpy.array([0, 1, 0.0]), numpy.array([1, 2, 3.0])
+        m, e = numpy.array([0, 1, 0], numpy.uint8), numpy.array([2, 3], numpy.uint64)
+        self.assertEqual(self.baked(t, v, m, e), self.track)
+        self.assertEqual(ctypes.addressof(_lists.lend("d", t).pointer.contents), t.ctypes.data)
+        self.assertEqual(ctypes.addressof(_lists.lend("Q", e).pointer.contents), e.ctypes.data)
+        self.assertEqual(self.baked(t.astype("f4"), v.astype("i8"), m.astype(bool), e.astype("i4")), self.track)
+        self.assertEqual(self.baked(numpy.array([0, 9, 1, 9, 0.0])[::2], v, m, e), self.track)
+        self.assertEqual(self.baked(list(t), list(v.astype("f4")), list(m), list(e)), self.track)
+        for bad in (t.astype(">f8"), t.reshape(1, 3), t.astype(complex)):
+            with self.assertRaises(TypeError):
+                self.baked(bad, v, m, e)
+        with self.assertRaises(ValueError):
+            _lists.lend("d", numpy.array([2**53 + 1]))
+        r = Resolver()
+        r.accept(numpy.int64(2), numpy.array([[0, 0], [10, 1]]), numpy.zeros((0, 2)))
+        self.assertEqual(r.standing.starts, ((0.0, 0), (10.0, 1)))
+        self.assertEqual(numpy.asarray(self.track.times).tolist(), list(self.track.times))
+        self.assertEqual(self.track.read(numpy.float32(0.5)), Value(1.0))
+
+    def test_numpy_is_not_imported(self):
+        code = "import sys, tavitrozy; sys.exit('numpy' in sys.modules)"
+        self.assertEqual(subprocess.run([sys.executable, "-c", code]).returncode, 0)
+
+
+class Copies(unittest.TestCase):
+    def test_a_copy_is_its_own(self):
+        for how in (copy.copy, copy.deepcopy):
+            r = Resolver()
+            r.accept(1, [(0, 0)], [(0, 1), (2, 3)], blocks=[4], default=5, interpolate=True)
+            other = how(r)
+            self.assertEqual(other.standing, r.standing)
+            r.retime(1, 1)
+            self.assertEqual((other.standing.starts, other.standing.retimed, r.standing.starts), (((0.0, 0),), False, ((1.0, 0),)))
+        with self.assertRaises(TypeError):
+            pickle.dumps(r)
+        self.assertEqual(pickle.loads(pickle.dumps(Refused(5))).number, 5)
+
+
+class Library(unittest.TestCase):
+    def imported(self, path):
+        told = {**os.environ, "TAVITROZY_LIBRARY": path}
+        return subprocess.run([sys.executable, "-c", "import tavitrozy"], env=told, stderr=subprocess.PIPE, text=True)
+
+    def test_named_library(self):
+        self.assertEqual(self.imported(_library.find()).returncode, 0)
+        for wrong in ("/nowhere/libtavitrozy.so", "libm.so.6"):
+            reply = self.imported(wrong)
+            self.assertNotEqual(reply.returncode, 0)
+            self.assertIn("ImportError", reply.stderr)
+
+    def test_limits(self):
+        self.assertEqual((tavitrozy.MAX_KNOTS, tavitrozy.MAX_TIME), (512, 1099511627776.0))
+        with self.assertRaises(Refused):
+            Resolver().accept(1, [(math.nextafter(tavitrozy.MAX_TIME, math.inf), 0)])
+
+
+class Environment(unittest.TestCase):
+    def within(self, change):
+        """What is told of an environment in which the 32 bytes of fegetenv were changed."""
+        libm = ctypes.CDLL("libm.so.6")
+        usual, other = (ctypes.c_uint8 * 32)(), (ctypes.c_uint8 * 32)()
+        libm.fegetenv(usual), libm.fegetenv(other)
+        change(other)
+        libm.fesetenv(other)
+        try:
+            return tavitrozy.environment_is_exact()
+        finally:
+            libm.fesetenv(usual)
+
+    def mxcsr(self, bits):
+        def change(environment):
+            ctypes.cast(ctypes.addressof(environment) + 28, ctypes.POINTER(ctypes.c_uint32))[0] |= bits
+
+        return change
+
+    def test_environment(self):
+        self.assertTrue(tavitrozy.environment_is_exact())
+        self.assertTrue(self.within(self.mxcsr(0)))
+        for bits in (0x8000, 0x0040, 0x8040, 0x2000, 0x4000, 0x6000):  # FTZ, DAZ, both; down, up, toward zero
+            self.assertFalse(self.within(self.mxcsr(bits)), hex(bits))
+        self.assertTrue(tavitrozy.environment_is_exact())

@@ -1,0 +1,154 @@
+"""The worked figures of docs/VALUE-CLIPS.md, as a Python program meets them."""
+
+import doctest
+import math
+import unittest
+
+import tavitrozy
+from tavitrozy import Absent, Blocked, Refused, Resolver, Samples, StageSample, State, Track, Value
+
+
+def resolver(clips, starts, knots=(), **more):
+    made = Resolver()
+    made.accept(clips, starts, knots, **more)
+    return made
+
+
+class Figures(unittest.TestCase):
+    def refused(self, number, call, *arguments, **more):
+        with self.assertRaises(Refused) as caught:
+            call(*arguments, **more)
+        self.assertEqual(caught.exception.number, number)
+
+    def test_active_clip(self):
+        r = resolver(2, [(0, 0), (10, 1)])
+        self.assertEqual([r.active_clip(t) for t in (-5, 9.5, 10)], [0, 0, 1])
+
+    def test_equal_entries(self):
+        r = Resolver()
+        self.refused(4, r.accept, 2, [(0.0, 0), (-0.0, 1)])
+        self.refused(3, r.accept, 2, [(0.0, 1.5)])
+        self.refused(5, r.accept, 1, [(0, 0)], [(5, 1), (5, 2), (5, 3)])
+        self.assertIsNone(r.standing)
+        r.accept(1, [(0, 0)], [(5, 1), (5, 2)])
+        self.assertEqual(r.standing.knots, ((5.0, 1.0), (5.0, 2.0)))
+
+    def test_clip_time(self):
+        r = resolver(1, [(0, 0)], [(0, 0), (10, 10), (10, 0), (20, 10)])
+        self.assertEqual([r.clip_time(t) for t in (-1, 5, 10, 15, 25)], [0, 5, 0, 5, 10])
+
+    def test_template(self):
+        r = Resolver()
+        r.accept_template("f.###.usd", 1, 3, 1)
+        self.assertEqual(r.standing.starts, ((1.0, 0), (2.0, 1), (3.0, 2)))
+        names = [tavitrozy.name("f.###.usd", time) for time in tavitrozy.template_clip_times(1, 3, 1)]
+        self.assertEqual(names, ["f.001.usd", "f.002.usd", "f.003.usd"])
+        r.accept_template("f.###.usd", 101, 103, 1, 0.5)
+        self.assertEqual([time for time, _ in r.standing.starts], [101.5, 102.5, 103.5])
+        self.assertEqual(list(tavitrozy.template_clip_times(101, 103, 1, 0.5)), [101, 102, 103])
+        self.refused(5, r.accept_template, "f.###.usd", 1, 1, 1, 0)
+        r.accept_template("f.###.usd", 1, 1, 1)
+
+    def test_names(self):
+        self.assertEqual(tavitrozy.name("f.###.usd", -5), "f.-05.usd")
+        self.assertEqual(tavitrozy.name("f.##.##.usd", -0.5), "f.-00.50.usd")
+        self.assertEqual(tavitrozy.name("f.##.##.usd", 0.125), "f.00.12.usd")
+        self.assertEqual(tavitrozy.name(b"f.##.##.usd", 0.375), b"f.00.38.usd")
+        self.assertEqual(tavitrozy.name("größe.#.usd", 7), "größe.7.usd")
+
+    def test_held(self):
+        r = resolver(2, [(0, 0), (20, 1)], [(0, 10), (20, 0)])
+        samples = Samples.of_clips([[(0, 1.0), (10, 2.0)], [(0, 3.0)]])
+        self.assertEqual(r.value(samples, 5), Value(2.0))
+        track = r.bake(samples)
+        self.assertEqual(track.head, Value(2.0))
+        self.assertEqual(list(track), [(20.0, Value(3.0))])
+        self.assertEqual(r.untimed(samples), State.PRESENT)
+        self.assertEqual(list(r.stage_sample_times(samples)), [0.0, 20.0])
+        self.assertEqual(r.stage_samples(samples), [StageSample(0.0, False), StageSample(20.0, False)])
+
+    def test_missing(self):
+        starts = [(0, 0), (10, 1), (20, 2)]
+        samples = Samples.of_clips([[(0, 1.0)], [], [(20, 3.0)]])
+        self.assertEqual(resolver(3, starts).value(samples, 15), Blocked())
+        self.assertEqual(list(resolver(3, starts).bake(samples)), [(10.0, Blocked()), (20.0, Value(3.0))])
+        self.assertEqual(resolver(3, starts, interpolate=True).value(samples, 15), Value(1.0))
+        self.assertEqual(resolver(3, starts, default=7).value(samples, 15), Value(7.0))
+        self.assertEqual(resolver(3, starts, default=Blocked()).value(samples, 15), Blocked())
+        track = resolver(3, starts, blocks=[0], interpolate=True).bake(samples)
+        self.assertEqual((track.head, len(track)), (Value(3.0), 0))
+
+    def test_falling(self):
+        r = resolver(1, [(0, 0)], [(0, 10), (10, 0)])
+        samples = Samples.of_clips([[(0, 1.0), (5, 2.0), (10, 3.0)]])
+        track = r.bake(samples)
+        (first, second) = track.times
+        self.assertEqual(track.head, Value(3.0))
+        self.assertEqual(list(track.values), [2.0, 1.0])
+        self.assertTrue(0 < first < 1e-14)
+        self.assertEqual(second, 5.000000000000001)
+        for time, answer in track:
+            self.assertEqual(r.value(samples, time), answer)
+            self.assertNotEqual(r.value(samples, _below(time)), answer)
+
+    def test_no_starts(self):
+        r = resolver(0, [])
+        samples = Samples.of_clips([])
+        self.assertIsNone(r.active_clip(3))
+        self.assertEqual((r.value(samples, 3), r.untimed(samples), r.clip_time(3)), (Absent(), State.ABSENT, 3.0))
+        self.assertEqual(r.bake(samples), Track(Absent(), [], [], []))
+
+    def test_normalize(self):
+        times, values, marks = tavitrozy.normalize([2, 1, 2], [5, 6, 7], [0, 0, 1])
+        self.assertEqual((list(times), list(values), list(marks)), ([1, 2], [6, 7], [0, 1]))
+
+    def test_docstrings(self):
+        self.assertEqual(doctest.testmod(tavitrozy).failed, 0)
+        for name in tavitrozy.__all__:
+            self.assertTrue(name.isupper() or name == "Answer" or getattr(tavitrozy, name).__doc__, name)
+
+
+class Refusals(unittest.TestCase):
+    refused = Figures.refused
+
+    def test_of_sets(self):
+        r = Resolver()
+        self.refused(20, r.retime, 0, 1)
+        self.refused(20, r.active_clip, 0)
+        self.refused(1, r.accept, 257, [])
+        self.refused(2, r.accept, 1, [(math.nan, 0)])
+        self.refused(2, r.accept, 1, [], default=math.nan)
+        self.refused(6, r.accept_template, "f.usd", 1, 3, 1)
+        self.refused(7, r.accept_template, "f.#.usd", 1, 3, 0)
+        self.refused(8, r.accept_template, "f.#.usd", 1, 257, 1)
+        self.assertIsNone(r.standing)
+        r.accept(1, [(3, 0)], default=2.5)
+        stood = r.standing
+        self.refused(2, r.retime, math.inf)
+        self.assertEqual(r.standing, stood)
+        r.retime(5, 2)
+        self.assertEqual((r.standing.starts, r.standing.default, r.standing.retimed), (((11.0, 0),), Value(2.5), True))
+        self.refused(21, r.retime)
+        self.refused(10, r.clip_time, math.nan)
+
+    def test_of_samples(self):
+        r = resolver(1, [(0, 0)])
+        for call in (r.bake, r.untimed, r.stage_samples, r.stage_sample_times):
+            self.refused(1, call, Samples([], [], [], []))
+            self.refused(2, call, Samples([math.nan], [1], [0], [1]))
+            self.refused(9, call, Samples([1, 0], [1, 2], [0, 0], [2]))
+            self.refused(9, call, Samples([0], [1], [2], [1]))
+        self.refused(2, tavitrozy.normalize, [0], [math.nan], [0])
+        self.refused(2, tavitrozy.template_clip_times, 0, math.inf, 1)
+        self.refused(6, tavitrozy.name, "f.usd", 1)
+
+    def test_words(self):
+        self.assertEqual(str(Refused(4)), "refused with 4: two equal starts")
+
+
+def _below(time):
+    """The next double below: of a positive time the one whose bits are one less."""
+    import struct
+
+    (bits,) = struct.unpack("<q", struct.pack("<d", time))
+    return struct.unpack("<d", struct.pack("<q", bits - 1))[0]
