@@ -77,19 +77,13 @@ warnings = -Wall -Wextra -pedantic -Wconversion
 
 examples: all $(programs)
 
-target/examples/sheet_c target/examples/figure: target/examples/%: $(static) include/tavitrozy.h
-	@mkdir -p target/examples
-	@$(CC) -std=c11 $(CFLAGS) $(warnings) -Iinclude examples/$(subst _c,,$*).c $(static) -lm -o $@
-	@echo "$@"
-
-target/examples/sheet_cpp: $(static) include/tavitrozy.h
-	@mkdir -p target/examples
-	@$(CXX) -std=c++17 $(CXXFLAGS) $(warnings) -Iinclude examples/sheet.cpp $(static) -o $@
-	@echo "$@"
-
 target/examples/sheet_c: examples/sheet.c
-target/examples/sheet_cpp: examples/sheet.cpp
 target/examples/figure: examples/figure.c
+target/examples/sheet_cpp: examples/sheet.cpp
+$(programs): $(static) include/tavitrozy.h
+	@mkdir -p target/examples
+	@$(if $(filter %.cpp,$^),$(CXX) -std=c++17 $(CXXFLAGS),$(CC) -std=c11 $(CFLAGS)) $(warnings) -Iinclude $(filter examples/%,$^) $(static) -lm -o $@
+	@echo "$@"
 
 # ---- where it goes
 
