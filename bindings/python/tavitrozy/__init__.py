@@ -16,8 +16,7 @@ and every change, at the very double where the value changes.
 Values are doubles and held, never interpolated; one attribute at a time. docs/VALUE-CLIPS.md of the repository says what every call answers.
 A *start* is an entry of OpenUSD's `active`, a *knot* an entry of `times`, a *block* is no value: nothing is drawn.
 
-Lists may be numpy arrays, array.array, memoryviews or any sequences of numbers. Calls on one resolver from several threads are fine as long as none of
-them is `accept`, `accept_template` or `retime`.
+Lists may be numpy arrays, array.array, memoryviews or any sequences of numbers; they are copied. Any threads may call at once.
 """
 
 from ._answers import Absent, Answer, Blocked, Refused, State, Value

@@ -4,13 +4,13 @@ import ctypes
 import operator
 from array import array
 from ctypes import c_double, c_uint64
-from typing import Any, Callable, Iterable, NamedTuple, Optional, Tuple, Union
+from typing import Any, Callable, Iterable, List, NamedTuple, Optional, Tuple, Union
 
 from . import _library, _lists
 from ._answers import Absent, Answer, Blocked, State, Value, accepted, answer_of
 from ._library import calls
 from ._track import Track
-from ._without_set import template_times
+from ._without_set import pattern_bytes, template_times
 
 Default = Union[None, float, Value, Blocked, Absent]
 
@@ -20,14 +20,14 @@ class Samples:
 
     times: clip times, strictly ascending within a clip. values: doubles. marks: 0 a value, 1 a block (the value's slot may then hold anything).
     ends: one for each clip of the set; ends 2, 2, 3 give clip 0 the first two samples, clip 1 none and clip 2 the third.
-    A writable buffer of the right type (float64, float64, uint8, uint64) is lent as it is, without a copy: later changes to it are seen.
+    The lists are copied: later changes to them are not seen.
     """
 
     __slots__ = ("_lists", "_lent")
 
     def __init__(self, times: Any, values: Any, marks: Any, ends: Any) -> None:
-        self._lists = tuple(_lists.lend(code, items) for code, items in zip("ddBQ", (times, values, marks, ends)))
-        self._lent = tuple(part for lent in self._lists for part in lent.pair)
+        self._lists = tuple(_lists.numbers(code, items) for code, items in zip("ddBQ", (times, values, marks, ends)))
+        self._lent = _lists.lent(*self._lists)
 
     @classmethod
     def of_clips(cls, clips: Iterable[Iterable[Tuple[float, Optional[float]]]]) -> "Samples":
@@ -43,7 +43,10 @@ class Samples:
 
     def __len__(self) -> int:
         """How many samples there are, over all clips."""
-        return self._lists[0].length
+        return len(self._lists[0])
+
+    def __reduce__(self):
+        return Samples, self._lists
 
 
 class StageSample(NamedTuple):
@@ -81,28 +84,42 @@ def _count(clips: int) -> int:
     return count
 
 
-class Resolver:
-    """Holds one clip set, or none; answers questions about it. A refused call raises `Refused` and changes nothing."""
+class _Held(NamedTuple):
+    """A shape and its five lists, which are not written again once a resolver has them."""
 
-    __slots__ = ("_shape", "_arrays", "_lent")
+    shape: _library.Shape
+    starts: Any
+    numbers: Any
+    xs: Any
+    ys: Any
+    blocks: Any
+
+    @property
+    def lent(self) -> List[Any]:
+        """As the library takes it."""
+        return [self.shape, *(part for items in self[1:] for part in (items, len(items)))]
+
+
+def _nothing() -> _Held:
+    starts, knots, blocks = _library.MAX_STARTS, _library.MAX_KNOTS, _library.MAX_BLOCKS
+    lists = (c_double * starts)(), (c_uint64 * starts)(), (c_double * knots)(), (c_double * knots)(), (c_double * blocks)()
+    return _Held(calls.tavitrozy_lent_fresh(), *lists)
+
+
+class Resolver:
+    """Holds one clip set, or none; answers questions about it. A refused call raises `Refused` and changes nothing.
+
+    Any threads may use one resolver: a question is about the set that stood when it was asked. `copy.copy` gives one with the same set.
+    """
+
+    __slots__ = ("_held",)
 
     def __init__(self) -> None:
-        self._shape = calls.tavitrozy_lent_fresh()
-        self._arrays = (
-            (c_double * _library.MAX_STARTS)(),
-            (c_uint64 * _library.MAX_STARTS)(),
-            (c_double * _library.MAX_KNOTS)(),
-            (c_double * _library.MAX_KNOTS)(),
-            (c_double * _library.MAX_BLOCKS)(),
-        )
-        self._lent = tuple(part for items in self._arrays for part in (items, len(items)))
+        self._held = _nothing()
 
     def __copy__(self) -> "Resolver":
-        """A resolver of its own with the same set."""
         other = Resolver()
-        for mine, copy in zip(self._arrays, other._arrays):
-            ctypes.memmove(copy, mine, ctypes.sizeof(mine))
-        other._shape = _library.Shape.from_buffer_copy(self._shape)
+        other._held = self._held
         return other
 
     def __deepcopy__(self, memo: Any) -> "Resolver":
@@ -114,9 +131,13 @@ class Resolver:
     # ---- calls that may change what stands
 
     def _settle(self, call: Callable[..., _library.Settled], *arguments: Any) -> None:
-        settled = call(self._shape, *self._lent, *arguments)
+        """The call writes to lists of its own, which are held if it is accepted."""
+        held, new = self._held, _nothing()
+        for old, copy in zip(held[1:], new[1:]):
+            ctypes.memmove(copy, old, ctypes.sizeof(old))
+        settled = call(*new._replace(shape=held.shape).lent, *arguments)
         accepted(settled.number)
-        self._shape = settled.shape
+        self._held = new._replace(shape=settled.shape)
 
     def accept(
         self, clips: int, starts: Any, knots: Any = (), blocks: Any = (), default: Default = None, interpolate: bool = False
@@ -129,20 +150,8 @@ class Resolver:
         default: the manifest default, which holds where the active clip has no samples: a number, `Blocked()` or None.
         interpolate: OpenUSD's interpolateMissingClipValues. It interpolates nothing: a missing value is looked for at other starts.
         """
-        times, numbers = _lists.pairs(starts)
-        xs, ys = _lists.pairs(knots)
-        given = _lists.lend("d", blocks)
-        self._settle(
-            calls.tavitrozy_lent_accept,
-            _count(clips),
-            *times.pair,
-            *numbers.pair,
-            *xs.pair,
-            *ys.pair,
-            *given.pair,
-            _default(default),
-            bool(interpolate),
-        )
+        lists = (*_lists.pairs(starts), *_lists.pairs(knots), _lists.numbers("d", blocks))
+        self._settle(calls.tavitrozy_lent_accept, _count(clips), *_lists.lent(*lists), _default(default), bool(interpolate))
 
     def accept_template(
         self,
@@ -159,11 +168,10 @@ class Resolver:
 
         pattern: a file name with one or two runs of #, as f.###.usd. offset: None, or how far each start lies from its clip time. The rest as in `accept`.
         """
-        text = _lists.lend("B", pattern.encode() if isinstance(pattern, str) else pattern)
-        given = _lists.lend("d", blocks)
-        numbers = template_times(start, end, stride, offset)
+        text, given = pattern_bytes(pattern), _lists.numbers("d", blocks)
+        times = template_times(start, end, stride, offset)
         self._settle(
-            calls.tavitrozy_lent_accept_template, *text.pair, *numbers, *given.pair, _default(default), bool(interpolate)
+            calls.tavitrozy_lent_accept_template, *_lists.lent(text), *times, *_lists.lent(given), _default(default), bool(interpolate)
         )
 
     def retime(self, offset: float = 0.0, scale: float = 1.0) -> None:
@@ -175,11 +183,10 @@ class Resolver:
     @property
     def standing(self) -> Optional[StandingSet]:
         """The set that stands, or None."""
-        shape, counts = self._shape, self._shape.counts
+        shape, starts, numbers, xs, ys, blocks = self._held
         if not shape.stands:
             return None
-        starts, numbers, xs, ys, blocks = self._arrays
-        fallback = shape.manifest.fallback
+        counts, fallback = shape.counts, shape.manifest.fallback
         default = answer_of(fallback.mark, fallback.value)
         return StandingSet(
             shape.clips,
@@ -193,26 +200,25 @@ class Resolver:
 
     def active_clip(self, stage_time: float) -> Optional[int]:
         """The number of the clip that is active at a stage time; None in a set without starts. Refused with 20 or 10."""
-        reply = calls.tavitrozy_lent_active_clip(self._shape, *self._lent, _library.StageTime(stage_time))
+        reply = calls.tavitrozy_lent_active_clip(*self._held.lent, _library.StageTime(stage_time))
         accepted(reply.number)
         return reply.clip if reply.found else None
 
     def clip_time(self, stage_time: float) -> float:
         """The clip time at a stage time. Refused with 20 or 10."""
-        reply = calls.tavitrozy_lent_clip_time(self._shape, *self._lent, _library.StageTime(stage_time))
+        reply = calls.tavitrozy_lent_clip_time(*self._held.lent, _library.StageTime(stage_time))
         accepted(reply.number)
         return reply.time.value
 
     def value(self, samples: Samples, stage_time: float) -> Answer:
         """The value at a stage time. Refused with 20, 1, 2, 9 or 10."""
-        reply = calls.tavitrozy_lent_value(self._shape, *self._lent, *samples._lent, _library.StageTime(stage_time))
+        reply = calls.tavitrozy_lent_value(*self._held.lent, *samples._lent, _library.StageTime(stage_time))
         accepted(reply.number)
         return answer_of(reply.mark, reply.value)
 
-    def _ask(self, call: Callable[..., Any], samples: Samples, *outputs: array) -> Any:
+    def _ask(self, call: Callable[..., Any], samples: Samples, *outputs: array, held: Optional[_Held] = None) -> Any:
         """A question about the samples, with lists to write to."""
-        lent = [part for items in outputs for part in _lists.lend_array(items).pair]
-        reply = call(self._shape, *self._lent, *samples._lent, *lent)
+        reply = call(*(held or self._held).lent, *samples._lent, *_lists.lent(*outputs))
         accepted(reply.number)
         return reply
 
@@ -222,20 +228,23 @@ class Resolver:
 
     def stage_sample_times(self, samples: Samples) -> array:
         """The stage times at which starts, knots and samples lie, ascending. Refused with 20, 1, 2 or 9."""
-        times = _lists.slots("d", self._ask(calls.tavitrozy_lent_stage_sample_count, samples).count)
-        self._ask(calls.tavitrozy_lent_stage_sample_times, samples, times)
+        held = self._held
+        times = _lists.slots("d", self._ask(calls.tavitrozy_lent_stage_sample_count, samples, held=held).count)
+        self._ask(calls.tavitrozy_lent_stage_sample_times, samples, times, held=held)
         return times
 
-    def stage_samples(self, samples: Samples) -> "list[StageSample]":
+    def stage_samples(self, samples: Samples) -> List[StageSample]:
         """The same times, each with whether a value is supplied there. Refused with 20, 1, 2 or 9."""
-        count = self._ask(calls.tavitrozy_lent_stage_sample_count, samples).count
+        held = self._held
+        count = self._ask(calls.tavitrozy_lent_stage_sample_count, samples, held=held).count
         times, marks = _lists.slots("d", count), _lists.slots("B", count)
-        self._ask(calls.tavitrozy_lent_stage_samples, samples, times, marks)
+        self._ask(calls.tavitrozy_lent_stage_samples, samples, times, marks, held=held)
         return [StageSample(time, mark == _library.BLOCK) for time, mark in zip(times, marks)]
 
     def bake(self, samples: Samples) -> Track:
         """The track: the value at every stage time. Refused with 20, 1, 2 or 9."""
-        count = self._ask(calls.tavitrozy_lent_change_count, samples).count
+        held = self._held
+        count = self._ask(calls.tavitrozy_lent_change_count, samples, held=held).count
         times, values, marks = _lists.slots("d", count), _lists.slots("d", count), _lists.slots("B", count)
-        baked = self._ask(calls.tavitrozy_lent_bake, samples, times, values, marks)
+        baked = self._ask(calls.tavitrozy_lent_bake, samples, times, values, marks, held=held)
         return Track._of(answer_of(baked.mark, baked.value), times, values, marks)

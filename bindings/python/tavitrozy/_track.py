@@ -12,17 +12,22 @@ class Track:
     """The value at every stage time: a head, and changes that each hold from their time on.
 
     `bake` makes one; it can also be made of a head (`Value`, `Blocked` or `Absent`) and three lists of one length: ascending stage times, values, and
-    marks (0 a value, 1 a block). The lists are copied, and a track does not change. Two tracks are equal if they are bit for bit, so 0.0 and -0.0 differ.
+    marks (0 a value, 1 a block). The lists are copied, with time zero as 0.0 and under a block the value 0.0, as a bake writes them. A track does not change.
+    Two tracks are equal if they are so bit for bit: values 0.0 and -0.0 differ.
     """
 
     __slots__ = ("_head", "_times", "_values", "_marks", "_lent")
 
     def __init__(self, head: Answer, times: Any, values: Any, marks: Any) -> None:
-        self._hold(head, _lists.copied("d", times), _lists.copied("d", values), _lists.copied("B", marks))
-        if not len(self._times) == len(self._values) == len(self._marks):
+        times, values, marks = _lists.numbers("d", times), _lists.numbers("d", values), _lists.numbers("B", marks)
+        if not len(times) == len(values) == len(marks):
             raise ValueError("times, values and marks are lists of one length")
-        if len(self._marks) and max(self._marks) > _library.NONE:
+        if max(marks, default=0) > _library.NONE:
             raise ValueError("a mark is 0 (a value), 1 (a block) or 2 (absent)")
+        for place, mark in enumerate(marks):
+            times[place] += 0.0  # -0.0 becomes 0.0
+            values[place] = values[place] if mark == _library.VALUE else 0.0
+        self._hold(head, times, values, marks)
 
     @classmethod
     def _of(cls, head: Answer, times: array, values: array, marks: array) -> "Track":
@@ -34,7 +39,7 @@ class Track:
     def _hold(self, head: Answer, times: array, values: array, marks: array) -> None:
         self._head, self._times, self._values, self._marks = head, times, values, marks
         entry = _library.Entry(value_of(head), mark_of(head))
-        self._lent = (entry, *(part for items in (times, values, marks) for part in _lists.lend_array(items).pair))
+        self._lent = (entry, *_lists.lent(times, values, marks))
 
     @property
     def head(self) -> Answer:

@@ -13,11 +13,14 @@ def template_times(start: float, end: float, stride: float, offset: Optional[flo
     return _library.TemplateTimes(start, end, stride, 0.0 if offset is None else offset), offset is not None
 
 
+def pattern_bytes(pattern: Union[str, bytes]) -> array:
+    return _lists.numbers("B", pattern.encode() if isinstance(pattern, str) else pattern)
+
+
 def name(pattern: Union[str, bytes], clip_time: float) -> Union[str, bytes]:
     """The file name of a template's clip at a clip time: of f.###.usd at 2, f.002.usd. Refused with 1, 2 or 6."""
-    text = _lists.lend("B", pattern.encode() if isinstance(pattern, str) else pattern)
-    out = _lists.slots("B", _library.MAX_NAME_BYTES)
-    reply = calls.tavitrozy_name(*text.pair, _library.ClipTime(clip_time), *_lists.lend_array(out).pair)
+    text, out = pattern_bytes(pattern), _lists.slots("B", _library.MAX_NAME_BYTES)
+    reply = calls.tavitrozy_name(*_lists.lent(text), _library.ClipTime(clip_time), *_lists.lent(out))
     accepted(reply.number)
     written = out[: reply.count].tobytes()
     return written.decode() if isinstance(pattern, str) else written
@@ -26,20 +29,18 @@ def name(pattern: Union[str, bytes], clip_time: float) -> Union[str, bytes]:
 def template_clip_times(start: float, end: float, stride: float, offset: Optional[float] = None) -> array:
     """The clip times of a template's clips, in order: `name` at the i-th is clip i's file. Refused with 2, 7 or 8."""
     times = _lists.slots("d", _library.MAX_CLIPS)
-    reply = calls.tavitrozy_template_clip_times(*template_times(start, end, stride, offset), *_lists.lend_array(times).pair)
+    reply = calls.tavitrozy_template_clip_times(*template_times(start, end, stride, offset), *_lists.lent(times))
     accepted(reply.number)
     return times[: reply.count]
 
 
 def normalize(times: Any, values: Any, marks: Any) -> Tuple[array, array, array]:
     """One clip's samples in any order, sorted; of equal times the first time stays, with the last value and mark. Refused with 1, 2 or 9."""
-    given = [_lists.lend(code, items) for code, items in zip("ddB", (times, values, marks))]
-    outputs = [_lists.slots(code, given[0].length) for code in "ddB"]
-    lent = [*given, *(_lists.lend_array(items) for items in outputs)]
-    reply = calls.tavitrozy_normalize(*(part for items in lent for part in items.pair))
+    given = _lists.numbers("d", times), _lists.numbers("d", values), _lists.numbers("B", marks)
+    first, second, third = (_lists.slots(code, len(given[0])) for code in "ddB")
+    reply = calls.tavitrozy_normalize(*_lists.lent(*given, first, second, third))
     accepted(reply.number)
-    first, second, third = (items[: reply.count] for items in outputs)
-    return first, second, third
+    return first[: reply.count], second[: reply.count], third[: reply.count]
 
 
 # Names and no literals, so that Python does not compute with them beforehand.

@@ -7,6 +7,7 @@ import os
 import pickle
 import subprocess
 import sys
+import threading
 import unittest
 from array import array
 
@@ -42,6 +43,9 @@ class Tracks(unittest.TestCase):
         self.assertNotEqual(Track(Value(0.0), [], [], []), Track(Value(-0.0), [], [], []))
         self.assertNotEqual(track, "a track")
         self.assertEqual(pickle.loads(pickle.dumps(track)), track)
+
+    def test_as_a_bake_writes(self):
+        self.assertEqual(Track(Blocked(), [-0.0], [5], [1]), Track(Blocked(), [0.0], [0], [1]))
 
     def test_not_writable(self):
         times = array("d", [1, 2])
@@ -89,13 +93,15 @@ class Lists(unittest.TestCase):
         self.assertEqual(self.baked(memoryview(array("d", [0, 9, 1, 9, 0]))[::2], v, bytearray(m), array("L", [2, 3])), self.track)
         self.assertEqual(self.baked(range(0), [], b"", [0, 0]).head, Blocked())
 
-    def test_without_a_copy(self):
+    def test_copied(self):
         times = array("d", [0, 1, 0])
-        lent = _lists.lend("d", times)
-        self.assertEqual(ctypes.addressof(lent.pointer.contents), times.buffer_info()[0])
-        with self.assertRaises(BufferError):  # lent memory does not move
-            times.append(1)
-        self.assertNotEqual(ctypes.addressof(_lists.lend("d", memoryview(times).toreadonly()).pointer.contents), times.buffer_info()[0])
+        r = Resolver()
+        r.accept(2, [(0, 0), (10, 1)])
+        samples = Samples(times, [1, 2, 3], [0, 1, 0], [2, 3])
+        times[1] = math.nan
+        times.append(7)
+        self.assertEqual(r.bake(samples), self.track)
+        self.assertEqual(r.bake(pickle.loads(pickle.dumps(samples))), self.track)
 
     def test_numbers_stay_what_they_are(self):
         for code, items, error in [
@@ -113,7 +119,7 @@ class Lists(unittest.TestCase):
             ("d", None, TypeError),
         ]:
             with self.subTest(code=code, items=items), self.assertRaises(error):
-                _lists.lend(code, items)
+                _lists.numbers(code, items)
 
     def test_pairs(self):
         columns = memoryview(array("d", [0, 0, 10, 1]).tobytes()).cast("d", [2, 2])
@@ -133,8 +139,6 @@ class Lists(unittest.TestCase):
         t, v = numpy.array([0, 1, 0.0]), numpy.array([1, 2, 3.0])
         m, e = numpy.array([0, 1, 0], numpy.uint8), numpy.array([2, 3], numpy.uint64)
         self.assertEqual(self.baked(t, v, m, e), self.track)
-        self.assertEqual(ctypes.addressof(_lists.lend("d", t).pointer.contents), t.ctypes.data)
-        self.assertEqual(ctypes.addressof(_lists.lend("Q", e).pointer.contents), e.ctypes.data)
         self.assertEqual(self.baked(t.astype("f4"), v.astype("i8"), m.astype(bool), e.astype("i4")), self.track)
         self.assertEqual(self.baked(numpy.array([0, 9, 1, 9, 0.0])[::2], v, m, e), self.track)
         self.assertEqual(self.baked(list(t), list(v.astype("f4")), list(m), list(e)), self.track)
@@ -142,7 +146,7 @@ class Lists(unittest.TestCase):
             with self.assertRaises(TypeError):
                 self.baked(bad, v, m, e)
         with self.assertRaises(ValueError):
-            _lists.lend("d", numpy.array([2**53 + 1]))
+            _lists.numbers("d", numpy.array([2**53 + 1]))
         r = Resolver()
         r.accept(numpy.int64(2), numpy.array([[0, 0], [10, 1]]), numpy.zeros((0, 2)))
         self.assertEqual(r.standing.starts, ((0.0, 0), (10.0, 1)))
@@ -166,6 +170,32 @@ class Copies(unittest.TestCase):
         with self.assertRaises(TypeError):
             pickle.dumps(r)
         self.assertEqual(pickle.loads(pickle.dumps(Refused(5))).number, 5)
+
+
+class Threads(unittest.TestCase):
+    def test_any_threads(self):
+        """Questions while another thread accepts: each answer is of one of the two sets, whole."""
+        r = Resolver()
+        sets = [(1, [(0, 0)]), (256, [(i, i) for i in range(256)])]
+        r.accept(*sets[0])
+        samples = Samples(range(256), range(256), bytes(256), range(1, 257)), Samples([0], [7], [0], [1])
+        told = set()
+
+        def ask():
+            for _ in range(2000):
+                for lent in samples:
+                    try:
+                        told.add(len(r.bake(lent)))
+                    except Refused as refused:
+                        told.add(f"refused with {refused.number}")
+
+        threads = [threading.Thread(target=ask) for _ in range(3)]
+        for thread in threads:
+            thread.start()
+        while any(thread.is_alive() for thread in threads):
+            for made in sets:
+                r.accept(*made)
+        self.assertLessEqual(told, {0, 255, "refused with 1"})
 
 
 class Library(unittest.TestCase):
