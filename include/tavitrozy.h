@@ -50,32 +50,19 @@
 
 /* ---- refusals. Where several apply the first in the order given at the call is told. */
 
-/* a clip count or an input list above its limit, paired lists of unlike length, or clip ends unlike the set's clips in number */
-#define TAVITROZY_REFUSED_MISSHAPEN 1
-/* a time, or a template's or retiming's number, not finite; a time beyond 2^40 (also after expansion or retiming); a NaN under mark 0 */
-#define TAVITROZY_REFUSED_UNSTORABLE 2
-/* a clip number not finite, negative, not whole or not below the clip count */
-#define TAVITROZY_REFUSED_NO_CLIP_NUMBER 3
-/* two equal starts (-0.0 and 0.0 are equal) */
-#define TAVITROZY_REFUSED_EQUAL_STARTS 4
-/* three knots of one x (two are a jump, and fine) */
-#define TAVITROZY_REFUSED_THREE_EQUAL_KNOTS 5
-/* a pattern without #, with more runs of # than it may have, or with too wide a run */
-#define TAVITROZY_REFUSED_UNREADABLE_TEMPLATE 6
-/* stride <= 0, end < start, |offset| > stride */
-#define TAVITROZY_REFUSED_DISORDERED_TEMPLATE 7
-/* a 257th clip from a template */
-#define TAVITROZY_REFUSED_TOO_MANY_CLIPS 8
-/* samples not strictly ascending within a clip, clip ends falling or not closing the list, a mark not allowed in its place */
-#define TAVITROZY_REFUSED_BAD_SAMPLES 9
-/* a stage time asked about that is not finite */
-#define TAVITROZY_REFUSED_TIME_NOT_FINITE 10
-/* no set stands */
-#define TAVITROZY_REFUSED_NO_SET 20
-/* the set is already retimed */
-#define TAVITROZY_REFUSED_ALREADY_RETIMED 21
-/* the shortest of the output lists is shorter than the reply */
-#define TAVITROZY_REFUSED_NO_ROOM 22
+#define TAVITROZY_REFUSED_MISSHAPEN 1           /* a clip count or an input list above its limit, paired lists of unlike length, clip ends unlike the set's clips in number */
+#define TAVITROZY_REFUSED_UNSTORABLE 2          /* a time, or a template's or retiming's number, not finite; a time beyond 2^40 (also after expansion or retiming); a NaN under mark 0 */
+#define TAVITROZY_REFUSED_NO_CLIP_NUMBER 3      /* a clip number not finite, negative, not whole or not below the clip count */
+#define TAVITROZY_REFUSED_EQUAL_STARTS 4        /* two equal starts (-0.0 and 0.0 are equal) */
+#define TAVITROZY_REFUSED_THREE_EQUAL_KNOTS 5   /* three knots of one x (two are a jump, and fine) */
+#define TAVITROZY_REFUSED_UNREADABLE_TEMPLATE 6 /* a pattern without #, with a # too many, or with too wide a run of them */
+#define TAVITROZY_REFUSED_DISORDERED_TEMPLATE 7 /* stride <= 0, end < start, |offset| > stride */
+#define TAVITROZY_REFUSED_TOO_MANY_CLIPS 8      /* a 257th clip from a template */
+#define TAVITROZY_REFUSED_BAD_SAMPLES 9         /* samples not strictly ascending within a clip, clip ends falling or not closing the list, a mark not allowed in its place */
+#define TAVITROZY_REFUSED_TIME_NOT_FINITE 10    /* a stage time asked about that is not finite */
+#define TAVITROZY_REFUSED_NO_SET 20             /* no set stands */
+#define TAVITROZY_REFUSED_ALREADY_RETIMED 21    /* the set is already retimed */
+#define TAVITROZY_REFUSED_NO_ROOM 22            /* the shortest of the output lists is shorter than the reply */
 
 /* ---- marks: what a value slot holds */
 

@@ -6,20 +6,21 @@ from typing import Union
 
 from . import _library
 
+# as in include/tavitrozy.h
 _WORDS = {
-    1: "a clip count or a list above its limit, paired lists of unlike length, or clip ends unlike the set's clips in number",
-    2: "a time, or a template's or retiming's number, not finite or beyond 2^40, or a value that is a NaN",
+    1: "a clip count or an input list above its limit, paired lists of unlike length, clip ends unlike the set's clips in number",
+    2: "a time, or a template's or retiming's number, not finite; a time beyond 2^40 (also after expansion or retiming); a NaN under mark 0",
     3: "a clip number not finite, negative, not whole or not below the clip count",
-    4: "two equal starts",
-    5: "three knots of one stage time",
-    6: "a template that cannot be read",
-    7: "a template with stride <= 0, end < start or |offset| > stride",
-    8: "a template of more than 256 clips",
-    9: "samples not strictly ascending within a clip, clip ends falling or not closing the list, or a mark not allowed in its place",
-    10: "a stage time that is not finite",
+    4: "two equal starts (-0.0 and 0.0 are equal)",
+    5: "three knots of one x (two are a jump, and fine)",
+    6: "a pattern without #, with a # too many, or with too wide a run of them",
+    7: "stride <= 0, end < start, |offset| > stride",
+    8: "a 257th clip from a template",
+    9: "samples not strictly ascending within a clip, clip ends falling or not closing the list, a mark not allowed in its place",
+    10: "a stage time asked about that is not finite",
     20: "no set stands",
     21: "the set is already retimed",
-    22: "an output list shorter than the reply",
+    22: "the shortest of the output lists is shorter than the reply",
 }
 
 

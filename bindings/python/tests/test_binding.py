@@ -5,11 +5,13 @@ import ctypes
 import math
 import os
 import pickle
+import re
 import subprocess
 import sys
 import threading
 import unittest
 from array import array
+from pathlib import Path
 
 import tavitrozy
 from tavitrozy import Absent, Blocked, Refused, Resolver, Samples, Track, Value, _library, _lists
@@ -210,8 +212,16 @@ class Library(unittest.TestCase):
             self.assertNotEqual(reply.returncode, 0)
             self.assertIn("ImportError", reply.stderr)
 
+    def test_as_the_header_has_it(self):
+        text = (Path(__file__).resolve().parents[3] / "include/tavitrozy.h").read_text()
+        said = {int(number): words for number, words in re.findall(r"^#define TAVITROZY_REFUSED_\w+ (\d+) +/\* (.*) \*/$", text, re.M)}
+        self.assertEqual({number: Refused(number).words for number in said}, said)
+        self.assertEqual(len(said), 13)
+        limits = dict(re.findall(r"^#define TAVITROZY_(MAX_\w+) ([0-9.]+)", text, re.M))
+        self.assertEqual({name: float(value) for name, value in limits.items()}, {name: getattr(tavitrozy, name) for name in limits})
+        self.assertEqual(len(limits), 8)
+
     def test_limits(self):
-        self.assertEqual((tavitrozy.MAX_KNOTS, tavitrozy.MAX_TIME), (512, 1099511627776.0))
         with self.assertRaises(Refused):
             Resolver().accept(1, [(math.nextafter(tavitrozy.MAX_TIME, math.inf), 0)])
 

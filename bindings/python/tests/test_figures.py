@@ -143,7 +143,7 @@ class Refusals(unittest.TestCase):
         self.refused(6, tavitrozy.name, "f.usd", 1)
 
     def test_words(self):
-        self.assertEqual(str(Refused(4)), "refused with 4: two equal starts")
+        self.assertEqual(str(Refused(4)), "refused with 4: two equal starts (-0.0 and 0.0 are equal)")
 
 
 def _below(time):
