@@ -1,7 +1,7 @@
 # Builds, installs and tests the library.
 #
 #   make                                target/lib: libtavitrozy.a, libtavitrozy.so.0.1.0 with its links, tavitrozy.pc
-#   make install PREFIX=.. [DESTDIR=..] header, libraries, pkg-config file, licence
+#   make install PREFIX=.. [DESTDIR=..] header, libraries, pkg-config file, licence and documents
 #   make uninstall PREFIX=.. [DESTDIR=..]
 #   make examples                       target/examples: the C and C++ programs of examples/
 #   make test                           builds programs against an installed tree and runs them
@@ -88,6 +88,7 @@ $(programs): $(static) include/tavitrozy.h
 # ---- where it goes
 
 to = $(DESTDIR)$(abspath $(1))
+documents = LICENSE NOTICE $(wildcard docs/VALUE-CLIPS.md docs/READING-A-TRACK.md docs/*.svg)
 
 install: all
 	@$(INSTALL) -d $(call to,$(INCLUDEDIR)) $(call to,$(LIBDIR))/pkgconfig $(call to,$(DOCDIR))
@@ -97,13 +98,13 @@ install: all
 	@ln -sf $(notdir $(shared)) $(call to,$(LIBDIR))/$(soname)
 	@ln -sf $(notdir $(shared)) $(call to,$(LIBDIR))/libtavitrozy.so
 	@$(filled_in) >$(call to,$(LIBDIR))/pkgconfig/tavitrozy.pc
-	@$(INSTALL) -m 644 LICENSE NOTICE $(call to,$(DOCDIR))
+	@$(INSTALL) -m 644 $(documents) $(call to,$(DOCDIR))
 	@echo "installed under $(DESTDIR)$(abspath $(PREFIX))"
 
 uninstall:
 	@rm -f $(call to,$(INCLUDEDIR))/tavitrozy.h $(call to,$(LIBDIR))/libtavitrozy.a $(call to,$(LIBDIR))/pkgconfig/tavitrozy.pc
 	@rm -f $(addprefix $(call to,$(LIBDIR))/,$(notdir $(shared) $(links)))
-	@rm -f $(call to,$(DOCDIR))/LICENSE $(call to,$(DOCDIR))/NOTICE
+	@rm -f $(addprefix $(call to,$(DOCDIR))/,$(notdir $(documents)))
 	@rmdir $(call to,$(DOCDIR)) 2>/dev/null || true
 
 # ---- tests

@@ -1,7 +1,7 @@
 /* Tavitrozy: OpenUSD value clips resolved and baked, exactly. Version 0.1.0, for x86-64 Linux.
  *
  * A resolver holds one clip set, or none. It answers what an attribute is at a stage time, and bakes the whole answer into a track: a head, and every
- * change at the very double where the value changes. docs/VALUE-CLIPS.md says what every call answers, for every argument; the words used here:
+ * change at the very double where the value changes. docs/VALUE-CLIPS.md (share/doc/tavitrozy where installed) says what every call answers. Words used here:
  *
  *   start   an entry of `active`: from this stage time on that clip is active       block   no value: nothing is drawn
  *   knot    an entry of `times`: at stage time x the clip time is y                 head    what holds before a track's first change
@@ -19,9 +19,9 @@
  *
  * LISTS. Nothing is allocated and nothing is kept: every list is the caller's, lent as a pointer and a length for the length of the call.
  *   - NULL is fine where the length is 0.
- *   - What a call writes must not overlap anything else that it is lent: not its outputs each other or its inputs, and not the resolver its lists.
- *     The library is proved on this premise. A bake into its own samples reads what it has just written and may write behind its lists; normalising in
- *     place loses a sample. Lists that are only read may overlap.
+ *   - What a call writes must not overlap anything else that it is lent. Outputs lie apart from each other, from the inputs and from the resolver; and
+ *     since an acceptance writes the resolver, its inputs are not the resolver's own lists. The library is proved on this premise: a bake into its own
+ *     samples reads what it has just written and may write behind its lists, and normalising in place loses a sample. Lists that are only read may overlap.
  *   - A list's length may be any, and its numbers too: what is wrong is refused, NaNs and infinities included. A pointer must be good for its length.
  *
  * THE RESOLVER may be read and copied (it is one plain struct), but its fields are written by these calls alone: every call rests on that.
