@@ -1,39 +1,67 @@
-// The sheet program of sheet.c, through the safe wrapper.
-#[path = "../bindings/rust/tavitrozy.rs"]
-#[allow(dead_code)]
-mod tavitrozy;
-use tavitrozy::{Default, Explicit, Resolver, Samples, StageTime};
+//! A sheet program: what is drawn at stage times 24, 25, .., read from a baked track alone. The same as sheet.c, through
+//! the Rust crate.
 
-fn main() -> Result<(), String> {
-    let refused = |what: &str| { let what = what.to_string(); move |n: u8| format!("{what} is refused with {n}") };
-    let mut resolver = Resolver::fresh();
-    resolver
-        .accept(&Explicit {
-            clips: 2,
-            starts: &[20.0, 28.0],
-            numbers: &[0.0, 1.0],
-            xs: &[20.0, 28.0, 36.0],
-            ys: &[10.0, 0.0, 8.0],
-            blocks: &[],
-            fallback: Default::NONE,
-            interpolate: false,
-        })
-        .map_err(refused("the set"))?;
-    let samples = Samples {
-        times: &[0.0, 10.0, 0.0, 2.0],
-        values: &[1.0, 2.0, 3.0, 0.0],
-        marks: &[0, 0, 0, 1],
-        ends: &[2, 4],
-    };
-    let slots = resolver.change_count(samples).map_err(refused("the samples"))?;
-    let track = resolver.bake(samples, slots).map_err(refused("the bake"))?;
-    println!("{} changes", track.times.len());
+use tavitrozy::{
+    Answer, ClipTime, Explicit, Refusal, Resolver, SampleLists, StageTime, StandingSet,
+};
+
+/// Starts 20 and 28, knots (20,10) (28,0) (36,8).
+const SET: Explicit = Explicit::new(2)
+    .starts(&[20.0, 28.0], &[0.0, 1.0])
+    .knots(&[20.0, 28.0, 36.0], &[10.0, 0.0, 8.0]);
+
+/// Each clip's samples: clip time and value, none for a block.
+const CLIPS: [&[(f64, Option<f64>)]; 2] = [
+    &[(0.0, Some(1.0)), (10.0, Some(2.0))],
+    &[(0.0, Some(3.0)), (2.0, None)],
+];
+
+fn print_set(set: &StandingSet) {
+    print!("set: {} clips, starts", set.clips);
+    for (StageTime(time), clip) in set.starts() {
+        print!(" {time} (clip {clip})");
+    }
+    print!(", knots");
+    for (StageTime(x), ClipTime(y)) in set.knots() {
+        print!(" {x}->{y}");
+    }
+    println!();
+}
+
+fn print_clip(number: usize, samples: &[(f64, Option<f64>)]) {
+    print!("clip {number}:");
+    for (time, value) in samples {
+        match value {
+            Some(value) => print!(" {time}->{value}"),
+            None => print!(" {time}->block"),
+        }
+    }
+    println!();
+}
+
+fn main() -> Result<(), Refusal> {
+    assert!(
+        tavitrozy::environment_is_exact(),
+        "doubles are not computed as the library needs"
+    );
+    let mut resolver = Resolver::new();
+    resolver.accept(&SET)?;
+    if let Some(set) = resolver.standing() {
+        print_set(&set);
+    }
+    let mut lists = SampleLists::new();
+    for (number, samples) in CLIPS.into_iter().enumerate() {
+        print_clip(number, samples);
+        lists.push_clip(samples.iter().copied());
+    }
+
+    // From here on the track is all that a sheet program has.
+    let track = resolver.bake(&lists.lent())?;
+    println!("{} changes", track.len());
     for frame in 24..=32 {
-        let e = track.read(StageTime(frame as f64));
-        if e.mark == 0 {
-            println!("{frame}: drawn at {}", e.value);
-        } else {
-            println!("{frame}: not drawn");
+        match track.read(StageTime(f64::from(frame))) {
+            Answer::Value(value) => println!("{frame}: drawn at {value}"),
+            Answer::Blocked | Answer::Absent => println!("{frame}: not drawn"),
         }
     }
     Ok(())

@@ -1,0 +1,50 @@
+#![doc = include_str!("../README.md")]
+
+mod environment;
+mod ffi;
+mod names;
+mod refusal;
+mod resolver;
+mod samples;
+mod set;
+mod times;
+mod track;
+
+pub use environment::environment_is_exact;
+pub use names::{name, name_into, template_clip_times, template_clip_times_into};
+pub use refusal::Refusal;
+pub use resolver::{Resolver, State, Supplied};
+pub use samples::{SampleLists, Samples, normalize, normalize_into};
+pub use set::{Explicit, Fallback, LayerOffset, StandingSet, Template, TemplateTimes};
+pub use times::{ClipTime, StageTime};
+pub use track::{Answer, Change, Track};
+
+/// The marks that stand beside values in lent lists.
+pub mod mark {
+    /// The slot holds a value.
+    pub const VALUE: u8 = 0;
+    /// A block; the slot says nothing.
+    pub const BLOCK: u8 = 1;
+    /// None: an absent answer.
+    pub const NONE: u8 = 2;
+}
+
+/// What a set, its samples and a template may have at most.
+pub mod limit {
+    /// Clips of a set.
+    pub const CLIPS: usize = 256;
+    /// Starts of a set.
+    pub const STARTS: usize = 256;
+    /// Knots of a set.
+    pub const KNOTS: usize = 512;
+    /// Block times of a manifest.
+    pub const BLOCKS: usize = 256;
+    /// Samples over all clips, and samples to normalise.
+    pub const SAMPLES: usize = 4096;
+    /// Bytes of a template's pattern.
+    pub const PATTERN: usize = 255;
+    /// Bytes of a name.
+    pub const NAME: usize = 268;
+    /// The magnitude of every stored time: 2^40.
+    pub const TIME: f64 = 1_099_511_627_776.0;
+}

@@ -1,0 +1,389 @@
+//! The resolver: the one set that stands, and every question about it.
+
+use crate::set::StandingSet;
+use crate::{Answer, ClipTime, Explicit, LayerOffset, Refusal, Samples, StageTime, Template, Track};
+use crate::{ffi, limit, mark};
+
+/// Holds one clip set, or none, and answers questions about it. A refused call leaves it as it was.
+///
+/// A question lends the resolver's lists and copies nothing; several threads may ask the same resolver at once.
+///
+/// ```
+/// use tavitrozy::{Answer, Explicit, Resolver, SampleLists, StageTime};
+///
+/// let mut resolver = Resolver::new();
+/// resolver.accept(&Explicit::new(2).starts(&[0.0, 20.0], &[0.0, 1.0]).knots(&[0.0, 20.0], &[10.0, 0.0]))?;
+/// let mut clips = SampleLists::new();
+/// clips.push_clip([(0.0, Some(1.0)), (10.0, Some(2.0))]);
+/// clips.push_clip([(0.0, Some(3.0))]);
+///
+/// assert_eq!(resolver.value(&clips.lent(), StageTime(5.0))?, Answer::Value(2.0));
+/// let track = resolver.bake(&clips.lent())?;
+/// assert_eq!(track.head(), Answer::Value(2.0));
+/// assert_eq!((track.times(), track.values()), (&[20.0][..], &[3.0][..]));
+/// # Ok::<(), tavitrozy::Refusal>(())
+/// ```
+#[derive(Clone)]
+pub struct Resolver {
+    shape: ffi::Shape,
+    lists: Box<ffi::Lists>,
+}
+
+/// What a set says without a time.
+#[derive(Clone, Copy, Debug, PartialEq, Eq, Hash)]
+pub enum State {
+    /// There is a value somewhere.
+    Present,
+    /// Nothing but blocks.
+    Blocked,
+    /// The set has no starts.
+    Absent,
+}
+
+/// What is supplied at a stage sample's time.
+#[derive(Clone, Copy, Debug, PartialEq, Eq, Hash)]
+pub enum Supplied {
+    /// Something opaque: a value.
+    Opaque,
+    /// A block.
+    Blocked,
+}
+
+/// A call that asks: the shape, its lists lent for reading, and the rest.
+macro_rules! asked {
+    ($call:ident, $resolver:expr $(, $rest:expr)*) => {{
+        let lists = &*$resolver.lists;
+        // SAFETY: each pointer comes with its own list's length, and the lists are only read; the shape and the lists
+        // are those that a call of the library handed back, since nothing else writes them.
+        unsafe {
+            ffi::$call(
+                $resolver.shape,
+                lists.starts.as_ptr(),
+                lists.starts.len(),
+                lists.numbers.as_ptr(),
+                lists.numbers.len(),
+                lists.xs.as_ptr(),
+                lists.xs.len(),
+                lists.ys.as_ptr(),
+                lists.ys.len(),
+                lists.blocks.as_ptr(),
+                lists.blocks.len()
+                $(, $rest)*
+            )
+        }
+    }};
+}
+
+/// A call that asks about samples.
+macro_rules! asked_with {
+    ($call:ident, $resolver:expr, $samples:expr $(, $rest:expr)*) => {{
+        let Samples { times, values, marks, ends } = *$samples;
+        asked!(
+            $call, $resolver, times.as_ptr(), times.len(), values.as_ptr(), values.len(), marks.as_ptr(), marks.len(),
+            ends.as_ptr(), ends.len() $(, $rest)*
+        )
+    }};
+}
+
+/// A call that may change what stands: the lists are lent for writing, and the shape that comes back is kept.
+macro_rules! settled {
+    ($call:ident, $resolver:expr $(, $rest:expr)*) => {{
+        let lists = &mut *$resolver.lists;
+        // SAFETY: as where a call asks; the lists are borrowed for writing, so no list of the arguments overlaps them.
+        let settled = unsafe {
+            ffi::$call(
+                $resolver.shape,
+                lists.starts.as_mut_ptr(),
+                lists.starts.len(),
+                lists.numbers.as_mut_ptr(),
+                lists.numbers.len(),
+                lists.xs.as_mut_ptr(),
+                lists.xs.len(),
+                lists.ys.as_mut_ptr(),
+                lists.ys.len(),
+                lists.blocks.as_mut_ptr(),
+                lists.blocks.len()
+                $(, $rest)*
+            )
+        };
+        $resolver.shape = settled.shape;
+        Refusal::checked(settled.number, ())
+    }};
+}
+
+/// How many changes a bake makes room for before it asks how many there are.
+const FEW: usize = 256;
+
+impl Resolver {
+    /// A resolver in which no set stands.
+    #[must_use]
+    pub fn new() -> Resolver {
+        let lists = ffi::Lists {
+            starts: [0.0; limit::STARTS],
+            numbers: [0; limit::STARTS],
+            xs: [0.0; limit::KNOTS],
+            ys: [0.0; limit::KNOTS],
+            blocks: [0.0; limit::BLOCKS],
+        };
+        // SAFETY: the call takes nothing.
+        Resolver { shape: unsafe { ffi::tavitrozy_lent_fresh() }, lists: Box::new(lists) }
+    }
+
+    /// Takes an explicit set, which replaces the one that stood.
+    ///
+    /// # Errors
+    ///
+    /// 1, 2, 3, 4, 5.
+    pub fn accept(&mut self, set: &Explicit<'_>) -> Result<(), Refusal> {
+        self.accept_marked(set, set.fallback.marked().mark)
+    }
+
+    /// [`accept`](Self::accept) with any byte as the default's mark, so that 9 can be asked for: for tests of the library.
+    #[doc(hidden)]
+    pub fn accept_marked(&mut self, set: &Explicit<'_>, default_mark: u8) -> Result<(), Refusal> {
+        settled!(
+            tavitrozy_lent_accept,
+            self,
+            set.clips,
+            set.start_times.as_ptr(),
+            set.start_times.len(),
+            set.start_clips.as_ptr(),
+            set.start_clips.len(),
+            set.knot_xs.as_ptr(),
+            set.knot_xs.len(),
+            set.knot_ys.as_ptr(),
+            set.knot_ys.len(),
+            set.blocks.as_ptr(),
+            set.blocks.len(),
+            ffi::Marked { mark: default_mark, ..set.fallback.marked() },
+            set.interpolate
+        )
+    }
+
+    /// Takes a template set, which replaces the one that stood.
+    ///
+    /// # Errors
+    ///
+    /// 1, 2, 7, 6, 8, then 2, 4 and 5 for what the template expands to.
+    pub fn accept_template(&mut self, set: &Template<'_>) -> Result<(), Refusal> {
+        self.accept_template_marked(set, set.fallback.marked().mark)
+    }
+
+    /// [`accept_template`](Self::accept_template) with any byte as the default's mark: for tests of the library.
+    #[doc(hidden)]
+    pub fn accept_template_marked(&mut self, set: &Template<'_>, default_mark: u8) -> Result<(), Refusal> {
+        let (times, has_offset) = set.times.lent();
+        settled!(
+            tavitrozy_lent_accept_template,
+            self,
+            set.pattern.as_ptr(),
+            set.pattern.len(),
+            times,
+            has_offset,
+            set.blocks.as_ptr(),
+            set.blocks.len(),
+            ffi::Marked { mark: default_mark, ..set.fallback.marked() },
+            set.interpolate
+        )
+    }
+
+    /// Moves the starts, knots and block times of the standing set; once for each set.
+    ///
+    /// # Errors
+    ///
+    /// 20, 21, 2, 4, 5.
+    pub fn retime(&mut self, offset: LayerOffset) -> Result<(), Refusal> {
+        let LayerOffset { offset, scale } = offset;
+        settled!(tavitrozy_lent_retime, self, ffi::LayerOffset { offset, scale })
+    }
+
+    /// The set that stands, if one does.
+    #[must_use]
+    pub fn standing(&self) -> Option<StandingSet<'_>> {
+        self.shape.stands.then(|| StandingSet::of(&self.shape, &self.lists))
+    }
+
+    /// The number of the active clip: that of the last start at or before the stage time, of the first start if none is;
+    /// `None` where the set has no starts.
+    ///
+    /// # Errors
+    ///
+    /// 20, 10.
+    pub fn active_clip(&self, time: StageTime) -> Result<Option<u64>, Refusal> {
+        let reply = asked!(tavitrozy_lent_active_clip, self, ffi::AtStage { value: time.0 });
+        Refusal::checked(reply.number, reply.found.then_some(reply.clip))
+    }
+
+    /// The clip time to which the knots lead from a stage time.
+    ///
+    /// # Errors
+    ///
+    /// 20, 10.
+    pub fn clip_time(&self, time: StageTime) -> Result<ClipTime, Refusal> {
+        let reply = asked!(tavitrozy_lent_clip_time, self, ffi::AtStage { value: time.0 });
+        Refusal::checked(reply.number, ClipTime(reply.time.value))
+    }
+
+    /// What the attribute is at a stage time.
+    ///
+    /// # Errors
+    ///
+    /// 20, 1, 2, 9, 10.
+    pub fn value(&self, samples: &Samples<'_>, time: StageTime) -> Result<Answer, Refusal> {
+        let reply = asked_with!(tavitrozy_lent_value, self, samples, ffi::AtStage { value: time.0 });
+        Refusal::checked(reply.number, Answer::of_mark(reply.mark, reply.value))
+    }
+
+    /// What the set says without a time.
+    ///
+    /// # Errors
+    ///
+    /// 20, 1, 2, 9.
+    pub fn untimed(&self, samples: &Samples<'_>) -> Result<State, Refusal> {
+        let reply = asked_with!(tavitrozy_lent_untimed, self, samples);
+        let state = match reply.state {
+            0 => State::Present,
+            1 => State::Blocked,
+            _ => State::Absent,
+        };
+        Refusal::checked(reply.number, state)
+    }
+
+    /// How many stage sample times there are, and stage samples.
+    ///
+    /// # Errors
+    ///
+    /// 20, 1, 2, 9.
+    pub fn stage_sample_count(&self, samples: &Samples<'_>) -> Result<usize, Refusal> {
+        let reply = asked_with!(tavitrozy_lent_stage_sample_count, self, samples);
+        Refusal::checked(reply.number, reply.count)
+    }
+
+    /// The stage times at which samples lie, ascending.
+    ///
+    /// # Errors
+    ///
+    /// 20, 1, 2, 9.
+    pub fn stage_sample_times(&self, samples: &Samples<'_>) -> Result<Vec<StageTime>, Refusal> {
+        let mut times = vec![0.0; self.stage_sample_count(samples)?];
+        self.stage_sample_times_into(samples, &mut times)?;
+        Ok(times.into_iter().map(StageTime).collect())
+    }
+
+    /// [`stage_sample_times`](Self::stage_sample_times) written to the front of a lent list; how many there are.
+    ///
+    /// # Errors
+    ///
+    /// 20, 1, 2, 9, 22.
+    pub fn stage_sample_times_into(&self, samples: &Samples<'_>, times: &mut [f64]) -> Result<usize, Refusal> {
+        let reply = asked_with!(tavitrozy_lent_stage_sample_times, self, samples, times.as_mut_ptr(), times.len());
+        Refusal::checked(reply.number, reply.count)
+    }
+
+    /// The stage times at which samples lie, and what is supplied at each.
+    ///
+    /// # Errors
+    ///
+    /// 20, 1, 2, 9.
+    pub fn stage_samples(&self, samples: &Samples<'_>) -> Result<Vec<(StageTime, Supplied)>, Refusal> {
+        let count = self.stage_sample_count(samples)?;
+        let (mut times, mut marks) = (vec![0.0; count], vec![0; count]);
+        self.stage_samples_into(samples, &mut times, &mut marks)?;
+        let supplied = |mark| if mark == mark::VALUE { Supplied::Opaque } else { Supplied::Blocked };
+        Ok(times.into_iter().map(StageTime).zip(marks.into_iter().map(supplied)).collect())
+    }
+
+    /// [`stage_samples`](Self::stage_samples) written to the front of lent lists, as times and [marks](crate::mark); how
+    /// many there are.
+    ///
+    /// # Errors
+    ///
+    /// 20, 1, 2, 9, 22.
+    pub fn stage_samples_into(
+        &self,
+        samples: &Samples<'_>,
+        times: &mut [f64],
+        marks: &mut [u8],
+    ) -> Result<usize, Refusal> {
+        let reply = asked_with!(
+            tavitrozy_lent_stage_samples,
+            self,
+            samples,
+            times.as_mut_ptr(),
+            times.len(),
+            marks.as_mut_ptr(),
+            marks.len()
+        );
+        Refusal::checked(reply.number, reply.count)
+    }
+
+    /// How many changes the track has.
+    ///
+    /// # Errors
+    ///
+    /// 20, 1, 2, 9.
+    pub fn change_count(&self, samples: &Samples<'_>) -> Result<usize, Refusal> {
+        let reply = asked_with!(tavitrozy_lent_change_count, self, samples);
+        Refusal::checked(reply.number, reply.count)
+    }
+
+    /// The whole answer as one track: what holds first, and every change at the very double where the value changes.
+    ///
+    /// # Errors
+    ///
+    /// 20, 1, 2, 9.
+    pub fn bake(&self, samples: &Samples<'_>) -> Result<Track, Refusal> {
+        match self.bake_with_room(samples, FEW) {
+            Err(Refusal::TooFewSlots) => self.bake_with_room(samples, self.change_count(samples)?),
+            baked => baked,
+        }
+    }
+
+    fn bake_with_room(&self, samples: &Samples<'_>, room: usize) -> Result<Track, Refusal> {
+        let (mut times, mut values, mut marks) = (vec![0.0; room], vec![0.0; room], vec![0; room]);
+        let (head, count) = self.bake_into(samples, &mut times, &mut values, &mut marks)?;
+        times.truncate(count);
+        values.truncate(count);
+        marks.truncate(count);
+        Ok(Track::of_lists(head, times, values, marks))
+    }
+
+    /// [`bake`](Self::bake) written to the front of lent lists: the head, and how many changes there are. Slots past the
+    /// changes are left as they are.
+    ///
+    /// # Errors
+    ///
+    /// 20, 1, 2, 9, and 22 exactly where the shortest list has fewer slots than there are changes.
+    pub fn bake_into(
+        &self,
+        samples: &Samples<'_>,
+        times: &mut [f64],
+        values: &mut [f64],
+        marks: &mut [u8],
+    ) -> Result<(Answer, usize), Refusal> {
+        let reply = asked_with!(
+            tavitrozy_lent_bake,
+            self,
+            samples,
+            times.as_mut_ptr(),
+            times.len(),
+            values.as_mut_ptr(),
+            values.len(),
+            marks.as_mut_ptr(),
+            marks.len()
+        );
+        Refusal::checked(reply.number, (Answer::of_mark(reply.mark, reply.value), reply.count))
+    }
+}
+
+impl Default for Resolver {
+    fn default() -> Self {
+        Resolver::new()
+    }
+}
+
+impl std::fmt::Debug for Resolver {
+    fn fmt(&self, f: &mut std::fmt::Formatter<'_>) -> std::fmt::Result {
+        f.debug_tuple("Resolver").field(&self.standing()).finish()
+    }
+}

@@ -1,0 +1,89 @@
+//! Tracks: equality by bits, tracks of any length without a guess of slots, and what `Track::new` takes.
+#![allow(clippy::float_cmp, reason = "what is said to the last bit is compared to the last bit")]
+
+use tavitrozy::{Answer, Change, Explicit, Resolver, SampleLists, StageTime, Track};
+
+fn bake(samples: impl IntoIterator<Item = (f64, Option<f64>)>) -> Track {
+    let mut resolver = Resolver::new();
+    resolver.accept(&Explicit::new(1).starts(&[0.0], &[0.0])).unwrap();
+    let mut lists = SampleLists::new();
+    lists.push_clip(samples);
+    resolver.bake(&lists.lent()).unwrap()
+}
+
+fn change(time: f64, answer: Answer) -> Change {
+    Change { time: StageTime(time), answer }
+}
+
+#[test]
+fn equal_means_alike() {
+    let track = bake([(0.0, Some(1.0)), (1.0, Some(0.0)), (2.0, None)]);
+    assert_eq!(track, bake([(0.0, Some(1.0)), (1.0, Some(0.0)), (2.0, None)]));
+    assert_eq!(track, track.clone());
+    let others: [&[(f64, Option<f64>)]; 6] = [
+        &[(0.0, Some(1.0)), (1.0, Some(-0.0)), (2.0, None)],
+        &[(0.0, Some(1.0)), (1.5, Some(0.0)), (2.0, None)],
+        &[(0.0, Some(1.0)), (1.0, None), (2.0, Some(0.0))],
+        &[(0.0, Some(2.0)), (1.0, Some(0.0)), (2.0, None)],
+        &[(0.0, None), (1.0, Some(0.0)), (2.0, None)],
+        &[(0.0, Some(1.0)), (1.0, Some(0.0))],
+    ];
+    for other in others {
+        assert_ne!(track, bake(other.iter().copied()), "{other:?}");
+    }
+    assert_ne!(Answer::Value(0.0), Answer::Value(-0.0));
+    assert_ne!(Answer::Value(0.0), Answer::Blocked);
+    assert_ne!(Answer::Blocked, Answer::Absent);
+}
+
+#[test]
+fn a_change_at_minus_zero_is_written_as_zero() {
+    let track = bake([(-1.0, Some(1.0)), (-0.0, Some(2.0))]);
+    assert_eq!(track.times()[0].to_bits(), 0);
+    assert_eq!(track, bake([(-1.0, Some(1.0)), (0.0, Some(2.0))]));
+}
+
+#[test]
+fn a_bake_needs_no_guess_of_slots() {
+    for samples in [1, 2, 256, 257, 258, 259, 1000, 4096u16] {
+        let track = bake((0..samples).map(|i| (f64::from(i), Some(f64::from(i)))));
+        assert_eq!(track.len(), usize::from(samples) - 1);
+        assert_eq!((track.values().len(), track.marks().len()), (track.len(), track.len()));
+        assert_eq!(track.read(StageTime(f64::MAX)), Answer::Value(f64::from(samples - 1)));
+        assert_eq!(track.changes().len(), track.len());
+    }
+}
+
+#[test]
+fn a_kept_track_is_made_again() {
+    let track = bake([(0.0, Some(1.0)), (1.0, Some(-0.0)), (2.0, None)]);
+    let again = Track::new(track.head(), track.changes()).unwrap();
+    assert_eq!(again, track);
+    for time in [-5.0, 0.5, 1.0, 1.5, 2.0, 9.0].map(StageTime) {
+        assert_eq!(again.read(time), track.read(time));
+    }
+    assert_eq!(again.read(StageTime(1.0)).value().map(f64::to_bits), Some((-0.0f64).to_bits()));
+    let minus_zero = Track::new(Answer::Blocked, [change(-0.0, Answer::Value(1.0))]).unwrap();
+    assert_eq!(minus_zero.times()[0].to_bits(), 0);
+}
+
+#[test]
+fn no_track_is_made_of_what_no_bake_writes() {
+    let (one, two) = (Answer::Value(1.0), Answer::Value(2.0));
+    let refused: [(Answer, &[Change]); 8] = [
+        (one, &[change(1.0, two), change(1.0, one)]),
+        (one, &[change(1.0, two), change(0.0, one)]),
+        (one, &[change(f64::NAN, two)]),
+        (one, &[change(f64::INFINITY, two)]),
+        (one, &[change(f64::MIN, two)]),
+        (one, &[change(1.0, one)]),
+        (one, &[change(1.0, Answer::Absent)]),
+        (Answer::Absent, &[change(1.0, one)]),
+    ];
+    for (head, changes) in refused {
+        assert!(Track::new(head, changes.iter().copied()).is_none(), "{head:?} {changes:?}");
+    }
+    assert!(Track::new(Answer::Value(f64::NAN), []).is_none());
+    assert!(Track::new(one, [change(1.0, Answer::Value(f64::NAN))]).is_none());
+    assert!(Track::new(Answer::Absent, []).is_some());
+}
