@@ -1,4 +1,4 @@
-//! Links libtavitrozy.a: from `TAVITROZY_LIB_DIR` if that is set, else from this repository's target/staticlib, else from
+//! Links libtavitrozy.a: from `TAVITROZY_LIB_DIR` if that is set, else from where this repository builds it, else from
 //! where pkg-config says that it is installed.
 
 use std::env;
@@ -25,16 +25,15 @@ fn folder() -> PathBuf {
         return folder;
     }
     let here = PathBuf::from(env::var_os("CARGO_MANIFEST_DIR").expect("cargo sets it"));
-    let built = here.join("../../target/staticlib");
-    println!("cargo::rerun-if-changed={}", built.join(FILE).display());
-    if has_library(&built) {
-        return built;
+    // What the prover wrote, and what `make` made of an archive that it was given.
+    let built = ["staticlib", "lib"].map(|folder| here.join("../../target").join(folder));
+    for folder in &built {
+        println!("cargo::rerun-if-changed={}", folder.join(FILE).display());
     }
-    installed().filter(|folder| has_library(folder)).unwrap_or_else(|| {
+    built.into_iter().chain(installed()).find(|folder| has_library(folder)).unwrap_or_else(|| {
         panic!(
-            "{FILE} is not in {}, and pkg-config knows no tavitrozy. Run `make` or `rt staticlib tavitrozy` at the \
-             repository's root, or set TAVITROZY_LIB_DIR to the folder that holds {FILE}.",
-            built.display()
+            "{FILE} is neither in the repository's target/staticlib nor where pkg-config says. Run `make` or \
+             `rt staticlib tavitrozy` at the repository's root, or set TAVITROZY_LIB_DIR to the folder that holds {FILE}."
         )
     })
 }

@@ -42,9 +42,9 @@ pub mod limit {
     /// Samples over all clips, and samples to normalise.
     pub const SAMPLES: usize = 4096;
     /// Bytes of a template's pattern.
-    pub const PATTERN: usize = 255;
+    pub const TEMPLATE_BYTES: usize = 255;
     /// Bytes of a name.
-    pub const NAME: usize = 268;
+    pub const NAME_BYTES: usize = 268;
     /// The magnitude of every stored time: 2^40.
     pub const TIME: f64 = 1_099_511_627_776.0;
 }

@@ -40,7 +40,7 @@ pub fn template_clip_times_into(times: TemplateTimes, out: &mut [f64]) -> Result
 /// # Ok::<(), tavitrozy::Refusal>(())
 /// ```
 pub fn name(pattern: &[u8], time: ClipTime) -> Result<Vec<u8>, Refusal> {
-    let mut slots = [0; limit::NAME];
+    let mut slots = [0; limit::NAME_BYTES];
     let length = name_into(pattern, time, &mut slots)?;
     Ok(slots[..length].to_vec())
 }

@@ -5,86 +5,86 @@ use std::fmt;
 
 /// Why a call was refused. A refused call wrote nothing, and the set that stood still stands.
 ///
-/// Each variant is one of the library's numbers. Where several apply to a call, the header's order for that call says
-/// which one is given.
+/// Each variant is one of the library's numbers. Where several apply to a call, the first in the order that the call
+/// names is given.
 ///
 /// ```
 /// use tavitrozy::{ClipTime, Refusal};
 ///
 /// let refusal = tavitrozy::name(b"no run of hashes", ClipTime(1.0)).unwrap_err();
-/// assert_eq!(refusal, Refusal::UnreadablePattern);
+/// assert_eq!(refusal, Refusal::UnreadableTemplate);
 /// assert_eq!(refusal.number(), 6);
-/// assert_eq!(refusal.to_string(), "a template that cannot be read (6)");
+/// assert_eq!(refusal.to_string(), "a pattern without #, with a # too many, or with too wide a run of them (6)");
 /// ```
 #[non_exhaustive]
 #[derive(Clone, Copy, Debug, PartialEq, Eq, Hash)]
 pub enum Refusal {
-    /// 1: a clip count or an input list above its limit, paired lists of unlike length, or clip ends unlike the set's
-    /// clips in number.
-    Length,
+    /// 1: a clip count or an input list above its limit, paired lists of unlike length, clip ends unlike the set's clips in
+    /// number.
+    Misshapen,
     /// 2: a time, or a template's or retiming's number, not finite; a time beyond 2^40 (also after expansion or
     /// retiming); a NaN as a value.
-    OutOfRange,
+    Unstorable,
     /// 3: a clip number not finite, negative, not whole or not below the clip count.
-    ClipNumber,
-    /// 4: two equal starts.
+    NoClipNumber,
+    /// 4: two equal starts (-0.0 and 0.0 are equal).
     EqualStarts,
-    /// 5: three equal knots.
-    EqualKnots,
-    /// 6: a template that cannot be read.
-    UnreadablePattern,
+    /// 5: three knots of one stage time (two are a jump, and fine).
+    ThreeEqualKnots,
+    /// 6: a pattern without `#`, with a `#` too many, or with too wide a run of them.
+    UnreadableTemplate,
     /// 7: stride <= 0, end < start, |offset| > stride.
-    TemplateTimes,
+    DisorderedTemplate,
     /// 8: a 257th clip from a template.
     TooManyClips,
     /// 9: samples not strictly ascending within a clip, clip ends falling or not closing the list, a mark not allowed in
     /// its place.
-    SampleOrder,
+    BadSamples,
     /// 10: a stage time asked about that is not finite.
-    StageTime,
+    TimeNotFinite,
     /// 20: no set stands.
     NoSet,
     /// 21: the set is already retimed.
     AlreadyRetimed,
     /// 22: the shortest of the output lists is shorter than the reply.
-    TooFewSlots,
+    NoRoom,
 }
 
 impl Refusal {
     /// All of them, by number.
     pub const ALL: [Refusal; 13] = [
-        Refusal::Length,
-        Refusal::OutOfRange,
-        Refusal::ClipNumber,
+        Refusal::Misshapen,
+        Refusal::Unstorable,
+        Refusal::NoClipNumber,
         Refusal::EqualStarts,
-        Refusal::EqualKnots,
-        Refusal::UnreadablePattern,
-        Refusal::TemplateTimes,
+        Refusal::ThreeEqualKnots,
+        Refusal::UnreadableTemplate,
+        Refusal::DisorderedTemplate,
         Refusal::TooManyClips,
-        Refusal::SampleOrder,
-        Refusal::StageTime,
+        Refusal::BadSamples,
+        Refusal::TimeNotFinite,
         Refusal::NoSet,
         Refusal::AlreadyRetimed,
-        Refusal::TooFewSlots,
+        Refusal::NoRoom,
     ];
 
     /// The library's number: 1 to 10 for the input, 20 to 22 for the state.
     #[must_use]
     pub const fn number(self) -> u8 {
         match self {
-            Refusal::Length => 1,
-            Refusal::OutOfRange => 2,
-            Refusal::ClipNumber => 3,
+            Refusal::Misshapen => 1,
+            Refusal::Unstorable => 2,
+            Refusal::NoClipNumber => 3,
             Refusal::EqualStarts => 4,
-            Refusal::EqualKnots => 5,
-            Refusal::UnreadablePattern => 6,
-            Refusal::TemplateTimes => 7,
+            Refusal::ThreeEqualKnots => 5,
+            Refusal::UnreadableTemplate => 6,
+            Refusal::DisorderedTemplate => 7,
             Refusal::TooManyClips => 8,
-            Refusal::SampleOrder => 9,
-            Refusal::StageTime => 10,
+            Refusal::BadSamples => 9,
+            Refusal::TimeNotFinite => 10,
             Refusal::NoSet => 20,
             Refusal::AlreadyRetimed => 21,
-            Refusal::TooFewSlots => 22,
+            Refusal::NoRoom => 22,
         }
     }
 
@@ -97,28 +97,28 @@ impl Refusal {
     /// What the number means, in the words of tavitrozy.h.
     fn meaning(self) -> &'static str {
         match self {
-            Refusal::Length => {
-                "a clip count or an input list above its limit, paired lists of unlike length, or clip ends unlike the \
-                 set's clips in number"
+            Refusal::Misshapen => {
+                "a clip count or an input list above its limit, paired lists of unlike length, clip ends unlike the set's \
+                 clips in number"
             }
-            Refusal::OutOfRange => {
+            Refusal::Unstorable => {
                 "a time, or a template's or retiming's number, not finite; a time beyond 2^40 (also after expansion or \
                  retiming); a NaN under mark 0"
             }
-            Refusal::ClipNumber => "a clip number not finite, negative, not whole or not below the clip count",
-            Refusal::EqualStarts => "two equal starts",
-            Refusal::EqualKnots => "three equal knots",
-            Refusal::UnreadablePattern => "a template that cannot be read",
-            Refusal::TemplateTimes => "stride <= 0, end < start, |offset| > stride",
+            Refusal::NoClipNumber => "a clip number not finite, negative, not whole or not below the clip count",
+            Refusal::EqualStarts => "two equal starts (-0.0 and 0.0 are equal)",
+            Refusal::ThreeEqualKnots => "three knots of one x (two are a jump, and fine)",
+            Refusal::UnreadableTemplate => "a pattern without #, with a # too many, or with too wide a run of them",
+            Refusal::DisorderedTemplate => "stride <= 0, end < start, |offset| > stride",
             Refusal::TooManyClips => "a 257th clip from a template",
-            Refusal::SampleOrder => {
+            Refusal::BadSamples => {
                 "samples not strictly ascending within a clip, clip ends falling or not closing the list, a mark not \
                  allowed in its place"
             }
-            Refusal::StageTime => "a stage time asked about that is not finite",
+            Refusal::TimeNotFinite => "a stage time asked about that is not finite",
             Refusal::NoSet => "no set stands",
             Refusal::AlreadyRetimed => "the set is already retimed",
-            Refusal::TooFewSlots => "the shortest of the output lists is shorter than the reply",
+            Refusal::NoRoom => "the shortest of the output lists is shorter than the reply",
         }
     }
 

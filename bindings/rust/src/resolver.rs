@@ -85,7 +85,8 @@ macro_rules! asked_with {
     }};
 }
 
-/// A call that may change what stands: the lists are lent for writing, and the shape that comes back is kept.
+/// A call that may change what stands: the lists are lent for writing, and the shape that comes back is kept if the call is
+/// accepted.
 macro_rules! settled {
     ($call:ident, $resolver:expr $(, $rest:expr)*) => {{
         let lists = &mut *$resolver.lists;
@@ -106,13 +107,9 @@ macro_rules! settled {
                 $(, $rest)*
             )
         };
-        $resolver.shape = settled.shape;
-        Refusal::checked(settled.number, ())
+        Refusal::checked(settled.number, settled.shape).map(|shape| $resolver.shape = shape)
     }};
 }
-
-/// How many changes a bake makes room for before it asks how many there are.
-const FEW: usize = 256;
 
 impl Resolver {
     /// A resolver in which no set stands.
@@ -333,8 +330,11 @@ impl Resolver {
     ///
     /// 20, 1, 2, 9.
     pub fn bake(&self, samples: &Samples<'_>) -> Result<Track, Refusal> {
-        match self.bake_with_room(samples, FEW) {
-            Err(Refusal::TooFewSlots) => self.bake_with_room(samples, self.change_count(samples)?),
+        // Enough where the knots do not turn back; if the count were asked for first, most bakes would take 1.5 to 2 times
+        // as long.
+        let starts = self.standing().map_or(0, |set| set.start_times.len());
+        match self.bake_with_room(samples, samples.times.len().min(limit::SAMPLES) + starts) {
+            Err(Refusal::NoRoom) => self.bake_with_room(samples, self.change_count(samples)?),
             baked => baked,
         }
     }
@@ -342,9 +342,9 @@ impl Resolver {
     fn bake_with_room(&self, samples: &Samples<'_>, room: usize) -> Result<Track, Refusal> {
         let (mut times, mut values, mut marks) = (vec![0.0; room], vec![0.0; room], vec![0; room]);
         let (head, count) = self.bake_into(samples, &mut times, &mut values, &mut marks)?;
-        times.truncate(count);
-        values.truncate(count);
-        marks.truncate(count);
+        cut(&mut times, count);
+        cut(&mut values, count);
+        cut(&mut marks, count);
         Ok(Track::of_lists(head, times, values, marks))
     }
 
@@ -374,6 +374,12 @@ impl Resolver {
         );
         Refusal::checked(reply.number, (Answer::of_mark(reply.mark, reply.value), reply.count))
     }
+}
+
+/// Keeps the first entries, and no room for more.
+fn cut<T>(list: &mut Vec<T>, count: usize) {
+    list.truncate(count);
+    list.shrink_to_fit();
 }
 
 impl Default for Resolver {

@@ -8,9 +8,9 @@ use crate::{ClipTime, StageTime, mark};
 pub enum Fallback {
     /// The manifest has none.
     None,
-    /// A block: it counts as no value, and is not drawn.
+    /// A block; it answers as if there were none.
     Block,
-    /// A value; a NaN is refused with [`Refusal::OutOfRange`](crate::Refusal::OutOfRange).
+    /// A value; a NaN is refused with [`Refusal::Unstorable`](crate::Refusal::Unstorable).
     Value(f64),
 }
 

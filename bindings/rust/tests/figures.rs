@@ -52,12 +52,12 @@ fn zeros_of_both_signs_are_equal_starts() {
 
 #[test]
 fn a_clip_number_is_whole() {
-    assert_eq!(refused(&Explicit::new(2).starts(&[0.0], &[1.5])), Refusal::ClipNumber);
+    assert_eq!(refused(&Explicit::new(2).starts(&[0.0], &[1.5])), Refusal::NoClipNumber);
 }
 
 #[test]
 fn two_knots_may_share_a_stage_time_and_three_may_not() {
-    assert_eq!(refused(&Explicit::new(0).knots(&[5.0, 5.0, 5.0], &[0.0, 1.0, 2.0])), Refusal::EqualKnots);
+    assert_eq!(refused(&Explicit::new(0).knots(&[5.0, 5.0, 5.0], &[0.0, 1.0, 2.0])), Refusal::ThreeEqualKnots);
     accepted(&Explicit::new(0).knots(&[5.0, 5.0], &[0.0, 1.0]));
 }
 
@@ -87,7 +87,7 @@ fn a_template_of_one_clip_with_offset_zero_has_three_equal_knots() {
     let times = TemplateTimes::new(1.0, 1.0, 1.0);
     let mut resolver = Resolver::new();
     let with_offset = Template::new(b"f.###.usd", times.offset(0.0));
-    assert_eq!(resolver.accept_template(&with_offset), Err(Refusal::EqualKnots));
+    assert_eq!(resolver.accept_template(&with_offset), Err(Refusal::ThreeEqualKnots));
     assert_eq!(resolver.accept_template(&Template::new(b"f.###.usd", times)), Ok(()));
 }
 

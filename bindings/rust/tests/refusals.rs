@@ -1,4 +1,4 @@
-//! Each number at least once, that it is said in the header's words, and that a refused call changes nothing.
+//! Each number at least once, and that a refused call changes nothing.
 #![allow(clippy::float_cmp, reason = "what is said to the last bit is compared to the last bit")]
 
 use tavitrozy::{
@@ -34,7 +34,7 @@ fn one_long_and_unlike_lists() {
     let many = vec![0.0; limit::KNOTS + 1];
     assert_eq!(accept(&Explicit::new(1).knots(&many, &many)), 1);
     assert_eq!(accept(&Explicit::new(1).blocks(&many[..=limit::BLOCKS])), 1);
-    assert_eq!(template(&[b'#'; limit::PATTERN + 1], TemplateTimes::new(1.0, 1.0, 1.0)), 1);
+    assert_eq!(template(&[b'#'; limit::TEMPLATE_BYTES + 1], TemplateTimes::new(1.0, 1.0, 1.0)), 1);
     assert_eq!(number(standing().bake(&Samples::new(&[], &[], &[], &[]))), 1);
     assert_eq!(number(tavitrozy::normalize(&[0.0], &[], &[])), 1);
     assert_eq!(number(tavitrozy::name(&[b'#'; 256], ClipTime(0.0))), 1);
@@ -186,18 +186,4 @@ fn numbers_and_words() {
     }
     assert_eq!(Refusal::of_number(0), None);
     assert_eq!(Refusal::of_number(11), None);
-}
-
-/// The words of each refusal stand in the header, apart from how lines are broken there.
-#[test]
-fn the_words_are_the_headers() {
-    let path = concat!(env!("CARGO_MANIFEST_DIR"), "/../../include/tavitrozy.h");
-    let Ok(header) = std::fs::read_to_string(path) else { return };
-    let plain = |text: &str| text.split_whitespace().filter(|&word| word != "*").collect::<Vec<_>>().join(" ");
-    let header = plain(&header);
-    for refusal in Refusal::ALL {
-        let words = refusal.to_string();
-        let (meaning, _) = words.rsplit_once(" (").unwrap();
-        assert!(header.contains(&plain(meaning)), "tavitrozy.h does not say: {meaning}");
-    }
 }

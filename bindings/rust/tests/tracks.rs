@@ -55,6 +55,24 @@ fn a_bake_needs_no_guess_of_slots() {
 }
 
 #[test]
+fn a_bake_has_more_changes_than_samples_where_knots_turn_back() {
+    let knots: Vec<f64> = (0..100u8).map(f64::from).collect();
+    let ys: Vec<f64> = (0..100u8).map(|i| f64::from(i % 2) * 50.0).collect();
+    let mut resolver = Resolver::new();
+    resolver.accept(&Explicit::new(1).starts(&[0.0], &[0.0]).knots(&knots, &ys)).unwrap();
+    let mut lists = SampleLists::new();
+    lists.push_clip((0..50u8).map(|i| (f64::from(i) + 0.5, Some(f64::from(i)))));
+    let samples = lists.lent();
+    let track = resolver.bake(&samples).unwrap();
+    assert_eq!(Ok(track.len()), resolver.change_count(&samples));
+    assert!(track.len() > 4000, "{}", track.len());
+    for (time, before) in track.changes().map(|change| (change.time, change.time.0.next_down())) {
+        assert_eq!(Ok(track.read(time)), resolver.value(&samples, time));
+        assert_eq!(Ok(track.read(StageTime(before))), resolver.value(&samples, StageTime(before)));
+    }
+}
+
+#[test]
 fn a_kept_track_is_made_again() {
     let track = bake([(0.0, Some(1.0)), (1.0, Some(-0.0)), (2.0, None)]);
     let again = Track::new(track.head(), track.changes()).unwrap();
