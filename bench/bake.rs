@@ -1,5 +1,6 @@
-//! The plain Rust bake: what the library's bake is held against. Document 01's track by DESIGN.md's cells, with the
-//! library's contract: the changes are counted first, and a refusal alters no lent list.
+//! The plain Rust bake: what the library's bake is held against. The track of docs/VALUE-CLIPS.md, walked by cells: from
+//! one time at which the source of the value may change to the next. It has the library's contract: the changes are
+//! counted first, and a refusal alters no lent list.
 
 use crate::calls::Samples;
 use crate::doubles::{at, place};
@@ -8,7 +9,7 @@ use crate::plain::{ABSENT, Answer, BLOCKED, Set, along, number};
 
 type Knot = (f64, f64);
 
-/// The stage time at which a segment reaches a clip time, by document 01's inverse formula.
+/// The stage time at which a segment reaches a clip time, by the inverse formula.
 fn inverse((sa, ca): Knot, (sb, cb): Knot, c: f64) -> f64 {
     sa + (c - ca) / (cb - ca) * (sb - sa)
 }

@@ -27,15 +27,17 @@ mod track;
 
 mod bake;
 mod check;
+mod limits;
 mod measure;
 mod rust;
 mod sets;
 
 use std::hint::black_box;
+use std::io::Write;
 use std::time::Duration;
 
 use measure::{Baked, bake_apart, take_turns};
-use rust::{Library, Rust};
+use rust::{Library, Lists, Rust};
 use sets::{Case, Growing, Random};
 use track::Track;
 
@@ -46,35 +48,28 @@ const LONGEST: usize = 2_200_000;
 const BAKE_TARGETS: [(&str, f64); 7] =
     [("A", 3500.0), ("B", 5.0), ("C", 30.0), ("D", 70.0), ("E", 20.0), ("F", 5.0), ("G", 60.0)];
 
-/// The plain Rust bake into lists made as the library's wrapper makes them.
-fn plain_bake(set: &plain::Set, samples: &calls::Samples, room: usize) -> tavitrozy::Track {
-    let (mut times, mut values, mut marks) = (vec![0.0; room], vec![0.0; room], vec![0; room]);
-    let (head, count) = bake::bake(set, samples, &mut times, &mut values, &mut marks).expect("room enough");
-    times.truncate(count);
-    values.truncate(count);
-    marks.truncate(count);
-    tavitrozy::Track {
-        head: tavitrozy::Entry { mark: head.mark, value: f64::from_bits(head.bits) },
-        times,
-        values,
-        marks,
-    }
+/// The plain Rust bake into lists of so many slots, made as for the library.
+fn plain_bake(set: &plain::Set, samples: &calls::Samples, room: usize) -> Lists {
+    Lists::baked(room, |times, values, marks| bake::bake(set, samples, times, values, marks).expect("room enough"))
 }
 
 fn plain_track(set: &plain::Set, samples: &calls::Samples) -> Track {
-    rust::track(&plain_bake(set, samples, LONGEST))
+    plain_bake(set, samples, LONGEST).track()
 }
 
 /// In a child: a side's bake of a set, told as time, count and hash.
-fn tell_bake(side: &str, name: &str, room: usize, limits: &str) {
-    let case = sets::named(name, limits).expect("a set of that name");
+fn tell_bake(side: &str, name: &str, room: usize) {
+    let case = sets::named(name).expect("a set of that name");
     let library = Library::new(&case.set, &case.samples);
     let set = plain::explicit(&case.set);
     let bake = || match side {
         "plain" => plain_bake(&set, &case.samples, room),
         _ => library.bake(room),
     };
-    let look = |track: &tavitrozy::Track| (track.times.len(), track::hash(&rust::track(track).changes));
+    let look = |lists: &Lists| {
+        let changes = lists.track().changes;
+        (changes.len(), track::hash(&changes))
+    };
     let Baked { seconds, count, hash } = measure::bake(bake, look);
     println!("{seconds} {count} {hash}");
 }
@@ -227,7 +222,7 @@ fn normalize_table() {
         taken
     });
     let rust = measure::median(calls.collect());
-    let ask = &mut |_| drop(black_box(tavitrozy::normalize(&times, &values, &marks, n).expect("no refusal")));
+    let ask = &mut |_| drop(black_box(tavitrozy::normalize(&times, &values, &marks).expect("no refusal")));
     let library = take_turns(1, &mut [ask])[0];
     println!(
         "\n## Normalising 4,096 shuffled samples\n\n| the Rust | library | library / Rust | target | met |\n|---|---|---|---|---|"
@@ -239,20 +234,20 @@ fn normalize_table() {
 /// and again. The fewer suit the caches and the branch predictor, the many neither. The target is for both.
 fn read_table(cases: &[Case]) {
     let case = cases.iter().find(|case| case.name == "A").expect("set A");
-    let track = Library::new(&case.set, &case.samples).bake(LONGEST);
+    let track = Library::new(&case.set, &case.samples).track();
+    let (head, times, values, marks) = (track.head().marked(), track.times(), track.values(), track.marks());
     println!(
         "\n## Reading a track of {} changes\n\n| times asked | plain Rust | library | target | met |",
-        track.times.len()
+        track.len()
     );
     println!("|---|---|---|---|---|");
     for count in [1 << 10, 1 << 16] {
         let mut random = Random(5);
-        let any_change = |_| track.times[random.bits() as usize % track.times.len()];
+        let any_change = |_| times[random.bits() as usize % times.len()];
         let asked: Vec<f64> = (0..count).map(any_change).collect();
         let ask_plain = &mut |i: usize| {
-            let found = track.times.partition_point(|&time| time <= asked[i]);
-            let at_change = |at: usize| (track.marks[at], track.values[at]);
-            _ = black_box(found.checked_sub(1).map_or((track.head.mark, track.head.value), at_change));
+            let found = times.partition_point(|&time| time <= asked[i]);
+            _ = black_box(found.checked_sub(1).map_or(head, |at| (marks[at], values[at])));
         };
         let ask_library = &mut |i: usize| _ = black_box(track.read(tavitrozy::StageTime(asked[i])));
         let taken = take_turns(count, &mut [ask_plain, ask_library]);
@@ -270,16 +265,16 @@ fn machine() {
 
 fn main() {
     let setting = |name: &str, default: &str| std::env::var(name).unwrap_or_else(|_| default.to_owned());
-    let limits = setting("LIMITS", "../shared/data/limits.txt");
     let limit = Duration::from_secs(setting("LIMIT", "20").parse().expect("LIMIT in seconds"));
     let arguments: Vec<String> = std::env::args().skip(1).collect();
     match arguments.iter().map(String::as_str).collect::<Vec<_>>()[..] {
-        ["bake", side, name, room] => tell_bake(side, name, room.parse().expect("a count"), &limits),
+        ["bake", side, name, room] => tell_bake(side, name, room.parse().expect("a count")),
         ["check", cases, replies] => check::by_replies(cases, replies),
-        ["read"] => read_table(&sets::read(&limits)),
+        ["limits"] => std::io::stdout().write_all(&limits::text()).expect("written"),
+        ["read"] => read_table(&limits::cases()),
         _ => {
             machine();
-            let cases: Vec<Case> = sets::read(&limits).into_iter().chain(sets::everyday()).collect();
+            let cases: Vec<Case> = limits::cases().into_iter().chain(sets::everyday()).collect();
             let values = value_table(&cases);
             bake_table(&cases, &values, limit);
             growth_tables(limit);

@@ -79,41 +79,61 @@ pub struct Library<'a> {
 
 impl<'a> Library<'a> {
     pub fn new(e: &Explicit, s: &'a Samples) -> Self {
-        let mut resolver = tavitrozy::Resolver::fresh();
-        let explicit = tavitrozy::Explicit {
-            clips: e.clips,
-            starts: &e.start_times,
-            numbers: &e.start_clips,
-            xs: &e.knot_x,
-            ys: &e.knot_y,
-            blocks: &e.filling.blocks,
-            fallback: tavitrozy::Default { mark: e.filling.mark, value: e.filling.value },
-            interpolate: e.filling.flag,
-        };
-        resolver.accept(&explicit).expect("a set that the library takes");
-        let samples = tavitrozy::Samples { times: &s.times, values: &s.values, marks: &s.marks, ends: &s.ends };
-        Library { resolver, samples }
+        assert_eq!(e.filling.mark, 2, "no set here has a default");
+        let set = tavitrozy::Explicit::new(e.clips)
+            .starts(&e.start_times, &e.start_clips)
+            .knots(&e.knot_x, &e.knot_y)
+            .blocks(&e.filling.blocks)
+            .interpolate(e.filling.flag);
+        let mut resolver = tavitrozy::Resolver::new();
+        resolver.accept(&set).expect("a set that the library takes");
+        Library { resolver, samples: tavitrozy::Samples::new(&s.times, &s.values, &s.marks, &s.ends) }
     }
 
     pub fn value(&self, t: f64) -> Answer {
-        match self.resolver.value(self.samples, tavitrozy::StageTime(t)).expect("no refusal") {
-            tavitrozy::Answer::Value(value) => plain::number(value),
-            tavitrozy::Answer::Blocked => BLOCKED,
-            tavitrozy::Answer::Absent => ABSENT,
-        }
+        answer(self.resolver.value(&self.samples, tavitrozy::StageTime(t)).expect("no refusal"))
     }
 
-    pub fn bake(&self, room: usize) -> tavitrozy::Track {
-        self.resolver.bake(self.samples, room).expect("room enough")
+    /// A bake into lists of so many slots.
+    pub fn bake(&self, room: usize) -> Lists {
+        Lists::baked(room, |times, values, marks| {
+            let (head, count) = self.resolver.bake_into(&self.samples, times, values, marks).expect("room enough");
+            (answer(head), count)
+        })
+    }
+
+    /// A bake that is given no room.
+    pub fn track(&self) -> tavitrozy::Track {
+        self.resolver.bake(&self.samples).expect("no refusal")
     }
 }
 
-fn entry(mark: u8, value: f64) -> Answer {
+fn answer(answer: tavitrozy::Answer) -> Answer {
+    let (mark, value) = answer.marked();
     Answer { mark, bits: value.to_bits() }
 }
 
-/// A track out of the lists that were lent for it.
-pub fn track(t: &tavitrozy::Track) -> Track {
-    let changes = (0..t.times.len()).map(|i| (t.times[i], entry(t.marks[i], t.values[i]))).collect();
-    Track { head: entry(t.head.mark, t.head.value), changes }
+/// The lists that a bake was lent, cut to its changes.
+pub struct Lists {
+    head: Answer,
+    times: Vec<f64>,
+    values: Vec<f64>,
+    marks: Vec<u8>,
+}
+
+impl Lists {
+    pub fn baked(room: usize, bake: impl FnOnce(&mut [f64], &mut [f64], &mut [u8]) -> (Answer, usize)) -> Self {
+        let (mut times, mut values, mut marks) = (vec![0.0; room], vec![0.0; room], vec![0; room]);
+        let (head, count) = bake(&mut times, &mut values, &mut marks);
+        times.truncate(count);
+        values.truncate(count);
+        marks.truncate(count);
+        Lists { head, times, values, marks }
+    }
+
+    pub fn track(&self) -> Track {
+        let entry = |i: usize| Answer { mark: self.marks[i], bits: self.values[i].to_bits() };
+        let changes = (0..self.times.len()).map(|i| (self.times[i], entry(i))).collect();
+        Track { head: self.head, changes }
+    }
 }

@@ -1,7 +1,7 @@
-//! The sets that are measured, each known by its name: document 01's limits (limits.txt), everyday ones, growing ones.
+//! The sets that are measured, each known by its name: those at the limits (limits.rs), everyday ones, growing ones.
 
-use crate::calls::{self, Call, Explicit, Filling, Samples};
-use crate::text::Words;
+use crate::calls::{Explicit, Filling, Samples};
+use crate::limits;
 
 pub struct Case {
     pub name: String,
@@ -9,27 +9,6 @@ pub struct Case {
     pub samples: Samples,
     /// The stage times asked about.
     pub times: Vec<f64>,
-}
-
-/// The cases of a case text.
-pub fn read(path: &str) -> Vec<Case> {
-    let text = std::fs::read(path).unwrap_or_else(|error| panic!("{path}: {error} (set LIMITS)"));
-    let mut cases: Vec<Case> = Vec::new();
-    for line in text.split(|&byte| byte == b'\n') {
-        let mut words = Words::new(line);
-        let Some(call) = words.word().and_then(|first| calls::read(first, words)) else { continue };
-        match (call, cases.last_mut()) {
-            (Call::Case(name), _) => {
-                let name = name.trim_start_matches("limits-").to_owned();
-                cases.push(Case { name, set: Explicit::default(), samples: Samples::default(), times: Vec::new() });
-            }
-            (Call::Explicit(set), Some(case)) => case.set = set,
-            (Call::Samples(samples), Some(case)) => case.samples = samples,
-            (Call::Value(t), Some(case)) => case.times.push(t),
-            _ => {}
-        }
-    }
-    cases
 }
 
 /// Numbers from a seed, for times asked about and shuffling.
@@ -170,12 +149,7 @@ impl Growing {
 }
 
 /// The set of a name.
-pub fn named(name: &str, limits: &str) -> Option<Case> {
-    if let Some(growing) = Growing::read(name) {
-        return Some(growing.case());
-    }
-    everyday()
-        .into_iter()
-        .find(|case| case.name == name)
-        .or_else(|| read(limits).into_iter().find(|case| case.name == name))
+pub fn named(name: &str) -> Option<Case> {
+    let known = || limits::cases().into_iter().chain(everyday());
+    Growing::read(name).map(|growing| growing.case()).or_else(|| known().find(|case| case.name == name))
 }

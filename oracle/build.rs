@@ -1,15 +1,19 @@
 //! Fetches the Rust that is compared with, from the folder that OPENUSD_SRC names, into the build folder: whole files
-//! byte for byte, single items cut out byte for byte. Nothing of it is kept in this repository.
+//! byte for byte, single items cut out byte for byte. Nothing of it is kept in this repository. The benchmark is built by
+//! this script too.
 
 use std::path::{Path, PathBuf};
 use std::{env, fs};
 
-/// The text of a file of docs/src, by its path in the published repository.
+/// The text of a file by its path in crates/openusd/src: of a checkout of mxpv/openusd, or of a flat folder in which a
+/// file's name is its path, parted by `--`.
 fn source(folder: &Path, path: &str) -> String {
-    let name = format!("src--crates--openusd--src--{}.txt", path.replace('/', "--"));
-    let file = folder.join(name);
+    let path = format!("crates/openusd/src/{path}");
+    let published = folder.join(&path);
+    let flat = folder.join(format!("src--{}.txt", path.replace('/', "--")));
+    let file = if flat.is_file() { flat } else { published };
     println!("cargo:rerun-if-changed={}", file.display());
-    fs::read_to_string(&file).unwrap_or_else(|error| panic!("{}: {error} (set OPENUSD_SRC)", file.display()))
+    fs::read_to_string(&file).unwrap_or_else(|error| panic!("{}: {error} (see oracle/openusd)", file.display()))
 }
 
 /// The item that begins with `start` at a line's beginning, up to the line that `end` closes.
@@ -35,20 +39,18 @@ fn line(text: &str, start: &str) -> String {
 
 fn main() {
     println!("cargo:rerun-if-env-changed=OPENUSD_SRC");
-    println!("cargo:rerun-if-changed=build.rs");
-    let here = PathBuf::from(env::var("CARGO_MANIFEST_DIR").unwrap());
+    let oracle = PathBuf::from(env::var("CARGO_MANIFEST_DIR").unwrap()).join("../oracle");
+    println!("cargo:rerun-if-changed={}", oracle.join("build.rs").display());
     let out = PathBuf::from(env::var("OUT_DIR").unwrap());
-    let folder = match env::var("OPENUSD_SRC") {
-        Ok(folder) if !folder.is_empty() => PathBuf::from(folder),
-        _ => here.join("../../shared/docs/src"),
-    };
+    let folder =
+        PathBuf::from(env::var("OPENUSD_SRC").expect("OPENUSD_SRC: the folder with the Rust (see oracle/openusd)"));
     let write = |name: &str, text: String| fs::write(out.join(name), text).unwrap();
     let module = |name: &str, file: &str| format!("#[path = {:?}]\npub(crate) mod {name};\n", out.join(file));
 
     // Whole files. Behind the unchanged text of clip.rs stands one declaration more, of a child module, since only a
     // child reaches what clip.rs keeps private.
     let clip = source(&folder, "pcp/clip.rs");
-    let reach = format!("\n#[path = {:?}]\npub(crate) mod reach;\n", here.join("src/reach.rs"));
+    let reach = format!("\n#[path = {:?}]\npub(crate) mod reach;\n", oracle.join("src/reach.rs"));
     write("clip.rs", clip + &reach);
     write("clip_manifest.rs", source(&folder, "pcp/clip_manifest.rs"));
     write("pcp_files.rs", module("clip", "clip.rs") + &module("clip_manifest", "clip_manifest.rs"));

@@ -1,162 +1,226 @@
-//! The case text answered through the library and its Rust wrapper, for the comparison with the Rust: the C boundary is tested too.
+//! The case text answered through the library and its Rust crate, for the comparison with the Rust: the C boundary is
+//! tested too. Where the crate has a call that makes its lists itself, that one must say the same.
 #![allow(dead_code)]
 
 #[path = "src/calls.rs"]
 mod calls;
-#[path = "../bindings/rust/tavitrozy.rs"]
-mod tavitrozy;
 #[path = "src/text.rs"]
 mod text;
 
 use std::io::{self, BufRead, Write};
 
 use calls::Call;
-use tavitrozy::{Answer, ClipTime, Default, Entry, Explicit, LayerOffset, Resolver, Samples, StageTime, State, TemplateTimes, Track};
+use tavitrozy::{
+    Answer, ClipTime, Explicit, Fallback, LayerOffset, Refusal, Resolver, Samples, StageTime, State, Supplied,
+    Template, TemplateTimes, Track,
+};
 use text::{Line, Words};
+
+type Answered = Result<(), Refusal>;
 
 struct Desk {
     resolver: Resolver,
     samples: calls::Samples,
 }
 
-fn entry(out: &mut Line, e: Entry) {
-    out.number(e.mark as u64).double(e.value);
+fn explicit(e: &calls::Explicit) -> Explicit<'_> {
+    let set = Explicit::new(e.clips).starts(&e.start_times, &e.start_clips).knots(&e.knot_x, &e.knot_y);
+    let filling = &e.filling;
+    set.blocks(&filling.blocks).fallback(Fallback::Value(filling.value)).interpolate(filling.flag)
 }
 
-fn write_track(out: &mut Line, track: &Track) {
-    out.word("track");
-    entry(out, track.head);
-    out.number(track.times.len() as u64);
-    for i in 0..track.times.len() {
-        out.double(track.times[i]).number(track.marks[i] as u64).double(track.values[i]);
-    }
+fn template_times(t: &calls::Template) -> TemplateTimes {
+    TemplateTimes { start: t.start, end: t.end, stride: t.stride, offset: t.offset }
+}
+
+fn template(t: &calls::Template) -> Template<'_> {
+    let (set, filling) = (Template::new(&t.bytes, template_times(t)), &t.filling);
+    set.blocks(&filling.blocks).fallback(Fallback::Value(filling.value)).interpolate(filling.flag)
+}
+
+/// A call with lent lists, against the one that makes its own: they differ only where the lent ones are too short.
+fn same<T, U>(lent: &Result<T, Refusal>, made: &Result<U, Refusal>, alike: impl FnOnce(&T, &U) -> bool) {
+    let agree = match (lent, made) {
+        (Ok(lent), Ok(made)) => alike(lent, made),
+        (Err(lent), Err(made)) => lent == made,
+        (Err(lent), Ok(_)) => *lent == Refusal::NoRoom,
+        (Ok(_), Err(_)) => false,
+    };
+    assert!(agree, "lent lists and the crate's own give one reply");
+}
+
+fn write_answer(out: &mut Line, answer: Answer) {
+    let (mark, value) = answer.marked();
+    out.number(mark.into()).double(value);
 }
 
 /// FNV-1a 64 over each change's time, value and mark.
 fn write_hash(out: &mut Line, track: &Track) {
     let mut hash = 0xcbf2_9ce4_8422_2325u64;
-    for i in 0..track.times.len() {
-        let (time, value) = (track.times[i].to_bits().to_le_bytes(), track.values[i].to_bits().to_le_bytes());
-        for byte in time.into_iter().chain(value).chain([track.marks[i]]) {
-            hash = (hash ^ byte as u64).wrapping_mul(0x100_0000_01b3);
+    for i in 0..track.len() {
+        let (time, value) = (track.times()[i].to_bits().to_le_bytes(), track.values()[i].to_bits().to_le_bytes());
+        for byte in time.into_iter().chain(value).chain([track.marks()[i]]) {
+            hash = (hash ^ u64::from(byte)).wrapping_mul(0x100_0000_01b3);
         }
     }
-    out.word("trackhash");
-    entry(out, track.head);
-    out.number(track.times.len() as u64).bits(hash);
+    write_answer(out.word("trackhash"), track.head());
+    out.number(track.len() as u64).bits(hash);
 }
 
 impl Desk {
     fn new() -> Self {
-        Desk { resolver: Resolver::fresh(), samples: calls::Samples::default() }
+        Desk { resolver: Resolver::new(), samples: calls::Samples::default() }
     }
 
-    /// A bake, and that the count alone is the track's.
-    fn counted_track(&self, s: Samples, slots: usize) -> Result<Track, u8> {
-        let track = self.resolver.bake(s, slots)?;
-        assert_eq!(self.resolver.change_count(s), Ok(track.times.len()));
-        Ok(track)
+    fn samples(&self) -> Samples<'_> {
+        let s = &self.samples;
+        Samples::new(&s.times, &s.values, &s.marks, &s.ends)
     }
 
-    /// The reply, or the number that refuses the call.
-    fn answer(&mut self, call: &Call, out: &mut Line) -> Result<(), u8> {
-        let s = Samples { times: &self.samples.times, values: &self.samples.values, marks: &self.samples.marks, ends: &self.samples.ends };
+    /// The reply, or what refuses the call.
+    fn answer(&mut self, call: &Call, out: &mut Line) -> Answered {
         match call {
             Call::Case(_) | Call::Samples(_) => {}
             Call::Explicit(e) => {
-                self.resolver.accept(&Explicit {
-                    clips: e.clips,
-                    starts: &e.start_times,
-                    numbers: &e.start_clips,
-                    xs: &e.knot_x,
-                    ys: &e.knot_y,
-                    blocks: &e.filling.blocks,
-                    fallback: Default { mark: e.filling.mark, value: e.filling.value },
-                    interpolate: e.filling.flag,
-                })?;
+                self.resolver.accept_marked(&explicit(e), e.filling.mark)?;
                 out.word("ok");
             }
             Call::Template(t) => {
-                let times = TemplateTimes { start: t.start, end: t.end, stride: t.stride, offset: t.offset.unwrap_or(f64::NAN) };
-                let fallback = Default { mark: t.filling.mark, value: t.filling.value };
-                self.resolver.accept_template(&t.bytes, times, t.offset.is_some(), &t.filling.blocks, fallback, t.filling.flag)?;
+                self.resolver.accept_template_marked(&template(t), t.filling.mark)?;
                 out.word("ok");
             }
             Call::Retime(offset, scale) => {
-                self.resolver.retime(LayerOffset { offset: *offset, scale: *scale })?;
+                self.resolver.retime(LayerOffset::new(*offset, *scale))?;
                 out.word("ok");
             }
-            Call::Dump => {
-                let (clips, starts, knots, blocks) = self.resolver.dump().ok_or(20)?;
-                out.word("set").number(clips).word("starts").number(starts.len() as u64);
-                for (time, clip) in starts {
-                    out.double(time).number(clip);
-                }
-                out.word("knots").number(knots.len() as u64);
-                for (x, y) in knots {
-                    out.double(x).double(y);
-                }
-                out.word("bl").doubles(&blocks);
+            Call::Dump => self.dump(out)?,
+            Call::Active(t) => {
+                match self.resolver.active_clip(StageTime(*t))? {
+                    Some(clip) => out.word("active").number(clip),
+                    None => out.word("active none"),
+                };
             }
-            Call::Active(t) => match self.resolver.active_clip(StageTime(*t))? {
-                Some(clip) => {
-                    out.word("active").number(clip);
-                }
-                None => {
-                    out.word("active none");
-                }
-            },
             Call::ClipTime(t) => {
                 let ClipTime(time) = self.resolver.clip_time(StageTime(*t))?;
                 out.word("cliptime").double(time);
             }
             Call::Value(t) => {
-                let (mark, value) = match self.resolver.value(s, StageTime(*t))? {
-                    Answer::Value(v) => (0, v),
-                    Answer::Blocked => (1, 0.0),
-                    Answer::Absent => (2, 0.0),
-                };
-                out.word("value").number(mark).double(value);
+                let answer = self.resolver.value(&self.samples(), StageTime(*t))?;
+                write_answer(out.word("value"), answer);
             }
-            Call::Times(slots) => {
-                let mut times = vec![0.0; *slots as usize];
-                let n = self.resolver.stage_sample_times(s, &mut times)?;
-                assert_eq!(self.resolver.stage_sample_count(s), Ok(n));
-                out.word("times").doubles(&times[..n]);
-            }
-            Call::StageSamples(slots) => {
-                let (mut times, mut marks) = (vec![0.0; *slots as usize], vec![0; *slots as usize]);
-                let n = self.resolver.stage_samples(s, &mut times, &mut marks)?;
-                out.word("ssamples").number(n as u64);
-                for i in 0..n {
-                    out.double(times[i]).number(marks[i] as u64);
-                }
-            }
+            Call::Times(slots) => self.times(*slots as usize, out)?,
+            Call::StageSamples(slots) => self.stage_samples(*slots as usize, out)?,
             Call::Untimed => {
-                let state = self.resolver.untimed(s)?;
-                out.word(match state {
+                out.word(match self.resolver.untimed(&self.samples())? {
                     State::Present => "untimed present",
                     State::Blocked => "untimed blocked",
                     State::Absent => "untimed absent",
                 });
             }
-            Call::Track(slots) => write_track(out, &self.counted_track(s, *slots as usize)?),
-            Call::TrackHash => write_hash(out, &self.counted_track(s, self.resolver.change_count(s)?)?),
-            Call::Name(pattern, t, slots) => {
-                let mut name = vec![0; *slots as usize];
-                let n = tavitrozy::name_into(pattern, ClipTime(*t), &mut name)?;
-                out.word("name").bytes(&name[..n]);
+            Call::Track(slots) => self.track(*slots as usize, out)?,
+            Call::TrackHash => {
+                let track = self.resolver.bake(&self.samples())?;
+                assert_eq!(self.resolver.change_count(&self.samples()), Ok(track.len()));
+                write_hash(out, &track);
             }
-            Call::Normalize(n, slots) => {
-                let (times, values, marks) = tavitrozy::normalize(&n.times, &n.values, &n.marks, *slots as usize)?;
-                out.word("normalize").number(times.len() as u64);
-                for i in 0..times.len() {
-                    out.double(times[i]).double(values[i]).number(marks[i] as u64);
-                }
-            }
+            Call::Name(pattern, t, slots) => name(pattern, ClipTime(*t), *slots as usize, out)?,
+            Call::Normalize(n, slots) => normalize(n, *slots as usize, out)?,
+            Call::ClipTimes(t, slots) => clip_times(template_times(t), *slots as usize, out)?,
         }
         Ok(())
     }
+
+    fn dump(&self, out: &mut Line) -> Answered {
+        let set = self.resolver.standing().ok_or(Refusal::NoSet)?;
+        out.word("set").number(set.clips).word("starts").number(set.starts().len() as u64);
+        for (StageTime(time), clip) in set.starts() {
+            out.double(time).number(clip);
+        }
+        out.word("knots").number(set.knots().len() as u64);
+        for (StageTime(x), ClipTime(y)) in set.knots() {
+            out.double(x).double(y);
+        }
+        out.word("bl").doubles(set.blocks);
+        Ok(())
+    }
+
+    fn times(&self, slots: usize, out: &mut Line) -> Answered {
+        let samples = self.samples();
+        let mut times = vec![0.0; slots];
+        let count = self.resolver.stage_sample_times_into(&samples, &mut times);
+        let made = self.resolver.stage_sample_times(&samples);
+        same(&count, &made, |&count, made| made.iter().map(|time| time.0).eq(times[..count].iter().copied()));
+        out.word("times").doubles(&times[..count?]);
+        Ok(())
+    }
+
+    fn stage_samples(&self, slots: usize, out: &mut Line) -> Answered {
+        let samples = self.samples();
+        let (mut times, mut marks) = (vec![0.0; slots], vec![0; slots]);
+        let count = self.resolver.stage_samples_into(&samples, &mut times, &mut marks);
+        let lent = || times.iter().zip(&marks).map(|(&time, &mark)| (time, mark));
+        let made = self.resolver.stage_samples(&samples);
+        let spelled = |(time, supplied): &(StageTime, Supplied)| (time.0, u8::from(*supplied == Supplied::Blocked));
+        same(&count, &made, |&count, made| made.iter().map(spelled).eq(lent().take(count)));
+        let count = count?;
+        out.word("ssamples").number(count as u64);
+        lent().take(count).for_each(|(time, mark)| _ = out.double(time).number(mark.into()));
+        Ok(())
+    }
+
+    fn track(&self, slots: usize, out: &mut Line) -> Answered {
+        let samples = self.samples();
+        let (mut times, mut values, mut marks) = (vec![0.0; slots], vec![0.0; slots], vec![0; slots]);
+        let baked = self.resolver.bake_into(&samples, &mut times, &mut values, &mut marks);
+        let made = self.resolver.bake(&samples);
+        same(&baked, &made, |&(head, n), made| {
+            made.head() == head
+                && (made.times(), made.values(), made.marks()) == (&times[..n], &values[..n], &marks[..n])
+        });
+        assert_eq!(self.resolver.change_count(&samples), made.map(|track| track.len()));
+        let (head, count) = baked?;
+        write_answer(out.word("track"), head);
+        out.number(count as u64);
+        for i in 0..count {
+            out.double(times[i]).number(marks[i].into()).double(values[i]);
+        }
+        Ok(())
+    }
+}
+
+fn name(pattern: &[u8], time: ClipTime, slots: usize, out: &mut Line) -> Answered {
+    let mut name = vec![0; slots];
+    let length = tavitrozy::name_into(pattern, time, &mut name);
+    same(&length, &tavitrozy::name(pattern, time), |&length, made| made[..] == name[..length]);
+    out.word("name").bytes(&name[..length?]);
+    Ok(())
+}
+
+fn normalize(n: &calls::Samples, slots: usize, out: &mut Line) -> Answered {
+    let (mut times, mut values, mut marks) = (vec![0.0; slots], vec![0.0; slots], vec![0; slots]);
+    let count = tavitrozy::normalize_into(&n.times, &n.values, &n.marks, &mut times, &mut values, &mut marks);
+    let made = tavitrozy::normalize(&n.times, &n.values, &n.marks);
+    // A block's slot may be a NaN, which is equal to nothing.
+    let bits = |list: &[f64]| list.iter().map(|d| d.to_bits()).collect::<Vec<_>>();
+    same(&count, &made, |&n, made| {
+        let made = made.lent();
+        (bits(made.times), bits(made.values), made.marks) == (bits(&times[..n]), bits(&values[..n]), &marks[..n])
+    });
+    let count = count?;
+    out.word("normalize").number(count as u64);
+    for i in 0..count {
+        out.double(times[i]).double(values[i]).number(marks[i].into());
+    }
+    Ok(())
+}
+
+fn clip_times(numbers: TemplateTimes, slots: usize, out: &mut Line) -> Answered {
+    let mut times = vec![0.0; slots];
+    let count = tavitrozy::template_clip_times_into(numbers, &mut times);
+    let made = tavitrozy::template_clip_times(numbers);
+    same(&count, &made, |&count, made| made.iter().map(|time| time.0).eq(times[..count].iter().copied()));
+    out.word("cliptimes").doubles(&times[..count?]);
+    Ok(())
 }
 
 fn main() -> io::Result<()> {
@@ -175,9 +239,9 @@ fn main() -> io::Result<()> {
                 }
                 Some(Call::Samples(samples)) => desk.samples = samples,
                 Some(call) => {
-                    if let Err(number) = desk.answer(&call, &mut out) {
+                    if let Err(refusal) = desk.answer(&call, &mut out) {
                         out.0.clear();
-                        out.word("refused").number(number as u64);
+                        out.word("refused").number(refusal.number().into());
                     }
                     out.end();
                 }

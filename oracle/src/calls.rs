@@ -56,6 +56,8 @@ pub enum Call {
     TrackHash,
     Name(Vec<u8>, f64, u64),
     Normalize(Samples, u64),
+    /// A template's numbers; its pattern is `#`, which no number refuses.
+    ClipTimes(Template, u64),
 }
 
 /// The room of each lent output list where a call names none.
@@ -87,6 +89,16 @@ fn lists(words: &mut Words<'_>) -> Option<Samples> {
     Some(Samples { ends: Vec::new(), times, values, marks })
 }
 
+/// The four numbers of a template, the rest being empty.
+fn template_numbers(words: &mut Words<'_>) -> Option<Template> {
+    let (start, end, stride) = (words.double()?, words.double()?, words.double()?);
+    let offset = match words.word()? {
+        b"none" => None,
+        word => Some(crate::text::read_double(word)?),
+    };
+    Some(Template { start, end, stride, offset, ..Template::default() })
+}
+
 /// The call of a line's words; none where it can't be read.
 pub fn read(first: &[u8], mut words: Words<'_>) -> Option<Call> {
     Some(match first {
@@ -106,14 +118,10 @@ pub fn read(first: &[u8], mut words: Words<'_>) -> Option<Call> {
         }
         b"template" => {
             let bytes = words.bytes()?;
-            let (start, end, stride) = (words.double()?, words.double()?, words.double()?);
-            let offset = match words.word()? {
-                b"none" => None,
-                word => Some(crate::text::read_double(word)?),
-            };
+            let numbers = template_numbers(&mut words)?;
             let filling = filling(&mut words)?;
             words.end()?;
-            Call::Template(Template { bytes, start, end, stride, offset, filling })
+            Call::Template(Template { bytes, filling, ..numbers })
         }
         b"samples" => {
             words.keyword("ends")?;
@@ -155,6 +163,10 @@ pub fn read(first: &[u8], mut words: Words<'_>) -> Option<Call> {
             let lists = lists(&mut words)?;
             Call::Normalize(lists, words.slots(ROOM)?)
         }
+        b"cliptimes" => {
+            let numbers = template_numbers(&mut words)?;
+            Call::ClipTimes(Template { bytes: b"#".to_vec(), ..numbers }, words.slots(ROOM)?)
+        }
         _ => return None,
     })
 }
@@ -167,6 +179,14 @@ fn write_filling(line: &mut Line, f: &Filling) {
 fn write_lists(line: &mut Line, s: &Samples) {
     let marks: Vec<u64> = s.marks.iter().map(|&m| m.into()).collect();
     line.word("t").doubles(&s.times).word("v").doubles(&s.values).word("m").numbers(&marks);
+}
+
+fn write_template_numbers(line: &mut Line, t: &Template) {
+    line.double(t.start).double(t.end).double(t.stride);
+    match t.offset {
+        Some(offset) => line.double(offset),
+        None => line.word("none"),
+    };
 }
 
 fn write_slots(line: &mut Line, slots: u64, room: u64) {
@@ -188,11 +208,7 @@ pub fn write(line: &mut Line, call: &Call) {
             write_filling(line, &e.filling);
         }
         Call::Template(t) => {
-            line.word("template").bytes(&t.bytes).double(t.start).double(t.end).double(t.stride);
-            match t.offset {
-                Some(offset) => line.double(offset),
-                None => line.word("none"),
-            };
+            write_template_numbers(line.word("template").bytes(&t.bytes), t);
             write_filling(line, &t.filling);
         }
         Call::Retime(offset, scale) => {
@@ -227,6 +243,10 @@ pub fn write(line: &mut Line, call: &Call) {
         Call::Normalize(s, slots) => {
             line.word("normalize");
             write_lists(line, s);
+            write_slots(line, *slots, ROOM);
+        }
+        Call::ClipTimes(t, slots) => {
+            write_template_numbers(line.word("cliptimes"), t);
             write_slots(line, *slots, ROOM);
         }
     }

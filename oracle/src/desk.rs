@@ -163,6 +163,7 @@ impl Desk {
             Call::TrackHash => self.track(None, out),
             Call::Name(bytes, time, slots) => self.name(&bytes, time, slots, out),
             Call::Normalize(samples, slots) => self.normalize(&samples, slots, out),
+            Call::ClipTimes(template, slots) => self.clip_times(&template, slots, out),
             Call::Case(_) | Call::Samples(_) => unreachable!("answered above"),
         }
     }
@@ -524,6 +525,23 @@ impl Desk {
         let name = name.ok_or(0u32)?;
         numbers::room(slots, name.len())?;
         out.word("name").bytes(&name);
+        Ok(())
+    }
+
+    /// The clip times of a template's clips, one for each: the Rust's knots without an offset, which would add two more and
+    /// move none of these.
+    fn clip_times(&mut self, t: &Template, slots: u64, out: &mut Line) -> Answered {
+        numbers::template(t)?;
+        let without = Template { offset: None, ..t.clone() };
+        let (clips, _, knots) = reach::expand(&template_dictionary(&without)).ok_or(0u32)?;
+        let rust: Vec<f64> = knots.iter().map(|knot| knot.y).collect();
+        assert!(clips == rust.len(), "a knot for each clip");
+        if self.check {
+            let text: Vec<u64> = plain::clip_times(t).iter().map(|time| time.to_bits()).collect();
+            self.compare("cliptimes", rust.iter().map(|time| time.to_bits()).collect(), text);
+        }
+        numbers::room(slots, rust.len())?;
+        out.word("cliptimes").doubles(&rust);
         Ok(())
     }
 

@@ -12,11 +12,16 @@ use crate::writer::Writer;
 /// Writes cases until at least that many replies are due.
 pub fn write(seed: u64, replies: u64, out: &mut Writer<'_>) {
     let mut random = Random::new(seed);
+    // Drawn apart, so that a seed's other calls are the same where these are left out.
+    let mut apart = Random::new(!seed);
     let mut number = 0;
     while out.replies < replies {
         number += 1;
         out.call(&Call::Case(format!("r{seed}-{number}")));
         case(&mut random, out);
+        if apart.chance(10) {
+            clip_times(&mut apart, out);
+        }
     }
 }
 
@@ -727,6 +732,20 @@ fn normalising(random: &mut Random, out: &mut Writer<'_>) {
         let count = if numbers::normalize(&s).is_ok() { plain::normalize(&s).len() } else { 0 };
         let slots = slots(random, count);
         out.call(&Call::Normalize(s, slots));
+    }
+}
+
+/// A template's numbers, some of them damaged, asked for their clip times.
+fn clip_times(random: &mut Random, out: &mut Writer<'_>) {
+    for _ in 0..random.between(1, 5) {
+        let mut numbers = template_set(random);
+        if random.chance(25) {
+            damage_template(random, &mut numbers);
+        }
+        let template = Template { bytes: b"#".to_vec(), filling: Filling::default(), ..numbers };
+        let count = if numbers::template(&template).is_ok() { plain::clip_times(&template).len() } else { 0 };
+        let slots = slots(random, count);
+        out.call(&Call::ClipTimes(template, slots));
     }
 }
 

@@ -11,7 +11,8 @@ use crate::{figures, random_cases, short_cases};
 /// Cases longer than this are left out of the generated ones.
 const LONGEST: usize = 3000;
 
-const SETS: [&str; 9] = ["case", "explicit", "template", "retime", "dump", "active", "cliptime", "name", "normalize"];
+const SETS: [&str; 10] =
+    ["case", "explicit", "template", "retime", "dump", "active", "cliptime", "cliptimes", "name", "normalize"];
 
 fn word(line: &str) -> &str {
     line.split_whitespace().next().unwrap_or("")
@@ -30,7 +31,7 @@ fn shows(call: &str, reply: &str) -> String {
         "refused" | "untimed" | "value" => words[1].to_owned(),
         "track" | "trackhash" => format!("{} {}", words[1], words[3].len().min(2)),
         "active" => (words[1] == "none").to_string(),
-        "set" | "times" | "ssamples" | "normalize" => words[1].len().to_string(),
+        "set" | "times" | "ssamples" | "normalize" | "cliptimes" => words[1].len().to_string(),
         _ => String::new(),
     };
     format!("{} {} {} {kind}", word(call), call.split_whitespace().count().min(40) / 4, words[0])

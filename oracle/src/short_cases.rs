@@ -208,6 +208,12 @@ fn templates(index: usize, out: &mut Writer<'_>) {
     let offset = choices.of(&OFFSETS);
     let mark = choices.of(&[2, 3]);
     let filling = Filling { mark, ..NO_FILLING };
+    if bytes == PATTERNS[0] && mark == 2 {
+        let template = Template { bytes: b"#".to_vec(), start, end, stride, offset, filling: Filling::default() };
+        for slots in [ROOM, 1, 0] {
+            out.call(&Call::ClipTimes(template.clone(), slots));
+        }
+    }
     out.call(&Call::Template(Template { bytes, start, end, stride, offset, filling }));
     out.call(&Call::Dump);
     for t in [start, start + 0.25] {

@@ -14,8 +14,11 @@ pub struct Writer<'a> {
 }
 
 impl<'a> Writer<'a> {
+    /// `cliptimes` is left out where CLIPTIMES is 0, for a program that does not know it.
     pub fn new(output: &'a mut dyn Write) -> Self {
-        Writer { output, replies: 0, bytes: 0, only: |_| true }
+        let all = std::env::var("CLIPTIMES").as_deref() != Ok("0");
+        let only: fn(&Call) -> bool = if all { |_| true } else { |call| !matches!(call, Call::ClipTimes(..)) };
+        Writer { output, replies: 0, bytes: 0, only }
     }
 
     fn put(&mut self, text: &[u8]) {
