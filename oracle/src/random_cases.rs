@@ -7,13 +7,14 @@ use crate::numbers;
 use crate::plain::{self, Read, Set};
 use crate::random::{Random, Scale};
 use crate::track;
-use crate::writer::Writer;
+use crate::writer::{self, Writer};
 
 /// Writes cases until at least that many replies are due.
 pub fn write(seed: u64, replies: u64, out: &mut Writer<'_>) {
     let mut random = Random::new(seed);
     // Drawn apart, so that a seed's other calls are the same where these are left out.
-    let mut apart = Random::new(!seed);
+    let (mut apart, mut spelled) = (Random::new(!seed), Random::new(!seed >> 1));
+    let with_decimals = writer::wanted("DECIMALS");
     let mut number = 0;
     while out.replies < replies {
         number += 1;
@@ -21,6 +22,9 @@ pub fn write(seed: u64, replies: u64, out: &mut Writer<'_>) {
         case(&mut random, out);
         if apart.chance(10) {
             clip_times(&mut apart, out);
+        }
+        if with_decimals && spelled.chance(10) {
+            decimals(&mut spelled, out);
         }
     }
 }
@@ -732,6 +736,41 @@ fn normalising(random: &mut Random, out: &mut Writer<'_>) {
         let count = if numbers::normalize(&s).is_ok() { plain::normalize(&s).len() } else { 0 };
         let slots = slots(random, count);
         out.call(&Call::Normalize(s, slots));
+    }
+}
+
+/// A decimal, now and then a word that is none.
+fn decimal(random: &mut Random) -> String {
+    let count = random.pick(&[1, 1, 2, 2, 3, 5, 9, 14, 15, 15, 16]);
+    let mut word: String = (0..count).map(|_| random.pick(&['0', '1', '2', '3', '5', '9'])).collect();
+    if count > 1 && random.chance(60) {
+        word.insert(random.between(1, count - 1), '.');
+    }
+    if random.chance(4) {
+        word.push_str(random.pick(&[".", ".5.5", "e3", "f", "-"]));
+    }
+    random.pick(&["", "-"]).to_owned() + &word
+}
+
+/// Lines with decimals for the question marks.
+fn decimals(random: &mut Random, out: &mut Writer<'_>) {
+    let lines = [
+        "explicit 1 st 1 ? sc 1 0 kx 2 ? ? ky 2 ? ? bl 1 ? def 0 ? flag 0",
+        "samples ends 1 2 t 2 ? ? v 2 ? ? m 2 0 0",
+        "template 23 ? ? ? ? bl 0 def 2 0 flag 0",
+        "retime ? ?",
+        "active ?",
+        "value ?",
+        "cliptime ?",
+        "name 232e232323232323 ?",
+    ];
+    for _ in 0..random.between(2, 8) {
+        let mut line = random.pick(&lines).to_owned();
+        while line.contains('?') {
+            line = line.replacen('?', &decimal(random), 1);
+        }
+        out.line(&line);
+        out.call(&Call::Dump);
     }
 }
 

@@ -1,4 +1,4 @@
-//! Reading and writing the case text: words, doubles as 16 hex digits, counted lists, bytes as hex pairs.
+//! Reading and writing the case text: words, doubles as 16 hex digits or decimals, counted lists, bytes as hex pairs.
 
 /// The words of one line.
 pub struct Words<'a>(&'a [u8]);
@@ -35,7 +35,8 @@ impl<'a> Words<'a> {
     }
 
     pub fn number(&mut self) -> Option<u64> {
-        std::str::from_utf8(self.word()?).ok()?.parse().ok()
+        let word = self.word()?;
+        all_digits(word).then(|| std::str::from_utf8(word).ok()?.parse().ok()).flatten()
     }
 
     pub fn byte(&mut self) -> Option<u8> {
@@ -84,15 +85,29 @@ impl<'a> Words<'a> {
     }
 }
 
+/// A double: its bits, or a decimal. No word is both, since a decimal has fewer digits.
 pub fn read_double(word: &[u8]) -> Option<f64> {
+    read_bits(word).map(f64::from_bits).or_else(|| read_decimal(word))
+}
+
+fn read_bits(word: &[u8]) -> Option<u64> {
     if word.len() != 16 {
         return None;
     }
-    let mut bits = 0;
-    for &byte in word {
-        bits = bits << 4 | digit(byte)?;
-    }
-    Some(f64::from_bits(bits))
+    word.iter().try_fold(0, |bits, &byte| Some(bits << 4 | digit(byte)?))
+}
+
+/// `[-]DIGITS[.DIGITS]` with at most 15 digits in all: the nearest double.
+fn read_decimal(word: &[u8]) -> Option<f64> {
+    let digits = word.strip_prefix(b"-").unwrap_or(word);
+    let spelled = digits.splitn(2, |&byte| byte == b'.').all(all_digits);
+    let few = digits.iter().filter(|byte| byte.is_ascii_digit()).count() <= 15;
+    (spelled && few).then(|| std::str::from_utf8(word).ok()?.parse().ok()).flatten()
+}
+
+/// One or more decimal digits and nothing else.
+fn all_digits(word: &[u8]) -> bool {
+    !word.is_empty() && word.iter().all(u8::is_ascii_digit)
 }
 
 const HEX: &[u8; 16] = b"0123456789abcdef";

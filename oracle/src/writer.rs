@@ -14,9 +14,8 @@ pub struct Writer<'a> {
 }
 
 impl<'a> Writer<'a> {
-    /// `cliptimes` is left out where CLIPTIMES is 0, for a program that does not know it.
     pub fn new(output: &'a mut dyn Write) -> Self {
-        let all = std::env::var("CLIPTIMES").as_deref() != Ok("0");
+        let all = wanted("CLIPTIMES");
         let only: fn(&Call) -> bool = if all { |_| true } else { |call| !matches!(call, Call::ClipTimes(..)) };
         Writer { output, replies: 0, bytes: 0, only }
     }
@@ -42,6 +41,12 @@ impl<'a> Writer<'a> {
         self.put(b"\n");
         self.replies += u64::from(has_reply(line.as_bytes()));
     }
+}
+
+/// Whether a part of the case text is to be written: not where the variable of that name is 0, for a program that does not
+/// know it.
+pub fn wanted(part: &str) -> bool {
+    std::env::var(part).as_deref() != Ok("0")
 }
 
 /// Whether a line gets a reply: empty lines and lent samples do not.
