@@ -32,9 +32,9 @@ pub struct Resolver {
 /// What a set says without a time.
 #[derive(Clone, Copy, Debug, PartialEq, Eq, Hash)]
 pub enum State {
-    /// There is a value somewhere.
+    /// A clip that a start names has samples, or the default is a value.
     Present,
-    /// Nothing but blocks.
+    /// There are starts, and none of that.
     Blocked,
     /// The set has no starts.
     Absent,
@@ -43,9 +43,9 @@ pub enum State {
 /// What is supplied at a stage sample's time.
 #[derive(Clone, Copy, Debug, PartialEq, Eq, Hash)]
 pub enum Supplied {
-    /// Something opaque: a value.
+    /// A value.
     Opaque,
-    /// A block.
+    /// None: a block, or no sample and no default value.
     Blocked,
 }
 

@@ -3,7 +3,7 @@
 use crate::ffi;
 use crate::{ClipTime, StageTime, mark};
 
-/// The manifest default: what stands in where the active clip has no samples.
+/// The manifest default: what holds where the active clip contributes no sample.
 #[derive(Clone, Copy, Debug, PartialEq)]
 pub enum Fallback {
     /// The manifest has none.
@@ -61,8 +61,9 @@ pub struct Explicit<'a> {
     pub blocks: &'a [f64],
     /// The manifest default.
     pub fallback: Fallback,
-    /// `interpolateMissingClipValues`: where the active clip contributes nothing and there is no default value, the
-    /// nearest clip that does stands in. It interpolates nothing.
+    /// `interpolateMissingClipValues`, which here interpolates nothing: where the active clip contributes no sample and the
+    /// default is no value, a sample is looked for at other starts, the nearest before the active one first, then the
+    /// nearest after. Off, nothing is drawn there.
     pub interpolate: bool,
 }
 

@@ -45,6 +45,23 @@ fn a_clone_stands_on_its_own() {
 }
 
 #[test]
+fn threads_may_ask_one_resolver() {
+    let resolver = accepted(&Explicit::new(1).starts(&[0.0], &[0.0]));
+    let mut lists = SampleLists::new();
+    lists.push_clip((0..100u8).map(|i| (f64::from(i), Some(f64::from(i)))));
+    let track = resolver.bake(&lists.lent()).unwrap();
+    std::thread::scope(|scope| {
+        for _ in 0..4 {
+            scope.spawn(|| {
+                assert!(tavitrozy::environment_is_exact());
+                assert_eq!(resolver.bake(&lists.lent()).unwrap(), track);
+                assert_eq!(track.read(StageTime(41.5)), Answer::Value(41.0));
+            });
+        }
+    });
+}
+
+#[test]
 fn empty_lists_are_lists() {
     let resolver = accepted(&Explicit::new(0));
     let none = Samples::new(&[], &[], &[], &[]);
