@@ -71,7 +71,7 @@ fn layers(filling: &Filling, s: &Samples) -> Vec<Layer> {
     layers
 }
 
-/// The library, through its Rust wrapper.
+/// The library, through its Rust crate.
 pub struct Library<'a> {
     resolver: tavitrozy::Resolver,
     samples: tavitrozy::Samples<'a>,
