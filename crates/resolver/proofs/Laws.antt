@@ -52,7 +52,8 @@ use Rattle.resolver.specs.declared.Accepted.{Accepted}
 use Rattle.standing.specs.declared.StandingSet.{StandingSet}
 use Rattle.standing.specs.declared.Counts.{Counts}
 use Rattle.standing.specs.Standing.{setIn, Installed, Unpacked, Packed, Asked, lentSet, answered}
-use Rattle.standing.specs.Lists.{counted, listed, itself, timeOf, markIn, ListsTimes, ListsSamples}
+use Rattle.sdf.specs.Counted.{counted, listed, itself}
+use Rattle.standing.specs.Lists.{timeOf, markIn, ListsTimes, ListsSamples}
 use Rattle.resolver.specs.State.{standingIn, model, Made, lentState}
 use Rattle.resolver.specs.Promises.{Accepts, Expands, Retimes, BakesTrack, TellsTimes, TellsSamples, countCode, TellsChangeCount, Installable, Installs}
 

@@ -39,7 +39,8 @@ use Rattle.resolver.specs.declared.ValueReply.the-variants.{Answered, Re
 use Rattle.resolver.specs.declared.UntimedReply.{UntimedReply}
 use Rattle.resolver.specs.declared.UntimedReply.the-variants.{Answered as Told, Refused as UntimedRefused}
 use Rattle.standing.specs.Standing.{Lengths}
-use Rattle.standing.specs.Lists.{counted, listed, itself, timeOf, markIn}
+use Rattle.sdf.specs.Counted.{counted, listed, itself}
+use Rattle.standing.specs.Lists.{timeOf, markIn}
 use Rattle.resolver.specs.State.{model, Made, lentState}
 
 -- ---- calls that may change what stands

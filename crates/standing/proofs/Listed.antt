@@ -13,7 +13,8 @@ use Rattle.sdf.specs.declared.Counted.{Counted}
 use Rattle.stage.specs.declared.Written.{Written}
 use Rattle.stage.specs.declared.Written.the-variants.{Count, NoRoom}
 use Rattle.stage.specs.Promises.{TimesWritten, SamplesWritten}
-use Rattle.standing.specs.Lists.{counted, listed, itself, timeOf, markIn, countOf, ListsTimes, ListsSamples}
+use Rattle.sdf.specs.Counted.{counted, listed, itself}
+use Rattle.standing.specs.Lists.{timeOf, markIn, countOf, ListsTimes, ListsSamples}
 
 -- ---- replies that are lists
 

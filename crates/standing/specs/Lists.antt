@@ -1,28 +1,15 @@
--- A reply that is a list: its number and count, and the lent lists after it. Assumes nothing.
+-- The parts of a stage sample, and the lists where the samples are accepted. Assumes nothing.
 use Prim.Native.Nat.{ℕ, min}
 use mathlib.Core.Path.{_≡_}
-use mathlib.Core.List.{List, map}
+use mathlib.Core.List.{List}
 use lib.ListN.{length}
 use lib.Ieee.{Float}
-use Rattle.definitions.specs.Lists.{writtenOver}
-use Rattle.definitions.specs.Questions.{Reply, refused, replied, reply, roomNumber}
+use Rattle.definitions.specs.Questions.{reply, roomNumber}
 use Rattle.definitions.specs.StageSamples.{StageSample}
 use Rattle.sdf.specs.declared.Counted.{Counted}
+use Rattle.sdf.specs.Counted.{counted, listed, itself}
 use Rattle.stage.specs.declared.Written.{Written}
 use Rattle.stage.specs.declared.Written.the-variants.{Count, NoRoom}
-
--- the number, and the count, 0 where it is refused
-abbrev pub counted : {A : Type 0} → Reply (List A) → Counted
-counted (refused n) = record { number = n; count = 0 }
-counted (replied l) = record { number = 0; count = length l }
-
--- a lent list after it: the entries' parts written to its front, or as it was
-abbrev pub listed : {A B : Type 0} → (A → B) → Reply (List A) → List B → List B
-listed f (refused n) old = old
-listed f (replied l) old = writtenOver (map f l) old
-
-abbrev pub itself : Float → Float
-itself t = t
 
 abbrev pub timeOf : StageSample → Float
 timeOf x = x .time

@@ -1,19 +1,21 @@
 -- What a template acceptance replies. Assumes nothing.
 use Prim.Native.Nat.{ℕ, suc, _+_, _≤_}
 use mathlib.Core.Path.{_≡_}
-use mathlib.Core.Bool.{Bool, not, _||_, cond}
+use mathlib.Core.Bool.{Bool, cond}
 use mathlib.Core.List.{List, [], _∷_, _++_, map}
 use mathlib.Core.Option.{Option, none, some}
 use lib.ListN.{length, take}
-use lib.Ieee.{Float, lt, le}
-use lib.Ieee.Scale.{finite}
-use Rattle.gf.specs.Doubles.{_⊕_, _⊖_, _⊘_, 0·0, 10000·0, abs, storable}
+use lib.Ieee.{Float}
+use Rattle.gf.specs.Doubles.{_⊕_, _⊖_, _⊘_, 10000·0, abs}
 use Rattle.definitions.specs.declared.Missing.{Missing}
 use Rattle.definitions.specs.declared.TemplateTimes.{TemplateTimes}
 use Rattle.definitions.specs.Lists.{_if_else_}
 use Rattle.definitions.specs.ClipSet as Definitions
 use Rattle.definitions.specs.ClipSet.{maxClips, maxBlocks, sortActive, sortKnots}
-use Rattle.definitions.specs.Template.{TemplateFields, promoted, activations, clipKnots, withBounds, offsetNotFinite, offsetBeyond, templateSet, template1, template2, template7, template6, templateNumber}
+use Rattle.definitions.specs.Template.{TemplateFields, promoted, activations, clipKnots, withBounds, templateSet, template1, template2, template7, template6, templateNumber}
+use Rattle.definitions.specs.Questions.{askClipTimes}
+use Rattle.sdf.specs.declared.Counted.{Counted}
+use Rattle.sdf.specs.Counted.{counted, listed, itself}
 use Rattle.clip.specs.declared.Prepared.{Prepared}
 use Rattle.template.specs.declared.expanding.Promoted.{Promoted}
 use Rattle.clip.specs.Holding.{emptySet}
@@ -32,13 +34,6 @@ templateFields template x offset blocks m = record {
 abbrev pub offsetOf : TemplateTimes → Bool → Option Float
 offsetOf x offset = cond offset (some (x .offset)) none
 
--- the definitions' 2 and 7, of the four numbers
-unfoldable pub timesUnstorable : TemplateTimes → Option Float → Bool
-timesUnstorable x o = not (storable (x .start)) || not (storable (x .end)) || not (finite (x .stride)) || offsetNotFinite o
-
-unfoldable pub timesDisordered : TemplateTimes → Option Float → Bool
-timesDisordered x o = le (x .stride) 0·0 || lt (x .end) (x .start) || offsetBeyond (x .stride) o
-
 -- the numbers that the fields alone give
 unfoldable pub templateFieldsNumber : TemplateFields → ℕ
 templateFieldsNumber f =
@@ -53,6 +48,12 @@ pub record Promotes (x : TemplateTimes) (r : Promoted) : Type 0 where
   pub long : length (r .items) ≡ maxClips
   pub count : r .count ≡ length (promoted x)
   pub list : r .count ≤ maxClips → take (r .count) (r .items) ≡ promoted x
+
+-- ---- the clip times that are asked for
+
+pub record SaysClipTimes (x : TemplateTimes) (o : Option Float) (before after : List Float) (r : Counted) : Type 0 where
+  pub count : r ≡ counted (askClipTimes x o (length before))
+  pub times : after ≡ listed itself (askClipTimes x o (length before)) before
 
 -- ---- the lists of the times t
 

@@ -80,7 +80,7 @@ fn write_numbers(to: &mut [u64])
     }
 }
 
-fn write_clip_times(ts: &[f64], to: &mut [f64])
+pub fn write_clip_times(ts: &[f64], to: &mut [f64])
     requires { ⌜ length (now to) ≡ length (now ts) ⌝ }
     ensures { λ _. ⌜ after to ≡ timesOfClips (was ts) ⌝ }
 {

@@ -7,10 +7,11 @@ use definitions::limits::TEMPLATE_BYTES;
 use definitions::refusal;
 ghost use mathlib.Core.Path.{_≡_};
 ghost use Rattle.definitions.specs.Moments.{was};
-ghost use Rattle.template.specs.Expanding.{offsetOf, timesUnstorable, timesDisordered, templateFields, templateFieldsNumber};
+ghost use Rattle.definitions.specs.Template.{timesUnstorable, timesDisordered};
+ghost use Rattle.template.specs.Expanding.{offsetOf, templateFields, templateFieldsNumber};
 
 // 2 of the four numbers. An absent offset's slot is not looked at.
-fn is_unstorable(times: TemplateTimes, offset: bool) -> bool
+pub fn is_unstorable(times: TemplateTimes, offset: bool) -> bool
     ensures { λ r. ⌜ r ≡ timesUnstorable times (offsetOf times offset) ⌝ }
 {
     if !gf::is_storable(times.start) {
@@ -29,7 +30,7 @@ fn is_unstorable(times: TemplateTimes, offset: bool) -> bool
 }
 
 // 7.
-fn is_disordered(times: TemplateTimes, offset: bool) -> bool
+pub fn is_disordered(times: TemplateTimes, offset: bool) -> bool
     ensures { λ r. ⌜ r ≡ timesDisordered times (offsetOf times offset) ⌝ }
 {
     if times.stride <= 0.0 {

@@ -11,9 +11,11 @@ use definitions::limits::CLIPS;
 use definitions::limits::KNOTS;
 use definitions::limits::STARTS;
 use definitions::refusal;
-ghost use Rattle.definitions.specs.Moments.{was};
+use sdf::Counted;
+ghost use mathlib.Core.Path.{_≡_};
+ghost use Rattle.definitions.specs.Moments.{was, after};
 ghost use Rattle.clip.specs.Holding.{manifest};
-ghost use Rattle.template.specs.Expanding.{templateFields, Expands};
+ghost use Rattle.template.specs.Expanding.{offsetOf, templateFields, Expands, SaysClipTimes};
 
 // The set that a template expands to, or the empty one, where 1, 2, 7, 6, 8, 2, 4, 5 or 9 refuses it. Where `offset` is false the offset is absent, whatever its slot holds.
 pub fn expand_template(
@@ -56,4 +58,36 @@ pub fn expand_template(
         &mut xs[..m],
         &mut ys[..m],
     )
+}
+
+// The clip times of a template's clips, written to the lent list: 2, 7 and 8 of its four numbers, then 22. The offset moves the starts and not these.
+pub fn clip_times(times: TemplateTimes, offset: bool, out: &mut [f64]) -> Counted
+    ensures { λ r. ⌜ SaysClipTimes times (offsetOf times offset) (was out) (after out) r ⌝ }
+{
+    if fields::is_unstorable(times, offset) {
+        return refused(refusal::UNSTORABLE);
+    }
+    if fields::is_disordered(times, offset) {
+        return refused(refusal::DISORDERED_TEMPLATE);
+    }
+    let promoted = expanding::promote(times);
+    let n = promoted.count;
+    if CLIPS < n {
+        return refused(refusal::TOO_MANY_CLIPS);
+    }
+    if out.len() < n {
+        return refused(refusal::NO_ROOM);
+    }
+    let ts = promoted.items;
+    expanding::write_clip_times(&ts[..n], &mut out[..n]);
+    Counted {
+        number: 0,
+        count: n,
+    }
+}
+
+fn refused(number: u8) -> Counted
+    ensures { λ r. ⌜ r ≡ record { number = number; count = 0 } ⌝ }
+{
+    Counted { number, count: 0 }
 }

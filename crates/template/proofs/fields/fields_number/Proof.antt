@@ -6,7 +6,8 @@ use borrow.Author.Tests.{lt-ltb, le-ltb}
 use denote.Ref.{now}
 use Rattle.definitions.specs.ClipSet.{anyUnstorable}
 use Rattle.definitions.specs.Template.{TemplateFields, template1, template2, template7, template6}
-use Rattle.template.specs.Expanding.{templateFields, offsetOf, timesUnstorable, timesDisordered, templateFieldsNumber}
+use Rattle.definitions.specs.Template.{timesUnstorable, timesDisordered}
+use Rattle.template.specs.Expanding.{templateFields, offsetOf, templateFieldsNumber}
 use Rattle.clip.proofs.Laws.{untrue, holding}
 use Rattle.template.proofs.fields.fields_number.Statement.{statement}
 use Rattle.template.proofs.fields.fields_number.Tie as tie

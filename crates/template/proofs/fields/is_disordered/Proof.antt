@@ -2,7 +2,7 @@
 use mathlib.Core.Path.{ap}
 use borrow.Author.Needs.{needs}
 use lib.Ieee.{Float, lt, ofBits}
-use Rattle.template.specs.Expanding.{timesDisordered}
+use Rattle.definitions.specs.Template.{timesDisordered}
 use Rattle.template.proofs.fields.is_disordered.Statement.{statement}
 use Rattle.template.proofs.fields.is_disordered.Tie as tie
 

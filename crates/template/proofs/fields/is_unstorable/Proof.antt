@@ -4,7 +4,7 @@ use mathlib.Core.Bool.{true, not}
 use borrow.Author.Needs.{needs}
 use Rattle.gf.specs.Doubles.{storable}
 use lib.Ieee.Scale.{finite}
-use Rattle.template.specs.Expanding.{timesUnstorable}
+use Rattle.definitions.specs.Template.{timesUnstorable}
 use Rattle.clip.proofs.Laws.{untrue, holding}
 use Rattle.template.proofs.fields.is_unstorable.Statement.{statement}
 use Rattle.template.proofs.fields.is_unstorable.Tie as tie
