@@ -1,4 +1,5 @@
 -- What the program's functions promise. Assumes nothing.
 pub mod Changes
+pub mod Lending
 pub mod Numbers
 pub mod Text

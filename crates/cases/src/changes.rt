@@ -1,5 +1,9 @@
 // The calls that change what stands: each reads its fields, and hands back what the operation replied.
 use crate::lines::calls::Change;
+use crate::lines::limits::BLOCKS;
+use crate::lines::limits::BYTES;
+use crate::lines::limits::KNOTS;
+use crate::lines::limits::STARTS;
 use crate::text::first_bytes;
 use crate::text::first_doubles;
 use definitions::Default;
@@ -134,11 +138,11 @@ fn explicit(line: &[u8], at: usize, resolver: Resolver) -> Changed
     requires { ⌜ Made resolver ⌝ }
     ensures { λ r. ⌜ Changes Explicit resolver r ⌝ }
 {
-    let mut starts = [0.0f64; 320];
-    let mut numbers = [0.0f64; 320];
-    let mut xs = [0.0f64; 640];
-    let mut ys = [0.0f64; 640];
-    let mut blocks = [0.0f64; 320];
+    let mut starts = [0.0f64; STARTS];
+    let mut numbers = [0.0f64; STARTS];
+    let mut xs = [0.0f64; KNOTS];
+    let mut ys = [0.0f64; KNOTS];
+    let mut blocks = [0.0f64; BLOCKS];
     let read = read_explicit(
         line,
         at,
@@ -240,8 +244,8 @@ fn template(line: &[u8], at: usize, resolver: Resolver) -> Changed
     requires { ⌜ Made resolver ⌝ }
     ensures { λ r. ⌜ Changes Template resolver r ⌝ }
 {
-    let mut bytes = [0u8; 512];
-    let mut blocks = [0.0f64; 320];
+    let mut bytes = [0u8; BYTES];
+    let mut blocks = [0.0f64; BLOCKS];
     let read = read_template(line, at, &mut bytes, &mut blocks);
     if !crate::text::is_end(line, read.at) {
         return unreadable(Change::Template, resolver);

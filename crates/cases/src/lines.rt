@@ -2,6 +2,7 @@
 pub(crate) mod calls;
 pub(crate) mod input;
 pub(crate) mod lent;
+pub(crate) mod limits;
 pub(crate) mod reply;
 pub(crate) mod slots;
 pub(crate) mod values;

@@ -14,6 +14,8 @@ use crate::lines::input;
 use crate::lines::input::Buffer;
 use crate::lines::lent;
 use crate::lines::lent::Lent;
+use crate::lines::limits::ENDS;
+use crate::lines::limits::SAMPLES;
 use crate::lines::reply;
 use resolver::Resolver;
 ghost use mathlib.Core.Path.{_≡_};
@@ -161,12 +163,13 @@ fn lend(
     requires { ⌜ Made (session .resolver) ⌝ }
     ensures { λ r. ⌜ Made (r .resolver) ⌝ }
 {
-    let read = lent::read(line, at, ends, times, values, marks);
-    let n = reply::lent(read, out, session.full);
+    let read = lent::lend(line, at, session.lent, ends, times, values, marks);
+    let n = reply::lent(read.readable, out, session.full);
+    let lent = read.lent;
     let resolver = session.resolver;
     Session {
         full: n,
-        lent: read,
+        lent,
         resolver,
     }
 }
@@ -227,10 +230,10 @@ fn input_buffer() -> [u8; 524288]
 fn main() {
     let mut input = input_buffer();
     let mut out = [0u8; 65536];
-    let mut ends = [0u64; 512];
-    let mut times = [0.0f64; 5120];
-    let mut values = [0.0f64; 5120];
-    let mut marks = [0u8; 5120];
+    let mut ends = [0u64; ENDS];
+    let mut times = [0.0f64; SAMPLES];
+    let mut values = [0.0f64; SAMPLES];
+    let mut marks = [0u8; SAMPLES];
     serve(
         &mut input,
         &mut out,

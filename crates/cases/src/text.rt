@@ -5,6 +5,9 @@ mod output;
 mod words;
 
 pub(crate) use lists::Listed;
+pub(crate) use lists::copy_bytes;
+pub(crate) use lists::copy_doubles;
+pub(crate) use lists::copy_numbers;
 pub(crate) use lists::doubles_after;
 pub(crate) use lists::first_bytes;
 pub(crate) use lists::first_doubles;

@@ -1,6 +1,5 @@
 // The replies that several calls share, each a whole line.
 use crate::lines::input::Buffer;
-use crate::lines::lent::Lent;
 
 pub(crate) fn unreadable(out: &mut [u8], full: usize) -> usize {
     crate::text::put(out, full, b"unreadable\n")
@@ -35,8 +34,8 @@ pub(crate) fn skipped(before: Buffer, after: Buffer, out: &mut [u8], full: usize
 }
 
 // Nothing for samples that were read.
-pub(crate) fn lent(lent: Lent, out: &mut [u8], full: usize) -> usize {
-    if lent.readable {
+pub(crate) fn lent(readable: bool, out: &mut [u8], full: usize) -> usize {
+    if readable {
         return full;
     }
     unreadable(out, full)

@@ -195,3 +195,37 @@ pub(crate) fn part(list: &[u8], from: usize, to: usize) -> &[u8]
     }
     &list[from..to]
 }
+
+// Copies a list over another, as far as both go.
+pub(crate) fn copy_doubles(from: &[f64], to: &mut [f64]) {
+    let mut i: usize = 0;
+    while i < from.len() {
+        if i >= to.len() {
+            return;
+        }
+        to[i] = from[i];
+        i += 1;
+    }
+}
+
+pub(crate) fn copy_numbers(from: &[u64], to: &mut [u64]) {
+    let mut i: usize = 0;
+    while i < from.len() {
+        if i >= to.len() {
+            return;
+        }
+        to[i] = from[i];
+        i += 1;
+    }
+}
+
+pub(crate) fn copy_bytes(from: &[u8], to: &mut [u8]) {
+    let mut i: usize = 0;
+    while i < from.len() {
+        if i >= to.len() {
+            return;
+        }
+        to[i] = from[i];
+        i += 1;
+    }
+}
