@@ -1,4 +1,5 @@
 -- Laws that several proofs cite. Assumes nothing.
 mod Changing
+mod Decimals
 mod Digits
 mod Words

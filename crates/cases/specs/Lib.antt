@@ -1,5 +1,7 @@
 -- What the program's functions promise. Assumes nothing.
 pub mod Changes
+pub mod Decimals
+pub mod Doubles
 pub mod Lending
 pub mod Numbers
 pub mod Text

@@ -4,10 +4,8 @@ use mathlib.Core.Bool.{Bool, cond}
 use mathlib.Core.List.{List, [], _∷_}
 use lib.Dec.{eqb, ltb, leb}
 use lib.ListN.{drop}
-use lib.Ieee.{binary64, ofBits}
 use Rattle.cases.specs.declared.text.numbers.Number.{Number}
 use Rattle.cases.specs.declared.text.numbers.Byte.{Byte}
-use Rattle.cases.specs.declared.text.numbers.Double.{Double}
 use Rattle.cases.specs.declared.text.words.Stop.the-variants.{Word}
 use Rattle.cases.specs.Text.{nowhere, scanned, closedAt}
 
@@ -65,6 +63,3 @@ byteOf n = cond (ltb 255 (n .value)) (record { at = nowhere; value = 0 }) (recor
 -- the next word, a double's bits
 unfoldable pub readBits : List ℕ → ℕ → Number
 readBits line at = closing line (hexesAt line (scanned line at Word) 16)
-
-abbrev pub doubleOf : Number → Double
-doubleOf n = record { at = n .at; value = ofBits binary64 (n .value) }

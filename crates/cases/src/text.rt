@@ -1,4 +1,5 @@
 // The case text: the words, numbers and lists of a line, and the replies. Nothing here asks anything of its caller.
+mod decimals;
 mod lists;
 mod numbers;
 mod output;

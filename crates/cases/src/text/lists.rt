@@ -1,9 +1,9 @@
 // Lists of a line, read into a list that the caller lends. A list that is longer than that is not readable.
 use crate::text::numbers::hex_digits;
-use crate::text::numbers::read_bits;
 use crate::text::numbers::read_byte;
 use crate::text::numbers::read_decimal;
 use crate::text::numbers::read_double;
+use crate::text::numbers::read_pattern;
 use crate::text::words::NOWHERE;
 use crate::text::words::after;
 use crate::text::words::closed;
@@ -57,7 +57,7 @@ fn read_patterns(line: &[u8], at: usize, out: &mut [u64]) -> Listed {
     let mut place = n.at;
     let mut i: usize = 0;
     while i < count {
-        let d = read_bits(line, place);
+        let d = read_pattern(line, place);
         out[i] = d.value;
         place = d.at;
         i += 1;

@@ -1,4 +1,5 @@
-// Numbers of a line: decimal counts and doubles by their bits.
+// Numbers of a line: decimal counts, and doubles.
+use crate::text::decimals::read_written;
 use crate::text::words::NOWHERE;
 use crate::text::words::closed;
 use crate::text::words::skip_blanks;
@@ -6,7 +7,9 @@ ghost use Prim.Native.Nat.{_≤_};
 ghost use mathlib.Core.Path.{_≡_};
 ghost use lib.Ieee.{binary64, ofBits, toBits};
 ghost use Rattle.definitions.specs.Moments.{was};
-ghost use Rattle.cases.specs.Numbers.{digitOf, unread, decimalsAt, hexesAt, readDecimal, readBits, byteOf, doubleOf};
+ghost use lib.ListN.{drop};
+ghost use Rattle.cases.specs.Numbers.{digitOf, unread, decimals, hexesAt, readDecimal, readBits, byteOf};
+ghost use Rattle.cases.specs.Doubles.{readDouble, readPattern};
 
 pub(crate) struct Number {
     pub at: usize,
@@ -64,12 +67,12 @@ fn digit(b: u8) -> u64
     16
 }
 
-// The decimal digits from `at` on, if their number has at most 64 bits.
-fn decimal_digits(line: &[u8], at: usize) -> Number
-    ensures { λ r. ⌜ r ≡ decimalsAt (was line) at ⌝ }
+// The decimal digits from `at` on, behind those of the number `head`, if all of them write a number of at most 64 bits.
+pub(crate) fn digits_from(line: &[u8], at: usize, head: u64) -> Number
+    ensures { λ r. ⌜ r ≡ decimals head at (drop at (was line)) ⌝ }
 {
     let mut i = at;
-    let mut value: u64 = 0;
+    let mut value = head;
     while i < line.len() {
         let d = digit(line[i]);
         if d >= 10 {
@@ -89,7 +92,7 @@ pub(crate) fn read_decimal(line: &[u8], at: usize) -> Number
     ensures { λ r. ⌜ r ≡ readDecimal (was line) at ⌝ }
 {
     let from = skip_blanks(line, at);
-    let n = decimal_digits(line, from);
+    let n = digits_from(line, from, 0);
     if n.at == from {
         return nowhere();
     }
@@ -163,7 +166,7 @@ pub(crate) fn bits_of(x: f64) -> u64
 }
 
 // The next word, a double's bits.
-pub(crate) fn read_bits(line: &[u8], at: usize) -> Number
+fn read_bits(line: &[u8], at: usize) -> Number
     ensures { λ r. ⌜ r ≡ readBits (was line) at ⌝ }
 {
     let n = hex_digits(line, skip_blanks(line, at), 16);
@@ -173,13 +176,31 @@ pub(crate) fn read_bits(line: &[u8], at: usize) -> Number
     }
 }
 
-// The next word, a double by its bits.
+// The next word, a double: by its bits, or as a decimal.
 pub(crate) fn read_double(line: &[u8], at: usize) -> Double
-    ensures { λ r. ⌜ r ≡ doubleOf (readBits (was line) at) ⌝ }
+    ensures { λ r. ⌜ r ≡ readDouble (was line) at ⌝ }
 {
     let n = read_bits(line, at);
+    if n.at == NOWHERE {
+        return read_written(line, at);
+    }
     Double {
         at: n.at,
         value: double_of(n.value),
     }
+}
+
+// The same, its bits.
+pub(crate) fn read_pattern(line: &[u8], at: usize) -> Number
+    ensures { λ r. ⌜ r ≡ readPattern (was line) at ⌝ }
+{
+    let n = read_bits(line, at);
+    if n.at == NOWHERE {
+        let d = read_written(line, at);
+        return Number {
+            at: d.at,
+            value: bits_of(d.value),
+        };
+    }
+    n
 }

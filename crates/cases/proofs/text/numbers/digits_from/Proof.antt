@@ -1,4 +1,4 @@
--- `cases::text::numbers::decimal_digits` meets its contract: each turn reads one digit more. Assumes nothing.
+-- `cases::text::numbers::digits_from` meets its contract: each turn reads one digit more. Assumes nothing.
 use borrow.Author.Needs.{needs}
 use Prim.Native.Nat.{_+_, _-_, _*_, _<_, _≤_}
 use mathlib.Core.Path.{_≡_, refl, sym, ap, _∙_}
@@ -6,15 +6,15 @@ use lib.ListN.{length, drop}
 use native.Mathlib.Omega.{arith}
 use borrow.Author.Tests.{ltb-true, ltb-false}
 use Rattle.cases.proofs.Digits.{decimal-stops, decimal-outgrows, decimal-goes, decimal-ends}
-use Rattle.cases.specs.Numbers.{decimals, decimalsAt}
-use Rattle.cases.proofs.text.numbers.decimal_digits.Statement.{statement}
-use Rattle.cases.proofs.text.numbers.decimal_digits.Tie as tie
+use Rattle.cases.specs.Numbers.{decimals}
+use Rattle.cases.proofs.text.numbers.digits_from.Statement.{statement}
+use Rattle.cases.proofs.text.numbers.digits_from.Tie as tie
 
 abbrev Inv-loop : tie.InvT-loop
-Inv-loop line at i₀ value₀ i value = decimals value i (drop i line) ≡ decimalsAt line at
+Inv-loop line at head i₀ value₀ i value = decimals value i (drop i line) ≡ decimals head at (drop at line)
 
 abbrev μ-loop : tie.MeasureT-loop
-μ-loop line at i₀ value₀ i value = length line - i
+μ-loop line at head i₀ value₀ i value = length line - i
 
 loop-holds : tie.Need-loop-holds Inv-loop μ-loop
 loop-holds c = refl
@@ -66,8 +66,8 @@ loop-again c =
 returns-3 : tie.Need-returns-3 Inv-loop μ-loop
 returns-3 c = decimal-ends (c .before .before .before .args .line .now) (c .before .loop .value) (c .before .loop .i) (c .loop-test .left) ∙ c .before .loop .inv
 
-pub decimal-digits-spec : {M : Type 1} → statement M
-decimal-digits-spec =
+pub digits-from-spec : {M : Type 1} → statement M
+digits-from-spec =
     tie.close
     (tie.spec
     Inv-loop
