@@ -1,5 +1,6 @@
 // Answers the case text of standard input on standard output.
 mod changes;
+mod help;
 mod lines;
 mod questions;
 mod setless;
@@ -17,26 +18,31 @@ use crate::lines::lent::Lent;
 use crate::lines::limits::ENDS;
 use crate::lines::limits::SAMPLES;
 use crate::lines::reply;
+use crate::lines::told;
+use crate::text::NOWHERE;
 use resolver::Resolver;
 ghost use mathlib.Core.Path.{_≡_};
 ghost use lib.ListN.{length};
 ghost use Rattle.resolver.specs.State.{Made};
 
-// What a line leaves for the next one: how much of the output buffer is in use, the samples that are lent, and what stands.
+// What a line leaves for the next one: how much of the output buffer is in use, how many lines there were, the samples that
+// are lent, and what stands.
 struct Session {
     pub full: usize,
+    pub lines: u64,
     pub lent: Lent,
     pub resolver: Resolver,
 }
 
 // Nothing is lent and no set stands.
-fn begin(full: usize) -> Session
+fn begin(full: usize, lines: u64) -> Session
     ensures { λ r. ⌜ Made (r .resolver) ⌝ }
 {
     let none = lent::none();
     let fresh = Resolver::fresh();
     Session {
         full,
+        lines,
         lent: none,
         resolver: fresh,
     }
@@ -51,6 +57,22 @@ fn written(session: Session, full: usize) -> Session
     let resolver = session.resolver;
     Session {
         full,
+        lines: session.lines,
+        lent,
+        resolver,
+    }
+}
+
+// One line more.
+fn counted(session: Session) -> Session
+    requires { ⌜ Made (session .resolver) ⌝ }
+    ensures { λ r. ⌜ Made (r .resolver) ⌝ }
+{
+    let lent = session.lent;
+    let resolver = session.resolver;
+    Session {
+        full: session.full,
+        lines: std::num::wrapping_add_u64(session.lines, 1),
         lent,
         resolver,
     }
@@ -66,7 +88,7 @@ fn serve(
     values: &mut [f64],
     marks: &mut [u8],
 ) {
-    let mut session = begin(0);
+    let mut session = begin(0, 0);
     let mut buffer = input::empty();
     let mut turns = u64::MAX;
     while turns > 0 {
@@ -103,11 +125,19 @@ fn flushed(session: Session, out: &mut [u8]) -> Session
     written(session, n)
 }
 
+// A line that was found to be longer than the buffer is not readable.
 fn refilled(session: Session, before: Buffer, after: Buffer, out: &mut [u8]) -> Session
     requires { ⌜ Made (session .resolver) ⌝ }
     ensures { λ r. ⌜ Made (r .resolver) ⌝ }
 {
-    let n = reply::skipped(before, after, out, session.full);
+    if before.skips {
+        return session;
+    }
+    if !after.skips {
+        return session;
+    }
+    told::too_long(std::num::wrapping_add_u64(session.lines, 1));
+    let n = reply::unreadable(out, session.full);
     written(session, n)
 }
 
@@ -124,9 +154,10 @@ fn run(
     requires { ⌜ Made (session .resolver) ⌝ }
     ensures { λ r. ⌜ Made (r .resolver) ⌝ }
 {
+    let session = counted(session);
     match calls::call_of(line) {
         Call::Nothing => session,
-        Call::Unreadable => unreadable(session, out),
+        Call::Unreadable => unreadable(line, session, out),
         Call::Case(at) => case(line, at, session, out),
         Call::Samples(at) => lend(line, at, session, ends, times, values, marks, out),
         Call::Changing(kind, at) => change(kind, line, at, session, out),
@@ -134,10 +165,12 @@ fn run(
     }
 }
 
-fn unreadable(session: Session, out: &mut [u8]) -> Session
+// The line could not be read: it changes nothing, and is told.
+fn unreadable(line: &[u8], session: Session, out: &mut [u8]) -> Session
     requires { ⌜ Made (session .resolver) ⌝ }
     ensures { λ r. ⌜ Made (r .resolver) ⌝ }
 {
+    told::unreadable(session.lines, line);
     let n = reply::unreadable(out, session.full);
     written(session, n)
 }
@@ -147,7 +180,7 @@ fn case(line: &[u8], at: usize, session: Session, out: &mut [u8]) -> Session
     ensures { λ r. ⌜ Made (r .resolver) ⌝ }
 {
     let n = reply::case_named(crate::text::word(line, at), out, session.full);
-    begin(n)
+    begin(n, session.lines)
 }
 
 fn lend(
@@ -164,11 +197,14 @@ fn lend(
     ensures { λ r. ⌜ Made (r .resolver) ⌝ }
 {
     let read = lent::lend(line, at, session.lent, ends, times, values, marks);
-    let n = reply::lent(read.readable, out, session.full);
+    if !read.readable {
+        return unreadable(line, session, out);
+    }
     let lent = read.lent;
     let resolver = session.resolver;
     Session {
-        full: n,
+        full: session.full,
+        lines: session.lines,
         lent,
         resolver,
     }
@@ -201,6 +237,9 @@ fn ask(
         out,
         session.full,
     );
+    if n == NOWHERE {
+        return unreadable(line, session, out);
+    }
     written(session, n)
 }
 
@@ -209,12 +248,16 @@ fn change(kind: Change, line: &[u8], at: usize, session: Session, out: &mut [u8]
     ensures { λ r. ⌜ Made (r .resolver) ⌝ }
 {
     let changed = crate::changes::change(kind, line, at, session.resolver);
+    if !changed.readable {
+        return unreadable(line, session, out);
+    }
     let accepted = changed.accepted;
-    let n = reply::changed(changed.readable, accepted.number, out, session.full);
+    let n = reply::changed(accepted.number, out, session.full);
     let lent = session.lent;
     let resolver = accepted.resolver;
     Session {
         full: n,
+        lines: session.lines,
         lent,
         resolver,
     }
@@ -228,6 +271,10 @@ fn input_buffer() -> [u8; 524288]
 }
 
 fn main() {
+    if os::arg_count() > 1 {
+        help::answer();
+        return;
+    }
     let mut input = input_buffer();
     let mut out = [0u8; 65536];
     let mut ends = [0u64; ENDS];

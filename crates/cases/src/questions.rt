@@ -1,4 +1,5 @@
-// The questions of the case text, and which function answers each.
+// The questions of the case text, and which function answers each. One whose line could not be read replies nothing and hands
+// back `NOWHERE`.
 mod dump;
 mod sampled;
 mod timing;

@@ -37,7 +37,7 @@ pub(crate) fn name(line: &[u8], at: usize, out: &mut [u8], full: usize) -> usize
     let t = crate::text::read_double(line, b.at);
     let s = slots(line, t.at, 400, 512);
     if !crate::text::is_end(line, s.at) {
-        return reply::unreadable(out, full);
+        return crate::text::NOWHERE;
     }
     named(
         first_bytes(&template, b.count),
@@ -127,7 +127,7 @@ pub(crate) fn normalize(line: &[u8], at: usize, out: &mut [u8], full: usize) -> 
     let marks = first_bytes(&marks, m.count);
     let s = slots(line, m.at, 65536, 65536);
     if !crate::text::is_end(line, s.at) {
-        return reply::unreadable(out, full);
+        return crate::text::NOWHERE;
     }
     values::lend(patterns, marks, &mut lent);
     normalized(

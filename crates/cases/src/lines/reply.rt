@@ -1,5 +1,4 @@
 // The replies that several calls share, each a whole line.
-use crate::lines::input::Buffer;
 
 pub(crate) fn unreadable(out: &mut [u8], full: usize) -> usize {
     crate::text::put(out, full, b"unreadable\n")
@@ -12,33 +11,11 @@ pub(crate) fn refused(number: u8, out: &mut [u8], full: usize) -> usize {
 }
 
 // Of a call that may change what stands.
-pub(crate) fn changed(readable: bool, number: u8, out: &mut [u8], full: usize) -> usize {
-    if !readable {
-        return unreadable(out, full);
-    }
+pub(crate) fn changed(number: u8, out: &mut [u8], full: usize) -> usize {
     if number == 0 {
         return crate::text::put(out, full, b"ok\n");
     }
     refused(number, out, full)
-}
-
-// A line was found to be longer than the buffer.
-pub(crate) fn skipped(before: Buffer, after: Buffer, out: &mut [u8], full: usize) -> usize {
-    if before.skips {
-        return full;
-    }
-    if after.skips {
-        return unreadable(out, full);
-    }
-    full
-}
-
-// Nothing for samples that were read.
-pub(crate) fn lent(readable: bool, out: &mut [u8], full: usize) -> usize {
-    if readable {
-        return full;
-    }
-    unreadable(out, full)
 }
 
 pub(crate) fn case_named(name: &[u8], out: &mut [u8], full: usize) -> usize {

@@ -87,7 +87,7 @@ pub(super) fn dump(line: &[u8], at: usize, resolver: Resolver, out: &mut [u8], f
     requires { ⌜ Made resolver ⌝ }
 {
     if !crate::text::is_end(line, at) {
-        return reply::unreadable(out, full);
+        return crate::text::NOWHERE;
     }
     if !resolver.stands {
         return reply::refused(20, out, full);

@@ -38,7 +38,7 @@ pub(super) fn value(
 {
     let t = crate::text::read_double(line, at);
     if !crate::text::is_end(line, t.at) {
-        return reply::unreadable(out, full);
+        return crate::text::NOWHERE;
     }
     match resolver.value(times, values, marks, ends, StageTime(t.value)) {
         ValueReply::Answered(a) => answer(a, out, full),
@@ -68,7 +68,7 @@ pub(super) fn untimed(
     requires { ⌜ Made resolver ⌝ }
 {
     if !crate::text::is_end(line, at) {
-        return reply::unreadable(out, full);
+        return crate::text::NOWHERE;
     }
     match resolver.untimed(times, values, marks, ends) {
         UntimedReply::Answered(s) => state(s, out, full),
@@ -114,7 +114,7 @@ pub(super) fn stage_sample_times(
     let mut outtimes = [0.0f64; 65536];
     let s = slots(line, at, 65536, 65536);
     if !crate::text::is_end(line, s.at) {
-        return reply::unreadable(out, full);
+        return crate::text::NOWHERE;
     }
     times_in(
         s.count,
@@ -176,7 +176,7 @@ pub(super) fn stage_samples(
     let mut outmarks = [0u8; 65536];
     let s = slots(line, at, 65536, 65536);
     if !crate::text::is_end(line, s.at) {
-        return reply::unreadable(out, full);
+        return crate::text::NOWHERE;
     }
     samples_in(
         s.count,
@@ -246,7 +246,7 @@ pub(super) fn track(
     let mut outmarks = [0u8; 65536];
     let s = slots(line, at, 65536, 65536);
     if !crate::text::is_end(line, s.at) {
-        return reply::unreadable(out, full);
+        return crate::text::NOWHERE;
     }
     track_in(
         s.count,
@@ -278,7 +278,7 @@ pub(super) fn track_hash(
     requires { ⌜ Made resolver ⌝ }
 {
     if !crate::text::is_end(line, at) {
-        return reply::unreadable(out, full);
+        return crate::text::NOWHERE;
     }
     if !resolver.stands {
         return reply::refused(20, out, full);

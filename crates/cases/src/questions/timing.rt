@@ -17,7 +17,7 @@ pub(super) fn active(
 {
     let t = crate::text::read_double(line, at);
     if !crate::text::is_end(line, t.at) {
-        return reply::unreadable(out, full);
+        return crate::text::NOWHERE;
     }
     match resolver.active_clip(StageTime(t.value)) {
         ClipReply::Clip(clip) => {
@@ -41,7 +41,7 @@ pub(super) fn clip_time(
 {
     let t = crate::text::read_double(line, at);
     if !crate::text::is_end(line, t.at) {
-        return reply::unreadable(out, full);
+        return crate::text::NOWHERE;
     }
     match resolver.clip_time(StageTime(t.value)) {
         TimeReply::Time(time) => {
