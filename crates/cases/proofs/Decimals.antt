@@ -9,14 +9,14 @@ use mathlib.Core.List.{List}
 use borrow.Author.Tests.{lt-ltb, le-ltb, ltb-true, eq-eqb, ne-eqb}
 use lib.Dec.{eqb, ltb, lit<}
 use lib.ListN.{length, drop, getD}
-use lib.Ieee.{Float, binary64, ofBits, toBits}
+use lib.Ieee.{Float, binary64, ofBits, toBits, round}
 use Rattle.cases.specs.declared.text.numbers.Number.{Number}
 use Rattle.cases.specs.declared.text.numbers.Double.{Double}
 use Rattle.cases.specs.declared.text.decimals.Decimal.{Decimal}
 use Rattle.cases.specs.declared.text.words.Stop.the-variants.{Word}
 use Rattle.cases.specs.Text.{nowhere, scanned, closedAt}
 use Rattle.cases.specs.Numbers.{numberAt, decimals, decimalsAt, readBits}
-use Rattle.cases.specs.Decimals.{doubleAt, unreadDouble, decimalOf, noDecimal, stands, behindPoint, decimalFrom, decimalAt, quotientOf, signedOf, valued, readWritten}
+use Rattle.cases.specs.Decimals.{doubleAt, unreadDouble, decimalOf, noDecimal, stands, behindPoint, decimalFrom, decimalAt, valued, readWritten}
 use Rattle.cases.specs.Doubles.{doubleOf, patternOf, readDouble, readPattern}
 
 -- ---- a byte of the line
@@ -79,7 +79,7 @@ tens-next i = sym (ap (λ (n : ℕ). 10 ^ n) (add-one i) ∙ pow-suc 10 i)
 
 module _ (line : List ℕ) (negative : Bool) (d : Decimal) where
   abbrev judged : Double
-  judged = cond (ltb 15 (d .whole + d .scale)) unreadDouble (doubleAt (closedAt line (d .at)) (signedOf (quotientOf (d .digits) (d .scale)) negative))
+  judged = cond (ltb 15 (d .whole + d .scale)) unreadDouble (doubleAt (closedAt line (d .at)) (round binary64 negative (d .digits) (10 ^ d .scale)))
 
   pub valued-empty : d .whole ≡ 0 → unreadDouble ≡ valued line negative d
   unfolding valued
@@ -91,14 +91,14 @@ module _ (line : List ℕ) (negative : Bool) (d : Decimal) where
 
   pub valued-long : (d .whole ≡ 0 → ⊥) → 15 < d .whole + d .scale → unreadDouble ≡ valued line negative d
   valued-long h l =
-      sym (ap (λ (k : Bool). cond k unreadDouble (doubleAt (closedAt line (d .at)) (signedOf (quotientOf (d .digits) (d .scale)) negative))) (lt-ltb _ _ l))
+      sym (ap (λ (k : Bool). cond k unreadDouble (doubleAt (closedAt line (d .at)) (round binary64 negative (d .digits) (10 ^ d .scale)))) (lt-ltb _ _ l))
       ∙ some h
 
-  pub valued-is : (d .whole ≡ 0 → ⊥) → d .whole + d .scale ≤ 15 → (at : ℕ) (x : Float) → at ≡ closedAt line (d .at) → x ≡ signedOf (quotientOf (d .digits) (d .scale)) negative → doubleAt at x ≡ valued line negative d
+  pub valued-is : (d .whole ≡ 0 → ⊥) → d .whole + d .scale ≤ 15 → (at : ℕ) (x : Float) → at ≡ closedAt line (d .at) → x ≡ round binary64 negative (d .digits) (10 ^ d .scale) → doubleAt at x ≡ valued line negative d
   valued-is h l at x ea ex =
       ap (λ (k : ℕ). doubleAt k x) ea
       ∙ ap (doubleAt (closedAt line (d .at))) ex
-      ∙ sym (ap (λ (k : Bool). cond k unreadDouble (doubleAt (closedAt line (d .at)) (signedOf (quotientOf (d .digits) (d .scale)) negative))) (le-ltb _ _ l))
+      ∙ sym (ap (λ (k : Bool). cond k unreadDouble (doubleAt (closedAt line (d .at)) (round binary64 negative (d .digits) (10 ^ d .scale)))) (le-ltb _ _ l))
       ∙ some h
 
 -- ---- the word

@@ -2,4 +2,5 @@
 mod Changing
 mod Decimals
 mod Digits
+mod Rounded
 mod Words

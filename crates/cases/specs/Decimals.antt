@@ -3,9 +3,8 @@ use Prim.Native.Nat.{ℕ, _+_, _-_, _^_}
 use mathlib.Core.Bool.{Bool, true, false, cond, _&&_}
 use mathlib.Core.List.{List}
 use lib.Dec.{eqb, ltb}
-use lib.IntN.{pos}
 use lib.ListN.{length, drop, getD}
-use lib.Ieee.{Float, binary64, ofBits, ofInt, div, neg}
+use lib.Ieee.{Float, binary64, ofBits, round, neg}
 use Rattle.cases.specs.declared.text.numbers.Number.{Number}
 use Rattle.cases.specs.declared.text.numbers.Double.{Double}
 use Rattle.cases.specs.declared.text.decimals.Decimal.{Decimal}
@@ -45,20 +44,17 @@ decimalFrom line from n =
 abbrev pub decimalAt : List ℕ → ℕ → Decimal
 decimalAt line from = decimalFrom line from (decimalsAt line from)
 
--- the digits' number over ten to the number of digits behind the point, divided with one rounding
-abbrev pub quotientOf : ℕ → ℕ → Float
-quotientOf digits scale = div binary64 (ofInt binary64 (pos digits)) (ofInt binary64 (pos (10 ^ scale)))
-
 abbrev pub signedOf : Float → Bool → Float
 signedOf x true = neg x
 signedOf x false = x
 
--- the double that a decimal writes: some digit before its point, at most 15 in all, and the word ends with it
+-- the double that a decimal writes: the one nearest to its digits' number over ten to the number of digits behind the point, with its sign. It has some
+-- digit before its point, at most 15 in all, and the word ends with it
 unfoldable pub valued : List ℕ → Bool → Decimal → Double
 valued line negative d =
     cond (eqb (d .whole) 0) unreadDouble
     (cond (ltb 15 (d .whole + d .scale)) unreadDouble
-    (doubleAt (closedAt line (d .at)) (signedOf (quotientOf (d .digits) (d .scale)) negative)))
+    (doubleAt (closedAt line (d .at)) (round binary64 negative (d .digits) (10 ^ d .scale))))
 
 -- the next word, a decimal
 unfoldable pub readWritten : List ℕ → ℕ → Double

@@ -5,9 +5,11 @@ use crate::text::words::NOWHERE;
 use crate::text::words::closed;
 use crate::text::words::skip_blanks;
 ghost use mathlib.Core.Path.{_≡_};
-ghost use Prim.Native.Nat.{_≤_, _-_, _^_};
+ghost use mathlib.Core.Bool.{false};
+ghost use Prim.Native.Nat.{_<_, _≤_, _+_, _-_, _^_};
+ghost use lib.Ieee.{binary64, round};
 ghost use Rattle.definitions.specs.Moments.{was};
-ghost use Rattle.cases.specs.Decimals.{stands, noDecimal, unreadDouble, decimalAt, signedOf, quotientOf, valued, readWritten};
+ghost use Rattle.cases.specs.Decimals.{stands, noDecimal, unreadDouble, decimalAt, signedOf, valued, readWritten};
 
 // The digits of a decimal: the number that they write, the point left out, how many stand before the point and how many
 // behind it.
@@ -95,8 +97,8 @@ fn ten_to(k: usize) -> u64
 // The digits' number over ten to the number of those behind the point. Both are doubles as they stand, so that the division
 // alone rounds.
 fn quotient(digits: u64, scale: usize) -> f64
-    requires { ⌜ scale ≤ 15 ⌝ }
-    ensures { λ r. ⌜ r ≡ quotientOf digits scale ⌝ }
+    requires { ⌜ digits ≤ 9007199254740992 ⌝ ∗ ⌜ scale ≤ 15 ⌝ }
+    ensures { λ r. ⌜ r ≡ round binary64 false digits (10 ^ scale) ⌝ }
 {
     std::num::nearest_u64_to_f64(digits) / std::num::nearest_u64_to_f64(ten_to(scale))
 }
@@ -122,6 +124,7 @@ fn nowhere() -> Double
 
 // The double that a decimal writes, if it has a digit before its point, at most 15 in all, and ends its word.
 fn value_of(line: &[u8], negative: bool, d: Decimal) -> Double
+    requires { ⌜ d .digits < 10 ^ (d .whole + d .scale) ⌝ }
     ensures { λ r. ⌜ r ≡ valued (was line) negative d ⌝ }
 {
     if d.whole == 0 {

@@ -1,11 +1,12 @@
 -- `cases::text::decimals::value_of` meets its contract. Assumes nothing.
 use borrow.Author.Needs.{needs}
-use Prim.Native.Nat.{_+_, _<_, _≤_}
+use Prim.Native.Nat.{_+_, _^_, _<_, _≤_}
 use mathlib.Core.Path.{ap, _∙_}
 use lib.Ieee.{Float}
 use native.Mathlib.Omega.{arith}
 use Rattle.cases.specs.Decimals.{signedOf}
 use Rattle.cases.proofs.Decimals.{valued-empty, valued-long, valued-is}
+use Rattle.cases.proofs.Rounded.{fifteen, signed-rounds}
 use Rattle.cases.proofs.text.decimals.value_of.Statement.{statement}
 use Rattle.cases.proofs.text.decimals.value_of.Tie as tie
 
@@ -38,7 +39,12 @@ returns-3 c =
     c .nowhere3 .ensures ∙ valued-long (a .line .now) (a .negative) (a .d) (e .if1 .left) l
 
 quotient-requires : tie.Need-quotient-requires
-quotient-requires c κs = omega (arith, c .before .if3 .left)
+quotient-requires c κs =
+    let z = c .before in
+    let t = z .before .before .before in
+    let s = begun (some (t .before) .before) in
+    let l : s .args .d .whole + s .args .d .scale ≤ 15 = omega (arith, z .if3 .left, t .if2 .left) in
+    (fifteen _ _ (s .pre) l, omega (arith, l))
 
 returns-4 : tie.Need-returns-4
 returns-4 c =
@@ -47,7 +53,7 @@ returns-4 c =
     let e = some (t .before) in
     let a = begun (e .before) .args in
     let l : a .d .whole + a .d .scale ≤ 15 = omega (arith, z .before .if3 .left, t .if2 .left) in
-    valued-is (a .line .now) (a .negative) (a .d) (e .if1 .left) l (z .closed .result) (c .signed .result) (z .closed .ensures) (c .signed .ensures ∙ ap (λ (x : Float). signedOf x (a .negative)) (c .before .quotient .ensures))
+    valued-is (a .line .now) (a .negative) (a .d) (e .if1 .left) l (z .closed .result) (c .signed .result) (z .closed .ensures) (c .signed .ensures ∙ ap (λ (x : Float). signedOf x (a .negative)) (c .before .quotient .ensures) ∙ signed-rounds (a .negative) (a .d .digits) (10 ^ a .d .scale))
 
 pub value-of-spec : {M : Type 1} → statement M
 value-of-spec =
