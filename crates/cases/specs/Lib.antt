@@ -4,4 +4,5 @@ pub mod Decimals
 pub mod Doubles
 pub mod Lending
 pub mod Numbers
+pub mod Sessions
 pub mod Text

@@ -24,6 +24,7 @@ use resolver::Resolver;
 ghost use mathlib.Core.Path.{_≡_};
 ghost use lib.ListN.{length};
 ghost use Rattle.resolver.specs.State.{Made};
+ghost use Rattle.cases.specs.Sessions.{Stays};
 
 // What a line leaves for the next one: how much of the output buffer is in use, how many lines there were, the samples that
 // are lent, and what stands.
@@ -51,7 +52,7 @@ fn begin(full: usize, lines: u64) -> Session
 // The same after more output.
 fn written(session: Session, full: usize) -> Session
     requires { ⌜ Made (session .resolver) ⌝ }
-    ensures { λ r. ⌜ Made (r .resolver) ⌝ }
+    ensures { λ r. ⌜ Stays session r ⌝ }
 {
     let lent = session.lent;
     let resolver = session.resolver;
@@ -66,7 +67,7 @@ fn written(session: Session, full: usize) -> Session
 // One line more.
 fn counted(session: Session) -> Session
     requires { ⌜ Made (session .resolver) ⌝ }
-    ensures { λ r. ⌜ Made (r .resolver) ⌝ }
+    ensures { λ r. ⌜ Stays session r ⌝ }
 {
     let lent = session.lent;
     let resolver = session.resolver;
@@ -119,7 +120,7 @@ fn serve(
 
 fn flushed(session: Session, out: &mut [u8]) -> Session
     requires { ⌜ Made (session .resolver) ⌝ }
-    ensures { λ r. ⌜ Made (r .resolver) ⌝ }
+    ensures { λ r. ⌜ Stays session r ⌝ }
 {
     let n = crate::text::flush(out, session.full);
     written(session, n)
@@ -128,7 +129,7 @@ fn flushed(session: Session, out: &mut [u8]) -> Session
 // A line that was found to be longer than the buffer is not readable.
 fn refilled(session: Session, before: Buffer, after: Buffer, out: &mut [u8]) -> Session
     requires { ⌜ Made (session .resolver) ⌝ }
-    ensures { λ r. ⌜ Made (r .resolver) ⌝ }
+    ensures { λ r. ⌜ Stays session r ⌝ }
 {
     if before.skips {
         return session;
@@ -168,7 +169,7 @@ fn run(
 // The line could not be read: it changes nothing, and is told.
 fn unreadable(line: &[u8], session: Session, out: &mut [u8]) -> Session
     requires { ⌜ Made (session .resolver) ⌝ }
-    ensures { λ r. ⌜ Made (r .resolver) ⌝ }
+    ensures { λ r. ⌜ Stays session r ⌝ }
 {
     told::unreadable(session.lines, line);
     let n = reply::unreadable(out, session.full);
@@ -222,7 +223,7 @@ fn ask(
     out: &mut [u8],
 ) -> Session
     requires { ⌜ Made (session .resolver) ⌝ }
-    ensures { λ r. ⌜ Made (r .resolver) ⌝ }
+    ensures { λ r. ⌜ Stays session r ⌝ }
 {
     let n = crate::questions::ask(
         kind,

@@ -38,7 +38,7 @@ loop-again-2 : tie.Need-loop-again-2 Inv-loop μ-loop
 loop-again-2 c =
     let told = c .before .before in
     let inv = refilling told .before .loop .inv in
-    (omega (arith, told .before .before .before .before .refill .kept, inv), omega (arith, told .before .before .before .before .before .before .before .before .before .flushed .kept, told .refilled .kept, inv), inv .2, inv .3, inv .4, inv .5, told .refilled .ensures)
+    (omega (arith, told .before .before .before .before .refill .kept, inv), omega (arith, told .before .before .before .before .before .before .before .before .before .flushed .kept, told .refilled .kept, inv), inv .2, inv .3, inv .4, inv .5, told .refilled .ensures .made)
 
 pub serve-spec : {M : Type 1} → statement M
 serve-spec =
