@@ -1,11 +1,10 @@
 // The program's arguments: `--help` alone is known.
-const STDOUT: i32 = 1;
-
-const STDERR: i32 = 2;
+use libc::STDERR_FILENO;
+use libc::STDOUT_FILENO;
 
 fn calls() {
     io::write_all(
-        STDOUT,
+        STDOUT_FILENO,
         b"usage: cases < CALLS
 
 Answers the case text of standard input on standard output: one line a call, one line a reply.
@@ -27,7 +26,7 @@ Answers the case text of standard input on standard output: one line a call, one
 
 fn words() {
     io::write_all(
-        STDOUT,
+        STDOUT_FILENO,
         b"
 A double (VALUE, START, T, ..) is its bits, 16 hex digits (3ff0000000000000 is 1), or a decimal of at most 15 digits (-2.5).
 L is a list of doubles: their count, and that many. CLIPS, N, MARK, e, m and SLOTS are whole numbers in decimal.
@@ -58,7 +57,7 @@ pub(crate) fn answer() {
         }
     }
     io::write_all(
-        STDERR,
+        STDERR_FILENO,
         b"cases: it takes no argument but --help, and reads calls from standard input\n",
     );
 }

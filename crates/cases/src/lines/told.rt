@@ -1,15 +1,14 @@
 // What is told on standard error: each line that could not be read, and why.
 use crate::lines::fault;
 use crate::lines::slots::least;
-
-const STDERR: i32 = 2;
+use libc::STDERR_FILENO;
 
 // How much of a word is shown.
 const SHOWN: usize = 60;
 
 fn begin(number: u64) {
-    io::write_all(STDERR, b"cases: line ");
-    io::print_decimal(STDERR, number);
+    io::write_all(STDERR_FILENO, b"cases: line ");
+    io::print_decimal(STDERR_FILENO, number);
 }
 
 // A byte of printable ASCII as it stands.
@@ -37,21 +36,21 @@ fn printables(word: &[u8], shown: &mut [u8]) -> usize {
 fn quoted(word: &[u8]) {
     let mut shown = [0u8; SHOWN];
     let n = printables(word, &mut shown);
-    io::write_all(STDERR, crate::text::first_bytes(&shown, n));
+    io::write_all(STDERR_FILENO, crate::text::first_bytes(&shown, n));
     if word.len() > n {
-        io::write_all(STDERR, b"..");
+        io::write_all(STDERR_FILENO, b"..");
     }
 }
 
 fn word_of(line: &[u8], at: usize) {
     let word = crate::text::word(line, at);
     if word.len() == 0 {
-        io::write_all(STDERR, b": a word is missing\n");
+        io::write_all(STDERR_FILENO, b": a word is missing\n");
         return;
     }
-    io::write_all(STDERR, b": cannot read '");
+    io::write_all(STDERR_FILENO, b": cannot read '");
     quoted(word);
-    io::write_all(STDERR, b"'\n");
+    io::write_all(STDERR_FILENO, b"'\n");
 }
 
 // The line of this number could not be read: its first word that stands in the way. A walk that finds none is told too.
@@ -63,7 +62,7 @@ pub(crate) fn unreadable(number: u64, line: &[u8]) {
         return;
     }
     if crate::text::is_end(line, walk.at) {
-        io::write_all(STDERR, b": cannot be read\n");
+        io::write_all(STDERR_FILENO, b": cannot be read\n");
         return;
     }
     word_of(line, walk.at);
@@ -72,5 +71,5 @@ pub(crate) fn unreadable(number: u64, line: &[u8]) {
 // The line of this number is longer than the buffer.
 pub(crate) fn too_long(number: u64) {
     begin(number);
-    io::write_all(STDERR, b": longer than 524287 bytes\n");
+    io::write_all(STDERR_FILENO, b": longer than 524287 bytes\n");
 }

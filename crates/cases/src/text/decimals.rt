@@ -13,11 +13,11 @@ ghost use Rattle.cases.specs.Decimals.{stands, noDecimal, unreadDouble, 
 
 // The digits of a decimal: the number that they write, the point left out, how many stand before the point and how many
 // behind it.
-pub(crate) struct Decimal {
-    pub at: usize,
-    pub digits: u64,
-    pub whole: usize,
-    pub scale: usize,
+struct Decimal {
+    at: usize,
+    digits: u64,
+    whole: usize,
+    scale: usize,
 }
 
 fn stands_at(line: &[u8], at: usize, b: u8) -> bool
