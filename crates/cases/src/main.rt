@@ -16,6 +16,7 @@ use crate::lines::input::Buffer;
 use crate::lines::lent;
 use crate::lines::lent::Lent;
 use crate::lines::limits::ENDS;
+use crate::lines::limits::LINE;
 use crate::lines::limits::SAMPLES;
 use crate::lines::reply;
 use crate::lines::told;
@@ -265,10 +266,10 @@ fn change(kind: Change, line: &[u8], at: usize, session: Session, out: &mut [u8]
 }
 
 // Room for a line of half a million bytes.
-fn input_buffer() -> [u8; 524288]
+fn input_buffer() -> [u8; LINE]
     ensures { λ r. ⌜ 524288 ≡ length r ⌝ }
 {
-    [0; 524288]
+    [0; LINE]
 }
 
 fn main() {

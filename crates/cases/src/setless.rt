@@ -1,4 +1,7 @@
 // The questions that ask no resolver.
+use crate::lines::limits::BYTES;
+use crate::lines::limits::SAMPLES;
+use crate::lines::limits::SLOTS;
 use crate::lines::reply;
 use crate::lines::slots::least;
 use crate::lines::slots::slots;
@@ -31,11 +34,11 @@ fn named(
 }
 
 pub(crate) fn name(line: &[u8], at: usize, out: &mut [u8], full: usize) -> usize {
-    let mut template = [0u8; 512];
-    let mut written = [0u8; 512];
+    let mut template = [0u8; BYTES];
+    let mut written = [0u8; BYTES];
     let b = crate::text::read_bytes(line, at, &mut template);
     let t = crate::text::read_double(line, b.at);
-    let s = slots(line, t.at, 400, 512);
+    let s = slots(line, t.at, 400, BYTES);
     if !crate::text::is_end(line, s.at) {
         return crate::text::NOWHERE;
     }
@@ -97,9 +100,9 @@ fn normalized(
     out: &mut [u8],
     full: usize,
 ) -> usize {
-    let mut outtimes = [0.0f64; 65536];
-    let mut outvalues = [0.0f64; 65536];
-    let mut outmarks = [0u8; 65536];
+    let mut outtimes = [0.0f64; SLOTS];
+    let mut outvalues = [0.0f64; SLOTS];
+    let mut outmarks = [0u8; SLOTS];
     normalized_in(
         times,
         lent,
@@ -115,17 +118,17 @@ fn normalized(
 }
 
 pub(crate) fn normalize(line: &[u8], at: usize, out: &mut [u8], full: usize) -> usize {
-    let mut times = [0.0f64; 5120];
-    let mut patterns = [0u64; 5120];
-    let mut marks = [0u8; 5120];
-    let mut lent = [0.0f64; 5120];
+    let mut times = [0.0f64; SAMPLES];
+    let mut patterns = [0u64; SAMPLES];
+    let mut marks = [0u8; SAMPLES];
+    let mut lent = [0.0f64; SAMPLES];
     let t = crate::text::doubles_after(line, at, b"t", &mut times);
     let times = first_doubles(&times, t.count);
     let v = crate::text::patterns_after(line, t.at, b"v", &mut patterns);
     let patterns = first_numbers(&patterns, v.count);
     let m = crate::text::marks_after(line, v.at, b"m", &mut marks);
     let marks = first_bytes(&marks, m.count);
-    let s = slots(line, m.at, 65536, 65536);
+    let s = slots(line, m.at, SLOTS, SLOTS);
     if !crate::text::is_end(line, s.at) {
         return crate::text::NOWHERE;
     }

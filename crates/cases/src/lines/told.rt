@@ -1,5 +1,6 @@
 // What is told on standard error: each line that could not be read, and why.
 use crate::lines::fault;
+use crate::lines::limits::LINE;
 use crate::lines::slots::least;
 use libc::STDERR_FILENO;
 
@@ -71,5 +72,7 @@ pub(crate) fn unreadable(number: u64, line: &[u8]) {
 // The line of this number is longer than the buffer.
 pub(crate) fn too_long(number: u64) {
     begin(number);
-    io::write_all(STDERR_FILENO, b": longer than 524287 bytes\n");
+    io::write_all(STDERR_FILENO, b": longer than ");
+    io::print_decimal(STDERR_FILENO, (LINE - 1) as u64);
+    io::write_all(STDERR_FILENO, b" bytes\n");
 }

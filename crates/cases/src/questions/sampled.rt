@@ -1,4 +1,5 @@
 // The questions about the standing set and the lent samples.
+use crate::lines::limits::SLOTS;
 use crate::lines::reply;
 use crate::lines::slots::least;
 use crate::lines::slots::slots;
@@ -111,8 +112,8 @@ pub(super) fn stage_sample_times(
 ) -> usize
     requires { ⌜ Made resolver ⌝ }
 {
-    let mut outtimes = [0.0f64; 65536];
-    let s = slots(line, at, 65536, 65536);
+    let mut outtimes = [0.0f64; SLOTS];
+    let s = slots(line, at, SLOTS, SLOTS);
     if !crate::text::is_end(line, s.at) {
         return crate::text::NOWHERE;
     }
@@ -172,9 +173,9 @@ pub(super) fn stage_samples(
 ) -> usize
     requires { ⌜ Made resolver ⌝ }
 {
-    let mut outtimes = [0.0f64; 65536];
-    let mut outmarks = [0u8; 65536];
-    let s = slots(line, at, 65536, 65536);
+    let mut outtimes = [0.0f64; SLOTS];
+    let mut outmarks = [0u8; SLOTS];
+    let s = slots(line, at, SLOTS, SLOTS);
     if !crate::text::is_end(line, s.at) {
         return crate::text::NOWHERE;
     }
@@ -241,10 +242,10 @@ pub(super) fn track(
 ) -> usize
     requires { ⌜ Made resolver ⌝ }
 {
-    let mut outtimes = [0.0f64; 65536];
-    let mut outvalues = [0.0f64; 65536];
-    let mut outmarks = [0u8; 65536];
-    let s = slots(line, at, 65536, 65536);
+    let mut outtimes = [0.0f64; SLOTS];
+    let mut outvalues = [0.0f64; SLOTS];
+    let mut outmarks = [0u8; SLOTS];
+    let s = slots(line, at, SLOTS, SLOTS);
     if !crate::text::is_end(line, s.at) {
         return crate::text::NOWHERE;
     }
