@@ -24,7 +24,7 @@ ghost use Rattle.definitions.specs.Moments.{was, after, outsWere, outsLeft};
 ghost use Rattle.laws.specs.cell.Lent.{samplesWere};
 ghost use Rattle.clip.specs.Holding.{manifest};
 ghost use Rattle.explicit.specs.Parsing.{explicitFields};
-ghost use Rattle.template.specs.Expanding.{templateFields};
+ghost use Rattle.template.specs.Expanding.{offsetOf, templateFields, SaysClipTimes};
 ghost use Rattle.normal_form.specs.Normalizes.{Normalizes};
 ghost use Rattle.cell.specs.step.Entries.{entryIs};
 ghost use Rattle.resolver.specs.State.{Made, lentState, stateWas, settledState};
@@ -539,6 +539,18 @@ pub extern "C" fn tavitrozy_name(pattern: &[u8], time: ClipTime, out: &mut [u8])
     ensures { λ a. ⌜ SaysName (was pattern) time (was out) (after out) a ⌝ }
 {
     name_code(names::name(pattern, time, out))
+}
+
+// The count is that of the clips.
+#[no_mangle]
+pub extern "C" fn tavitrozy_template_clip_times(
+    times: TemplateTimes,
+    offset: bool,
+    out: &mut [f64],
+) -> Counted
+    ensures { λ r. ⌜ SaysClipTimes times (offsetOf times offset) (was out) (after out) r ⌝ }
+{
+    template::clip_times(times, offset, out)
 }
 
 #[no_mangle]

@@ -2,3 +2,4 @@
 pub mod Promotion
 pub mod Expansion
 pub mod Templates
+mod ClipTimes
