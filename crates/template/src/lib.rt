@@ -71,19 +71,16 @@ pub fn clip_times(times: TemplateTimes, offset: bool, out: &mut [f64]) -> Counte
         return refused(refusal::DISORDERED_TEMPLATE);
     }
     let promoted = expanding::promote(times);
-    let n = promoted.count;
-    if CLIPS < n {
+    let count = promoted.count;
+    if CLIPS < count {
         return refused(refusal::TOO_MANY_CLIPS);
     }
-    if out.len() < n {
+    if out.len() < count {
         return refused(refusal::NO_ROOM);
     }
     let ts = promoted.items;
-    expanding::write_clip_times(&ts[..n], &mut out[..n]);
-    Counted {
-        number: 0,
-        count: n,
-    }
+    expanding::write_clip_times(&ts[..count], &mut out[..count]);
+    Counted { number: 0, count }
 }
 
 fn refused(number: u8) -> Counted
