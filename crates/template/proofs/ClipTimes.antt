@@ -10,7 +10,7 @@ use lib.ListN.{length, drop, length-map}
 use lib.Ieee.{Float}
 use Rattle.gf.specs.Doubles.{_⊘_, 10000·0}
 use Rattle.definitions.specs.declared.TemplateTimes.{TemplateTimes}
-use Rattle.definitions.specs.Template.{promoted, clipTimes, timesUnstorable, timesDisordered}
+use Rattle.definitions.specs.Template.{promoted, templateClipTimes, timesUnstorable, timesDisordered}
 use Rattle.definitions.specs.Questions.{reply, clipTimesNumber, askClipTimes}
 use Rattle.sdf.specs.declared.Counted.{Counted}
 use Rattle.sdf.specs.Counted.{counted, listed, itself}
@@ -24,13 +24,13 @@ module _ (x : TemplateTimes) (o : Option Float) (before : List Float) where
 
   refused-by : (n : ℕ) (r : Counted) → r ≡ record { number = n; count = 0 } → (n ≡ 0 → ⊥) → n ≡ number → SaysClipTimes x o before before r
   unfolding askClipTimes
-  refused-by n r e h q = record { count = e ∙ counts n h ∙ ap (λ (k : ℕ). counted (reply k (clipTimes x))) q; times = keeps n h ∙ ap (λ (k : ℕ). listed itself (reply k (clipTimes x)) before) q }
+  refused-by n r e h q = record { count = e ∙ counts n h ∙ ap (λ (k : ℕ). counted (reply k (templateClipTimes x))) q; times = keeps n h ∙ ap (λ (k : ℕ). listed itself (reply k (templateClipTimes x)) before) q }
     where
-      counts : (k : ℕ) → (k ≡ 0 → ⊥) → record { number = k; count = 0 } ≡ counted (reply k (clipTimes x))
+      counts : (k : ℕ) → (k ≡ 0 → ⊥) → record { number = k; count = 0 } ≡ counted (reply k (templateClipTimes x))
       counts zero g = absurd (g refl)
       counts (suc k) g = refl
 
-      keeps : (k : ℕ) → (k ≡ 0 → ⊥) → before ≡ listed itself (reply k (clipTimes x)) before
+      keeps : (k : ℕ) → (k ≡ 0 → ⊥) → before ≡ listed itself (reply k (templateClipTimes x)) before
       keeps zero g = absurd (g refl)
       keeps (suc k) g = refl
 
@@ -63,19 +63,19 @@ module _ (x : TemplateTimes) (o : Option Float) (before : List Float) where
             → SaysClipTimes x o before (written ++ drop n before) (record { number = 0; count = n })
         unfolding askClipTimes
         says-all n ts written e t w h = record {
-          count = ap (λ (k : ℕ). record { number = 0; count = k }) (e ∙ sym (length-map (promoted x) (λ (t : Float). t ⊘ 10000·0))) ∙ ap (λ (k : ℕ). counted (reply k (clipTimes x))) (sym (none h));
-          times = cong-written ∙ ap (λ (k : ℕ). listed itself (reply k (clipTimes x)) before) (sym (none h));
+          count = ap (λ (k : ℕ). record { number = 0; count = k }) (e ∙ sym (length-map (promoted x) (λ (t : Float). t ⊘ 10000·0))) ∙ ap (λ (k : ℕ). counted (reply k (templateClipTimes x))) (sym (none h));
+          times = cong-written ∙ ap (λ (k : ℕ). listed itself (reply k (templateClipTimes x)) before) (sym (none h));
         }
           where
             themselves : (l : List Float) → l ≡ map itself l
             themselves [] = refl
             themselves (y ∷ l) = ap (λ (k : List Float). y ∷ k) (themselves l)
 
-            are : written ≡ map itself (clipTimes x)
-            are = w ∙ ap timesOfClips t ∙ themselves (clipTimes x)
+            are : written ≡ map itself (templateClipTimes x)
+            are = w ∙ ap timesOfClips t ∙ themselves (templateClipTimes x)
 
-            long : n ≡ length (map itself (clipTimes x))
-            long = e ∙ sym (length-map (promoted x) (λ (t : Float). t ⊘ 10000·0)) ∙ ap length (themselves (clipTimes x))
+            long : n ≡ length (map itself (templateClipTimes x))
+            long = e ∙ sym (length-map (promoted x) (λ (t : Float). t ⊘ 10000·0)) ∙ ap length (themselves (templateClipTimes x))
 
-            cong-written : written ++ drop n before ≡ map itself (clipTimes x) ++ drop (length (map itself (clipTimes x))) before
-            cong-written = ap (λ (l : List Float). l ++ drop n before) are ∙ ap (λ (k : ℕ). map itself (clipTimes x) ++ drop k before) long
+            cong-written : written ++ drop n before ≡ map itself (templateClipTimes x) ++ drop (length (map itself (templateClipTimes x))) before
+            cong-written = ap (λ (l : List Float). l ++ drop n before) are ∙ ap (λ (k : ℕ). map itself (templateClipTimes x) ++ drop k before) long
