@@ -6,6 +6,7 @@ use Prim.Native.Nat.{ℕ, zero, suc, _+_}
 use Prim.Native.String.{String}
 use mathlib.Core.Bool.{Bool, true, false, not, _&&_}
 use mathlib.Core.List.{List, [], _∷_}
+use mathlib.Core.Option.{none}
 use lib.Dec.{eqb, ltb}
 use lib.ListN.{length}
 use lib.Ieee.{Float, nan, round, neg, add, sub, mul, div, lt, le, eq, toBits, ofBits, isNan}
@@ -16,7 +17,7 @@ use Rattle.definitions.specs.Doubles.{lowest, nextLower}
 use Rattle.definitions.specs.ClipSet.{ClipSet, Model, noSet, standing, asAccepted, asRetimed, stage, clip, nanDefault, beyondLimits, equalStarts, equalKnots, badDefaultMark}
 use Rattle.definitions.specs.Explicit.{ExplicitFields, explicitSet, explicitNumber, explicit1, explicit2, explicit3}
 use Rattle.definitions.specs.Names.{beforeHash, hashRun, withFraction, split, readable, digits, placesBy, places, padded, wholeBody, decimals, fractionBody, format, name, nameNumber}
-use Rattle.definitions.specs.Template.{TemplateFields, repeated, promoted, activations, templateSet, templateNumber, template1, template2, template6, template7, template8}
+use Rattle.definitions.specs.Template.{TemplateFields, timesUnstorable, timesDisordered, repeated, promoted, activations, templateSet, templateNumber, template1, template2, template6, template7, template8}
 use Rattle.definitions.specs.Retime.{movedNumber, apply, isIdentity, moved, sorted, retimeStageTimes, retimeNumber}
 use Rattle.definitions.specs.Timing.{lastAtMost, activePosition, activeEntry, activeClip, onSegment, mapTime, mapStageToClip}
 use Rattle.definitions.specs.Samples.{Samples, clipBegin, clipEnd, clipTimes, heldPlace, unlikeLengths, samples1, samples2, badMarks, closes, samples9, samplesNumber}
@@ -24,7 +25,7 @@ use Rattle.definitions.specs.Value.{says, blockedAt, contributes, readCl
 use Rattle.definitions.specs.StageSamples.{dropEqual, dedup, stageSampleTimes, suppliedAt, stageSamples, anySamples, untimedAnswer}
 use Rattle.definitions.specs.Normalize.{timeSamples, merge, mergeEqual, normalizeTimeSamples, normalizeNumber}
 use Rattle.definitions.specs.Track.{bakeNumber}
-use Rattle.definitions.specs.Questions.{Reply, refused, replied, askActiveClip, askClipTime, askValue, askStageSampleTimes, askStageSamples, askStageSampleCount, askUntimed}
+use Rattle.definitions.specs.Questions.{Reply, refused, replied, askActiveClip, askClipTime, askValue, askStageSampleTimes, askStageSamples, askStageSampleCount, askUntimed, clipTimesNumber}
 use Rattle.definitions.proofs.Sets.{n, frac, bytes, holds, fields, templated, noDefault, two, one}
 
 -- ---- how a row is written: both tests hold of the call, and it gets this number
@@ -58,6 +59,16 @@ badDefault f = record {
   default = record { mark = 3; value = n 0 };
   interpolateMissing = f .interpolateMissing;
 }
+
+-- templates whose start is no number, whose t does not move, and of more than 256 clips
+abbrev no-start : TemplateFields
+no-start = templated "#" nan (n 1) (n 0) false (n 0)
+
+abbrev no-stride : TemplateFields
+no-stride = templated "#" (n 0) (n 0) (n 0) false (n 0)
+
+abbrev many : TemplateFields
+many = templated "#" (n 0) (n 0) (frac 1 10000000) false (n 0)
 
 -- a template by its bytes and its default's mark
 abbrev written : List ℕ → ℕ → TemplateFields → TemplateFields
@@ -174,6 +185,10 @@ table =
     ∷ row (ltb 255 (length (repeat 256 35))) (not (storable nan)) (nameNumber (repeat 256 35) (clip nan) 300) 1
     ∷ row (not (storable nan)) (not (readable (split (bytes "f")))) (nameNumber (bytes "f") (clip nan) 300) 2
     ∷ row (not (readable (split (bytes "f")))) (ltb 0 (length (name (bytes "f") (clip (n 1))))) (nameNumber (bytes "f") (clip (n 1)) 0) 6
+    -- a template's clip times: 2, 7, 8, 22
+    ∷ row (timesUnstorable (no-start .times) none) (timesDisordered (no-start .times) none) (clipTimesNumber (no-start .times) none 0) 2
+    ∷ row (timesDisordered (no-stride .times) none) (ltb 256 (length (promoted (no-stride .times)))) (clipTimesNumber (no-stride .times) none 0) 7
+    ∷ row (ltb 256 (length (promoted (many .times)))) (ltb 0 (length (promoted (many .times)))) (clipTimesNumber (many .times) none 0) 8
     -- normalising: 1, 2, 9, 22
     ∷ row (unlikeLengths (nan ∷ []) [] (0 ∷ [])) (samples2 (nan ∷ []) [] (0 ∷ [])) (normalizeNumber (nan ∷ []) [] (0 ∷ []) 1) 1
     ∷ row (samples2 (nan ∷ []) (n 1 ∷ []) (7 ∷ [])) (badMarks (7 ∷ [])) (normalizeNumber (nan ∷ []) (n 1 ∷ []) (7 ∷ []) 1) 2
@@ -191,4 +206,5 @@ unfolding
     upperNeighbour jump readingTime valueSource valueInSet apply isIdentity movedNumber moved sorted retimeStageTimes retimeNumber dropEqual dedup
     stageSampleTimes suppliedAt stageSamples anySamples untimedAnswer timeSamples merge mergeEqual normalizeTimeSamples normalizeNumber bakeNumber
     askActiveClip askClipTime askValue askStageSampleTimes askStageSamples askStageSampleCount askUntimed
+    clipTimesNumber timesUnstorable timesDisordered
 in-order = refl
