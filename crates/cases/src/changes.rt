@@ -4,6 +4,7 @@ use crate::lines::limits::BLOCKS;
 use crate::lines::limits::BYTES;
 use crate::lines::limits::KNOTS;
 use crate::lines::limits::STARTS;
+use crate::lines::template_numbers;
 use crate::text::first_bytes;
 use crate::text::first_doubles;
 use definitions::Default;
@@ -162,30 +163,6 @@ fn explicit(line: &[u8], at: usize, resolver: Resolver) -> Changed
     }
 }
 
-// A template's offset: a double, or `none`. The slot of an absent one holds a NaN, which nothing may look at.
-struct Offset {
-    at: usize,
-    present: bool,
-    value: f64,
-}
-
-fn read_offset(line: &[u8], at: usize) -> Offset {
-    let absent = crate::text::after(line, at, b"none");
-    if absent != crate::text::NOWHERE {
-        return Offset {
-            at: absent,
-            present: false,
-            value: 0.0 / 0.0,
-        };
-    }
-    let d = crate::text::read_double(line, at);
-    Offset {
-        at: d.at,
-        present: true,
-        value: d.value,
-    }
-}
-
 // A template set's fields: how much of each list was read, and the rest.
 struct TemplateRead {
     at: usize,
@@ -198,23 +175,15 @@ struct TemplateRead {
 
 fn read_template(line: &[u8], at: usize, bytes: &mut [u8], blocks: &mut [f64]) -> TemplateRead {
     let b = crate::text::read_bytes(line, at, bytes);
-    let start = crate::text::read_double(line, b.at);
-    let end = crate::text::read_double(line, start.at);
-    let stride = crate::text::read_double(line, end.at);
-    let o = read_offset(line, stride.at);
-    let bl = crate::text::doubles_after(line, o.at, b"bl", blocks);
+    let numbers = template_numbers::read(line, b.at);
+    let bl = crate::text::doubles_after(line, numbers.at, b"bl", blocks);
     let filling = read_filling(line, bl.at);
-    let times = TemplateTimes {
-        start: start.value,
-        end: end.value,
-        stride: stride.value,
-        offset: o.value,
-    };
+    let times = numbers.times;
     TemplateRead {
         at: filling.at,
         bytes: b.count,
         times,
-        offset: o.present,
+        offset: numbers.offset,
         blocks: bl.count,
         filling,
     }

@@ -20,6 +20,7 @@ Answers the case text of standard input on standard output: one line a call, one
   track [SLOTS] | trackhash
   name BYTES T [SLOTS]
   normalize t L v L m N m.. [SLOTS]
+  cliptimes START END STRIDE OFFSET [SLOTS]         a template's clip times
 ",
     );
 }
@@ -30,7 +31,7 @@ fn words() {
         b"
 A double (VALUE, START, T, ..) is its bits, 16 hex digits (3ff0000000000000 is 1), or a decimal of at most 15 digits (-2.5).
 L is a list of doubles: their count, and that many. CLIPS, N, MARK, e, m and SLOTS are whole numbers in decimal.
-BYTES are hex pairs, - for none. An OFFSET of a template may be none. A ; begins a comment. Replies give doubles by their bits.
+BYTES are hex pairs, - for none. A template's OFFSET may be none. A ; begins a comment. Replies give doubles by their bits.
 
 A call that is refused is answered 'refused N'. A line that cannot be read is answered 'unreadable', changes nothing, and is
 told on standard error with its number and its first word that cannot be read. The whole text: docs/CASES.md.

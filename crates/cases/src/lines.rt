@@ -6,6 +6,7 @@ pub(crate) mod lent;
 pub(crate) mod limits;
 pub(crate) mod reply;
 pub(crate) mod slots;
+pub(crate) mod template_numbers;
 pub(crate) mod told;
 pub(crate) mod values;
 pub(crate) mod written;

@@ -62,6 +62,7 @@ fn answer(
         Question::ClipTime => timing::clip_time(line, at, resolver, out, full),
         Question::Name => crate::setless::name(line, at, out, full),
         Question::Normalize => crate::setless::normalize(line, at, out, full),
+        Question::ClipTimes => crate::setless::clip_times(line, at, out, full),
         Question::Value => {
             sampled::value(line, at, resolver, ends, times, values, marks, out, full)
         }

@@ -5,12 +5,14 @@ use crate::lines::limits::SLOTS;
 use crate::lines::reply;
 use crate::lines::slots::least;
 use crate::lines::slots::slots;
+use crate::lines::template_numbers;
 use crate::lines::values;
 use crate::lines::written;
 use crate::text::first_bytes;
 use crate::text::first_doubles;
 use crate::text::first_numbers;
 use definitions::ClipTime;
+use definitions::TemplateTimes;
 use names::Named;
 
 // The name at a clip time, in the first `count` bytes of `written`.
@@ -142,4 +144,32 @@ pub(crate) fn normalize(line: &[u8], at: usize, out: &mut [u8], full: usize) -> 
         out,
         full,
     )
+}
+
+// A template's clip times, in the first `count` entries of a list.
+fn clip_times_in(
+    times: TemplateTimes,
+    offset: bool,
+    count: usize,
+    outtimes: &mut [f64],
+    out: &mut [u8],
+    full: usize,
+) -> usize {
+    let k = least(count, outtimes.len());
+    let counted = template::clip_times(times, offset, &mut outtimes[0..k]);
+    if counted.number != 0 {
+        return reply::refused(counted.number, out, full);
+    }
+    written::times(b"cliptimes", counted.count, outtimes, out, full)
+}
+
+pub(crate) fn clip_times(line: &[u8], at: usize, out: &mut [u8], full: usize) -> usize {
+    let mut outtimes = [0.0f64; SLOTS];
+    let numbers = template_numbers::read(line, at);
+    let s = slots(line, numbers.at, SLOTS, SLOTS);
+    if !crate::text::is_end(line, s.at) {
+        return crate::text::NOWHERE;
+    }
+    let times = numbers.times;
+    clip_times_in(times, numbers.offset, s.count, &mut outtimes, out, full)
 }

@@ -18,6 +18,7 @@ pub(crate) enum Question {
     TrackHash,
     Name,
     Normalize,
+    ClipTimes,
 }
 
 pub(crate) enum Call {
@@ -57,6 +58,10 @@ fn question_of(line: &[u8]) -> Call {
     let at = crate::text::after(line, 0, b"normalize");
     if at != crate::text::NOWHERE {
         return Call::Asking(Question::Normalize, at);
+    }
+    let at = crate::text::after(line, 0, b"cliptimes");
+    if at != crate::text::NOWHERE {
+        return Call::Asking(Question::ClipTimes, at);
     }
     let at = crate::text::after(line, 0, b"dump");
     if at != crate::text::NOWHERE {

@@ -186,12 +186,16 @@ fn explicit(line: &[u8], at: usize) -> Walk {
     filling(line, w)
 }
 
+fn template_numbers(line: &[u8], walk: Walk) -> Walk {
+    let w = step(line, walk, Kind::Double);
+    let w = step(line, w, Kind::Double);
+    let w = step(line, w, Kind::Double);
+    step(line, w, Kind::Offset)
+}
+
 fn template(line: &[u8], at: usize) -> Walk {
     let w = step(line, begun(at), Kind::Bytes);
-    let w = step(line, w, Kind::Double);
-    let w = step(line, w, Kind::Double);
-    let w = step(line, w, Kind::Double);
-    let w = step(line, w, Kind::Offset);
+    let w = template_numbers(line, w);
     let w = list(line, w, b"bl", Kind::Double, BLOCKS);
     filling(line, w)
 }
@@ -227,6 +231,11 @@ fn normalize(line: &[u8], at: usize) -> Walk {
     slots(line, w, SLOTS)
 }
 
+fn clip_times(line: &[u8], at: usize) -> Walk {
+    let w = template_numbers(line, begun(at));
+    slots(line, w, SLOTS)
+}
+
 fn asking(kind: Question, line: &[u8], at: usize) -> Walk {
     match kind {
         Question::Value => step(line, begun(at), Kind::Double),
@@ -234,6 +243,7 @@ fn asking(kind: Question, line: &[u8], at: usize) -> Walk {
         Question::ClipTime => step(line, begun(at), Kind::Double),
         Question::Name => name(line, at),
         Question::Normalize => normalize(line, at),
+        Question::ClipTimes => clip_times(line, at),
         Question::Times => slots(line, begun(at), SLOTS),
         Question::StageSamples => slots(line, begun(at), SLOTS),
         Question::Track => slots(line, begun(at), SLOTS),
