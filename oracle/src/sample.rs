@@ -141,7 +141,7 @@ fn made(sets: bool) -> String {
     let (figures, _) = figures::calls_and_replies();
     let short = generated(|out| short_cases::write(5, 1201, out));
     let random = generated(|out| random_cases::write(2026, 40_000, out));
-    [kept(&figures, sets), limits(sets), choose(&kept(&short, sets), 500), choose(&kept(&random, sets), 1100)].concat()
+    [kept(&figures, sets), limits(sets), choose(&kept(&short, sets), 500), choose(&kept(&random, sets), 1500)].concat()
 }
 
 /// Writes the sample into a folder.

@@ -9,15 +9,11 @@ pub struct Writer<'a> {
     output: &'a mut dyn Write,
     pub replies: u64,
     pub bytes: u64,
-    /// Which calls are wanted; others are left out.
-    pub only: fn(&Call) -> bool,
 }
 
 impl<'a> Writer<'a> {
     pub fn new(output: &'a mut dyn Write) -> Self {
-        let all = wanted("CLIPTIMES");
-        let only: fn(&Call) -> bool = if all { |_| true } else { |call| !matches!(call, Call::ClipTimes(..)) };
-        Writer { output, replies: 0, bytes: 0, only }
+        Writer { output, replies: 0, bytes: 0 }
     }
 
     fn put(&mut self, text: &[u8]) {
@@ -26,9 +22,6 @@ impl<'a> Writer<'a> {
     }
 
     pub fn call(&mut self, call: &Call) {
-        if !(self.only)(call) {
-            return;
-        }
         let mut line = Line::default();
         calls::write(&mut line, call);
         self.put(&line.0);
