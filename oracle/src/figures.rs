@@ -64,7 +64,8 @@ pub fn calls_and_replies() -> (String, String) {
 pub fn test() -> bool {
     let (calls, replies) = calls_and_replies();
     let mut given = Vec::new();
-    let differences = crate::answer(&mut calls.as_bytes(), &mut given, true, false, false).expect("in memory").differences;
+    let differences =
+        crate::answer(&mut calls.as_bytes(), &mut given, true, false, false).expect("in memory").differences;
     let given = String::from_utf8(given).expect("replies are ASCII");
     let asking: Vec<&str> = calls.lines().filter(|line| !line.starts_with("samples")).collect();
     let mut wrong = 0;

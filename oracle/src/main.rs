@@ -42,7 +42,13 @@ struct Told {
 }
 
 /// Answers the case text of `input`. With `check`, tells on standard error where Rust and document differ.
-fn answer(input: &mut dyn BufRead, output: &mut dyn Write, check: bool, timed: bool, probing: bool) -> io::Result<Told> {
+fn answer(
+    input: &mut dyn BufRead,
+    output: &mut dyn Write,
+    check: bool,
+    timed: bool,
+    probing: bool,
+) -> io::Result<Told> {
     let mut desk = Desk::new(check);
     desk.probing = probing;
     let mut line = Vec::new();
