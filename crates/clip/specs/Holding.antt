@@ -3,7 +3,7 @@ use Prim.Native.Nat.{ℕ, _≤_}
 use mathlib.Core.Path.{_≡_}
 use mathlib.Core.Bool.{Bool, false}
 use mathlib.Core.List.{List, [], map}
-use lib.ListN.{length, take, replicate}
+use lib.ListN.{length, take}
 use lib.Ieee.{Float}
 use Rattle.gf.specs.Doubles.{0·0}
 use Rattle.definitions.specs.declared.Knot.{Knot}
@@ -15,7 +15,6 @@ use Rattle.definitions.specs.ClipSet.{maxActive, maxKnots, maxBlocks}
 use Rattle.clip.specs.declared.storage.Active.{Active}
 use Rattle.clip.specs.declared.storage.Knots.{Knots}
 use Rattle.clip.specs.declared.storage.Blocks.{Blocks}
-use Rattle.clip.specs.declared.storage.Scratch.{Scratch}
 use Rattle.clip.specs.declared.ClipSet.{ClipSet}
 
 -- an array of its length, and a count within it
@@ -60,25 +59,6 @@ pub record ArraysWhole (s : ClipSet) : Type 0 where
   pub active : Room maxActive (s .active .items) (s .active .count)
   pub knots : Room maxKnots (s .knots .items) (s .knots .count)
   pub blocks : Room maxBlocks (s .blocks .items) (s .blocks .count)
-
--- every slot 0
-unfoldable pub blankScratch : Scratch
-blankScratch = record {
-  times = replicate maxActive 0·0;
-  numbers = replicate maxActive 0;
-  xs = replicate maxKnots 0·0;
-  ys = replicate maxKnots 0·0;
-  blocks = replicate maxBlocks 0·0;
-}
-
--- which gives each list its length
-pub record AllRoom (p : Scratch) : Type 0 where
-  pub is : p ≡ blankScratch
-  pub times : length (p .times) ≡ maxActive
-  pub numbers : length (p .numbers) ≡ maxActive
-  pub xs : length (p .xs) ≡ maxKnots
-  pub ys : length (p .ys) ≡ maxKnots
-  pub blocks : length (p .blocks) ≡ maxBlocks
 
 -- The set beside a refusal where none was handed in: "A refusal carries its number alone", so it has no clip and nothing listed, no default ("2 none",
 -- its slot 0.0 as that "of an absent head") and the flag off. "No starts is legal: the value is then absent and the active clip none."

@@ -12,7 +12,7 @@ ghost use Rattle.definitions.specs.ClipSet.{maxActive, maxKnots, maxBlocks, act
 ghost use Rattle.definitions.specs.Moments.{was, after};
 ghost use Rattle.laws.specs.set.Sound.{knotValues};
 ghost use Rattle.laws.specs.cell.Lent.{activeOf, knotsOf};
-ghost use Rattle.clip.specs.Holding.{Room, Holds, AllRoom, activeIn, activeClips, knotsIn, blocksIn};
+ghost use Rattle.clip.specs.Holding.{Room, Holds, activeIn, activeClips, knotsIn, blocksIn};
 
 #[repr(C)]
 pub struct Active {
@@ -30,32 +30,6 @@ pub struct Knots {
 pub struct Blocks {
     pub items: [f64; BLOCKS],
     pub count: usize,
-}
-
-// Room for a set's lists as plain ones. Each array is lent once, to a function that works on slices.
-pub struct Scratch {
-    pub times: [f64; STARTS],
-    pub numbers: [u64; STARTS],
-    pub xs: [f64; KNOTS],
-    pub ys: [f64; KNOTS],
-    pub blocks: [f64; BLOCKS],
-}
-
-pub fn blank() -> Scratch
-    ensures { λ r. ⌜ AllRoom r ⌝ }
-{
-    let times = [0.0; STARTS];
-    let numbers = [0; STARTS];
-    let xs = [0.0; KNOTS];
-    let ys = [0.0; KNOTS];
-    let blocks = [0.0; BLOCKS];
-    Scratch {
-        times,
-        numbers,
-        xs,
-        ys,
-        blocks,
-    }
 }
 
 pub fn no_active() -> Active

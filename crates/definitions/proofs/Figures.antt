@@ -16,7 +16,7 @@ use Rattle.definitions.specs.Doubles.{lowest, nextLower}
 use Rattle.definitions.specs.ClipSet.{ClipSet, noSet, standing, asAccepted, asRetimed, stage, clip, nanDefault, beyondLimits, equalStarts, equalKnots, badDefaultMark, activeTimes}
 use Rattle.definitions.specs.Explicit.{ExplicitFields, explicitSet, explicitNumber, explicit1, explicit2, explicit3}
 use Rattle.definitions.specs.Names.{beforeHash, hashRun, withFraction, split, readable, digits, placesBy, places, padded, wholeBody, decimals, fractionBody, format, name, nameNumber}
-use Rattle.definitions.specs.Template.{TemplateFields, repeated, promoted, activations, templateSet, templateNumber, template1, template2, template6, template7, template8}
+use Rattle.definitions.specs.Template.{TemplateFields, timesUnstorable, timesDisordered, repeated, promoted, activations, templateSet, templateNumber, template1, template2, template6, template7, template8}
 use Rattle.definitions.specs.Retime.{movedNumber, apply, isIdentity, moved, sorted, retimeStageTimes, retimeNumber}
 use Rattle.definitions.specs.Timing.{lastAtMost, activePosition, activeEntry, activeClip, onSegment, mapTime, mapStageToClip}
 use Rattle.definitions.specs.Samples.{Samples, clipBegin, clipEnd, clipTimes, heldPlace, unlikeLengths, samples1, samples2, badMarks, closes, samples9, samplesNumber}
@@ -369,7 +369,7 @@ unfolding
     table round neg add sub mul div lt le eq toBits ofBits isNan within key ofKey lerp share abs isWhole truncated signBit totalKey lowest nextLower
     nanDefault beyondLimits equalStarts equalKnots badDefaultMark explicitSet explicitNumber explicit1 explicit2 explicit3 isClipNumber beforeHash
     hashRun withFraction split readable digits placesBy places padded wholeBody decimals fractionBody format name repeated promoted activations
-    templateSet templateNumber template1 template2 template6 template7 template8 lastAtMost activePosition activeEntry activeClip onSegment mapTime
+    timesUnstorable timesDisordered templateSet templateNumber template1 template2 template6 template7 template8 lastAtMost activePosition activeEntry activeClip onSegment mapTime
     mapStageToClip clipBegin clipEnd clipTimes heldPlace unlikeLengths samples1 samples2 badMarks closes samples9 samplesNumber says blockedAt
     contributes readClip firstReading interpolateMissingValue directSource window stageTimesForClipTime windowSampleTimes gathered lowerNeighbour
     upperNeighbour jump readingTime valueSource valueInSet entryOf alike differs unmarked-table wrong-table examples-table nameNumber apply isIdentity movedNumber

@@ -16,10 +16,9 @@ use Rattle.clip.specs.declared.ClipSet.{ClipSet}
 use Rattle.clip.specs.declared.storage.Active.{Active}
 use Rattle.clip.specs.declared.storage.Knots.{Knots}
 use Rattle.clip.specs.declared.storage.Blocks.{Blocks}
-use Rattle.clip.specs.declared.storage.Scratch.{Scratch}
-use Rattle.clip.specs.Holding.{Room, Holds, ArraysWhole, AllRoom, activeIn, activeClips, knotsIn, blocksIn, manifestOf}
+use Rattle.clip.specs.Holding.{Room, Holds, ArraysWhole, activeIn, activeClips, knotsIn, blocksIn}
 use Rattle.standing.specs.declared.Counts.{Counts}
-use Rattle.standing.specs.Standing.{Lengths, lentSet, Installed, Unpacked, Packed}
+use Rattle.standing.specs.Standing.{Lengths, lentSet, Unpacked, Packed}
 
 -- ---- the entries of an array that count
 
@@ -83,50 +82,28 @@ module _ (set : ClipSet) (H : ArraysWhole set) (o-starts : List Float) (o-number
   ys-count : length ys ≡ k
   ys-count = ap length ys-are ∙ length-map (knotsIn (set .knots)) (λ (a : Knot). a .y) ∙ knot-count
 
-  over-arrays : (blocks : List Float) → Room maxBlocks blocks b → take b blocks ≡ blocksIn (set .blocks)
-      → Unpacked set counts (starts ++ drop n o-starts) (numbers ++ drop n o-numbers) (xs ++ drop k o-xs) (ys ++ drop k o-ys) blocks
-  over-arrays blocks room blocks-are = record {
-    whole = record {
-      in-starts = front-room starts o-starts n maxActive (P .of-starts) (H .active .few) starts-count;
-      in-numbers = front-room numbers o-numbers n maxActive (P .of-numbers) (H .active .few) numbers-count;
-      in-xs = front-room xs o-xs k maxKnots (P .of-xs) (H .knots .few) xs-count;
-      in-ys = front-room ys o-ys k maxKnots (P .of-ys) (H .knots .few) ys-count;
-      in-blocks = room;
-    };
-    is = unfold setOf in λ i. record {
-      clips = set .clips;
-      active = (ap₂ activeOf (front-list starts o-starts n maxActive (P .of-starts) (H .active .few) starts-count ∙ starts-are) (front-list numbers o-numbers n maxActive (P .of-numbers) (H .active .few) numbers-count ∙ numbers-are) ∙ active-back (activeIn (set .active))) i;
-      knots = (ap₂ knotsOf (front-list xs o-xs k maxKnots (P .of-xs) (H .knots .few) xs-count ∙ xs-are) (front-list ys o-ys k maxKnots (P .of-ys) (H .knots .few) ys-count ∙ ys-are) ∙ knots-back (knotsIn (set .knots))) i;
-      blocks = blocks-are i;
-      default = set .default;
-      interpolateMissing = set .interpolate;
-    };
-  }
+  module _ (blocks : List Float) (blocks-are : blocks ≡ blocksIn (set .blocks)) where
+    blocks-count : length blocks ≡ b
+    blocks-count = ap length blocks-are ∙ sym (front (H .blocks))
 
-  -- the set's own array of blocks
-  pub arrays-installed : Installed set (record {
-    clips = set .clips;
-    counts = counts;
-    starts = starts ++ drop n o-starts;
-    numbers = numbers ++ drop n o-numbers;
-    xs = xs ++ drop k o-xs;
-    ys = ys ++ drop k o-ys;
-    blocks = set .blocks .items;
-    manifest = manifestOf set;
-  })
-  arrays-installed = let u = over-arrays (set .blocks .items) (H .blocks) refl in record { whole = u .whole; is = u .is }
-
-  -- the blocks written over an array too
-  pub arrays-unpacked : (blocks : List Float) → blocks ≡ blocksIn (set .blocks)
-      → Unpacked set counts (starts ++ drop n o-starts) (numbers ++ drop n o-numbers) (xs ++ drop k o-xs) (ys ++ drop k o-ys) (blocks ++ drop b o-blocks)
-  arrays-unpacked blocks e =
-      let count : length blocks ≡ b = ap length e ∙ sym (front (H .blocks)) in
-      over-arrays (blocks ++ drop b o-blocks) (front-room blocks o-blocks b maxBlocks (P .of-blocks) (H .blocks .few) count)
-      (front-list blocks o-blocks b maxBlocks (P .of-blocks) (H .blocks .few) count ∙ e)
-
--- arrays with every slot 0
-pub scratch-lengths : (p : Scratch) → AllRoom p → Lengths (p .times) (p .numbers) (p .xs) (p .ys) (p .blocks)
-scratch-lengths p P = record { of-starts = P .times; of-numbers = P .numbers; of-xs = P .xs; of-ys = P .ys; of-blocks = P .blocks }
+    pub arrays-unpacked : Unpacked set counts (starts ++ drop n o-starts) (numbers ++ drop n o-numbers) (xs ++ drop k o-xs) (ys ++ drop k o-ys) (blocks ++ drop b o-blocks)
+    arrays-unpacked = record {
+      whole = record {
+        in-starts = front-room starts o-starts n maxActive (P .of-starts) (H .active .few) starts-count;
+        in-numbers = front-room numbers o-numbers n maxActive (P .of-numbers) (H .active .few) numbers-count;
+        in-xs = front-room xs o-xs k maxKnots (P .of-xs) (H .knots .few) xs-count;
+        in-ys = front-room ys o-ys k maxKnots (P .of-ys) (H .knots .few) ys-count;
+        in-blocks = front-room blocks o-blocks b maxBlocks (P .of-blocks) (H .blocks .few) blocks-count;
+      };
+      is = unfold setOf in λ i. record {
+        clips = set .clips;
+        active = (ap₂ activeOf (front-list starts o-starts n maxActive (P .of-starts) (H .active .few) starts-count ∙ starts-are) (front-list numbers o-numbers n maxActive (P .of-numbers) (H .active .few) numbers-count ∙ numbers-are) ∙ active-back (activeIn (set .active))) i;
+        knots = (ap₂ knotsOf (front-list xs o-xs k maxKnots (P .of-xs) (H .knots .few) xs-count ∙ xs-are) (front-list ys o-ys k maxKnots (P .of-ys) (H .knots .few) ys-count ∙ ys-are) ∙ knots-back (knotsIn (set .knots))) i;
+        blocks = (front-list blocks o-blocks b maxBlocks (P .of-blocks) (H .blocks .few) blocks-count ∙ blocks-are) i;
+        default = set .default;
+        interpolateMissing = set .interpolate;
+      };
+    }
 
 -- ---- the arrays are packed again
 

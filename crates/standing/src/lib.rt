@@ -37,24 +37,19 @@ pub fn installed(set: ClipSet) -> StandingSet
     requires { ⌜ ArraysWhole set ⌝ }
     ensures { λ r. ⌜ Installed set r ⌝ }
 {
-    let active = set.active;
-    let knots = set.knots;
-    let held = set.blocks;
-    let counts = Counts {
-        starts: active.count,
-        knots: knots.count,
-        blocks: held.count,
-    };
-    let plain = storage::blank();
-    let mut starts = plain.times;
-    let mut numbers = plain.numbers;
-    let mut xs = plain.xs;
-    let mut ys = plain.ys;
-    let n = counts.starts;
-    let k = counts.knots;
-    storage::unpack_active(active, &mut starts[..n], &mut numbers[..n]);
-    storage::unpack_knots(knots, &mut xs[..k], &mut ys[..k]);
-    let blocks = held.items;
+    let mut starts = [0.0; STARTS];
+    let mut numbers = [0u64; STARTS];
+    let mut xs = [0.0; KNOTS];
+    let mut ys = [0.0; KNOTS];
+    let mut blocks = [0.0; BLOCKS];
+    let counts = unpacked(
+        set,
+        &mut starts,
+        &mut numbers,
+        &mut xs,
+        &mut ys,
+        &mut blocks,
+    );
     let default = set.default;
     let manifest = Missing {
         default,

@@ -2,21 +2,20 @@
 use mathlib.Core.Path.{_≡_, refl, ap, subst}
 use Prim.Native.Nat.{ℕ, suc, _+_, _≤_, _<_}
 use native.Mathlib.Omega.{arith}
-use mathlib.Core.Bool.{false, not, _||_}
+use mathlib.Core.Bool.{false, _||_}
 use mathlib.Core.List.{List, [], _∷_}
 use mathlib.Core.Option.{Option, none, some}
 use lib.Dec.{ltb, lit<}
 use lib.ListN.{length, length-append}
 use lib.Ieee.{Float, binary64}
-use lib.Ieee.Scale.{finite}
 use lib.Ieee.Fits.{add-fits, sub-fits, div-fits}
 use borrow.Author.Tests.{ltb-false}
 use Rattle.definitions.specs.declared.Knot.{Knot}
 use Rattle.definitions.specs.declared.TemplateTimes.{TemplateTimes}
-use Rattle.gf.specs.Doubles.{_⊕_, _⊗_, 10000·0, abs, totalKey, storable}
+use Rattle.gf.specs.Doubles.{_⊕_, _⊗_, 10000·0, abs, totalKey}
 use Rattle.definitions.specs.declared.Start.{Start}
 use Rattle.definitions.specs.ClipSet.{maxClips, maxBlocks, maxTemplate, activeTimes, knotTimes, sortKnots, anyUnstorable, nanDefault, beyondLimits, equalStarts, equalKnots, badDefaultMark}
-use Rattle.definitions.specs.Template.{TemplateFields, activeOffset, promoted, stageTime, activations, diagonal, clipKnots, withBounds, templateSet, template1, offsetNotFinite, template2, template7, template6, template8, templateNumber}
+use Rattle.definitions.specs.Template.{TemplateFields, activeOffset, promoted, stageTime, activations, diagonal, clipKnots, withBounds, templateSet, template1, timesUnstorable, template2, template7, template6, template8, templateNumber}
 use Rattle.laws.proofs.list.Tests.{or-false, passed}
 use Rattle.laws.specs.list.Every.{Every}
 use Rattle.laws.proofs.list.Every.{every-map, every-append, every-to-map}
@@ -66,7 +65,7 @@ few-blocks f e = ltb-false maxBlocks (length (f .blocks)) (or-false (ltb maxTemp
 number : (f : TemplateFields) → template2 f ≡ false → nanDefault (f .default) ≡ false
 unfolding template2
 number f e =
-    or-false (not (storable (f .times .start)) || not (storable (f .times .end)) || not (finite (f .times .stride)) || offsetNotFinite (activeOffset f) || anyUnstorable (f .blocks)) (nanDefault (f .default)) e .1
+    or-false (timesUnstorable (f .times) (activeOffset f) || anyUnstorable (f .blocks)) (nanDefault (f .default)) e .1
 
 pub few-clips : (f : TemplateFields) → template8 f ≡ false → length (promoted (f .times)) ≤ maxClips
 unfolding template8
