@@ -42,6 +42,8 @@ pub struct Desk {
     pub differences: Vec<String>,
     /// Tracks walked by the Rust's values, and by the document's.
     pub tracks: [u64; 2],
+    /// Where all is checked: tracks that write a value zero, and places at which a zero's sign alone changes.
+    pub zeros: [u64; 2],
     /// Whether each short track is held against the Rust's value near everything that can move it.
     pub probing: bool,
     pub probed: u64,
@@ -122,6 +124,7 @@ impl Desk {
             probed: 0,
             differences: Vec::new(),
             tracks: [0; 2],
+            zeros: [0; 2],
         }
     }
 
@@ -131,7 +134,8 @@ impl Desk {
             Call::Case(name) => {
                 let differences = std::mem::take(&mut self.differences);
                 let (probing, probed) = (self.probing, self.probed);
-                *self = Desk { differences, probing, probed, tracks: self.tracks, ..Desk::new(self.check) };
+                let (tracks, zeros) = (self.tracks, self.zeros);
+                *self = Desk { differences, probing, probed, tracks, zeros, ..Desk::new(self.check) };
                 out.word("case").word(&name).end();
             }
             Call::Samples(samples) => {
@@ -441,6 +445,7 @@ impl Desk {
             let track = track::walk(&candidates, |t| read.value(t));
             if self.check {
                 self.spot_check(&track);
+                self.count_zeros(&track, &candidates, &read);
             }
             return track;
         }
@@ -454,11 +459,19 @@ impl Desk {
         if self.check {
             let text = track::walk(&candidates, |t| read.value(t));
             self.compare("track", (rust.head, track::hash(&rust.changes)), (text.head, track::hash(&text.changes)));
+            self.count_zeros(&rust, &candidates, &read);
         }
         rust
     }
 
-    /// The track read held, against the Rust's value at every double within 2,000 places of these, and at doubles from all over.
+    fn count_zeros(&mut self, track: &Track, candidates: &[i64], read: &Read<'_>) {
+        let zero = plain::number(0.0);
+        self.zeros[0] += u64::from(track.head == zero || track.changes.iter().any(|change| change.1 == zero));
+        self.zeros[1] += track::turned_zeros(candidates, |t| read.value(t)) as u64;
+    }
+
+    /// The track against the Rust's value at every double within 2,000 places of these, and at doubles from all over: read
+    /// held it is alike, and a double is a change exactly if its value is not alike to the one below.
     fn probe(&mut self, track: &Track, near: &[i64]) {
         let mut places: Vec<i64> = near.iter().flat_map(|&n| n - 2000..=n + 2000).collect();
         let mut random = 0x9e37_79b9_7f4a_7c15u64 ^ near.len() as u64;
@@ -469,14 +482,21 @@ impl Desk {
         places.sort_unstable();
         places.dedup();
         let most = place(f64::MAX);
+        let mut before = None;
         for p in places.into_iter().filter(|p| p.abs() <= most) {
             let t = at(p);
-            let held = track.changes.iter().rev().find(|c| c.0 <= t).map_or(track.head, |c| c.1);
+            let last = track.changes.iter().rev().find(|c| c.0 <= t);
+            let held = last.map_or(track.head, |c| c.1);
             let rust = self.rust_value(t);
             self.probed += 1;
-            if rust != held {
+            if !rust.alike(held) {
                 self.differs(&format!("track at {t:e}"), rust, held);
             }
+            let changes = last.is_some_and(|c| c.0 == t);
+            if let Some((_, below)) = before.filter(|&(q, below)| q == p - 1 && changes == rust.alike(below)) {
+                self.differs(&format!("change at {t:e}"), (below, rust), changes);
+            }
+            before = Some((p, rust));
         }
     }
 
@@ -485,10 +505,10 @@ impl Desk {
         for i in (0..track.changes.len()).step_by(track.changes.len() / 20 + 1) {
             let (time, text) = track.changes[i];
             let below = if i == 0 { track.head } else { track.changes[i - 1].1 };
-            let rust = (self.rust_value(at(place(time) - 1)), self.rust_value(time));
+            let rust = (self.rust_value(at(place(time) - 1)).written(), self.rust_value(time).written());
             self.compare("long track", rust, (below, text));
         }
-        let rust = self.rust_value(f64::MIN);
+        let rust = self.rust_value(f64::MIN).written();
         self.compare("long track's head", rust, track.head);
     }
 

@@ -34,10 +34,11 @@ use desk::Desk;
 use text::{Line, Words};
 use writer::Writer;
 
-/// What a run has to tell: differences between Rust and document, and tracks by either's values.
+/// What a run has to tell: differences between Rust and document, tracks by either's values, and zeros in them.
 struct Told {
     differences: usize,
     tracks: [u64; 2],
+    zeros: [u64; 2],
     probed: u64,
 }
 
@@ -81,7 +82,7 @@ fn answer(
         line.clear();
     }
     output.flush()?;
-    Ok(Told { differences, tracks: desk.tracks, probed: desk.probed })
+    Ok(Told { differences, tracks: desk.tracks, zeros: desk.zeros, probed: desk.probed })
 }
 
 const USAGE: &str =
@@ -105,13 +106,14 @@ fn main() -> io::Result<()> {
         [] => answer(&mut input, &mut output, false, false, false).map(drop),
         ["timed"] => answer(&mut input, &mut output, false, true, false).map(drop),
         ["check"] => {
-            let Told { differences, tracks, .. } = answer(&mut input, &mut output, true, false, false)?;
+            let Told { differences, tracks, zeros, .. } = answer(&mut input, &mut output, true, false, false)?;
             eprintln!("{} tracks by the Rust's values, {} by the document's", tracks[0], tracks[1]);
+            eprintln!("{} of them write a value zero; {} times a zero's sign alone changes", zeros[0], zeros[1]);
             eprintln!("{differences} differences between Rust and document");
             std::process::exit((differences > 0).into());
         }
         ["probe"] => {
-            let Told { differences, tracks, probed } = answer(&mut input, &mut io::sink(), false, false, true)?;
+            let Told { differences, tracks, probed, .. } = answer(&mut input, &mut io::sink(), false, false, true)?;
             println!("{} tracks, {probed} doubles probed, {differences} differing", tracks[0]);
             std::process::exit((differences > 0).into());
         }

@@ -55,23 +55,33 @@ fn crossing(mut lo: i64, mut hi: i64, test: impl Fn(f64) -> bool) -> Option<i64>
     Some(hi)
 }
 
-/// The track of `value`, which changes at candidates only.
+/// The track of `value`, whose bits change at candidates only.
 pub fn walk(candidates: &[i64], mut value: impl FnMut(f64) -> Answer) -> Track {
-    let head = value(f64::MIN);
-    if head == ABSENT {
-        return Track { head, changes: Vec::new() };
+    let first = value(f64::MIN);
+    let mut track = Track { head: first.written(), changes: Vec::new() };
+    if first == ABSENT {
+        return track;
     }
-    let mut last = head;
-    let mut changes = Vec::new();
+    let mut last = first;
     for &candidate in candidates {
         let below = value(at(candidate - 1));
         assert!(below == last, "the value changes between candidates, below {:e}", at(candidate));
         last = value(at(candidate));
-        if last != below {
-            changes.push((at(candidate), last));
+        if !last.alike(below) {
+            track.changes.push((at(candidate), last.written()));
         }
     }
-    Track { head, changes }
+    track
+}
+
+/// At how many candidates a zero's sign alone changes, which is no change.
+pub fn turned_zeros(candidates: &[i64], mut value: impl FnMut(f64) -> Answer) -> usize {
+    let mut last = value(f64::MIN);
+    let turned = |&&candidate: &&i64| {
+        let below = std::mem::replace(&mut last, value(at(candidate)));
+        below != last && below.alike(last)
+    };
+    candidates.iter().filter(turned).count()
 }
 
 /// FNV-1a 64 over each change's time, value and mark.
