@@ -105,13 +105,19 @@ impl Random {
         }
     }
 
-    /// A value's bits: small numbers for the most part, so that some are alike.
+    /// A value's bits: zeros and small numbers for the most part, so that some are alike.
     pub fn value(&mut self) -> f64 {
         match self.below(12) {
-            0 => self.pick(&[0.0, -0.0, f64::INFINITY, f64::NEG_INFINITY, f64::MIN_POSITIVE, f64::MAX]),
+            0 => self.pick(&[f64::INFINITY, f64::NEG_INFINITY, f64::MIN_POSITIVE, f64::MAX, 5e-324, -5e-324]),
             1 => self.finite(),
+            2 | 3 => self.zero(),
             _ => self.between(1, 6) as f64,
         }
+    }
+
+    /// A zero of either sign.
+    pub fn zero(&mut self) -> f64 {
+        self.signed(0.0)
     }
 
     /// A block's slot: anything.

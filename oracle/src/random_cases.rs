@@ -274,6 +274,8 @@ fn samples(random: &mut Random, set: &Set, most: usize) -> Samples {
     };
     let blocked = random.pick(&[0, 15, 50]);
     let empty = random.pick(&[0, 10, 60]);
+    // Many zeros: next to one another, in one clip and over several, beside blocks and other numbers.
+    let zeros = random.pick(&[0, 0, 40, 90]);
     let mut s = Samples::default();
     for _ in 0..set.clips {
         let times = if random.chance(empty) { Vec::new() } else { clip_samples(random, set, scale, most) };
@@ -281,7 +283,11 @@ fn samples(random: &mut Random, set: &Set, most: usize) -> Samples {
             let mark = u8::from(random.chance(blocked));
             s.times.push(time);
             s.marks.push(mark);
-            s.values.push(if mark == 0 { random.value() } else { random.slot() });
+            s.values.push(match mark {
+                0 if random.chance(zeros) => random.zero(),
+                0 => random.value(),
+                _ => random.slot(),
+            });
         }
         s.ends.push(s.times.len() as u64);
     }

@@ -28,8 +28,11 @@ fn replies_to(text: &str) -> String {
 fn shows(call: &str, reply: &str) -> String {
     let words: Vec<&str> = reply.split_whitespace().collect();
     let kind = match words[0] {
-        "refused" | "untimed" | "value" => words[1].to_owned(),
-        "track" | "trackhash" => format!("{} {}", words[1], words[3].len().min(2)),
+        "refused" | "untimed" => words[1].to_owned(),
+        "value" => format!("{} {}", words[1], words[2] == "8000000000000000"),
+        // A zero of mark 0 stands in the head or in a change.
+        "track" => format!("{} {} {}", words[1], words[3].len().min(2), reply.contains(" 0 0000000000000000")),
+        "trackhash" => format!("{} {}", words[1], words[3].len().min(2)),
         "active" => (words[1] == "none").to_string(),
         "set" | "times" | "ssamples" | "normalize" | "cliptimes" => words[1].len().to_string(),
         _ => String::new(),

@@ -6,7 +6,7 @@ use crate::writer::Writer;
 
 type Family = (&'static str, fn() -> usize, fn(usize, &mut Writer<'_>));
 
-const FAMILIES: [Family; 8] = [
+const FAMILIES: [Family; 9] = [
     ("mapping", mapping_size, mapping),
     ("missing", missing_size, missing),
     ("lists", lists_size, lists),
@@ -15,6 +15,7 @@ const FAMILIES: [Family; 8] = [
     ("normalise", normalise_size, normalise),
     ("lent", lent_size, lent),
     ("retime", retime_size, retime),
+    ("zeros", zeros_size, zeros),
 ];
 
 /// Writes every `of`-th case, beginning with `part`.
@@ -323,4 +324,52 @@ fn retime(index: usize, out: &mut Writer<'_>) {
     out.call(&Call::Times(ROOM));
     out.call(&Call::TrackHash);
     out.call(&Call::Retime(0.0, 1.0));
+}
+
+// Up to three starts of three clips: samples that are a zero of either sign, 1.0 or a block, one such sample or none, none; a
+// default of the same kinds, knots that rise, fall and jump.
+
+/// Value and mark.
+const KINDS: [(f64, u8); 4] = [(-0.0, 0), (0.0, 0), (1.0, 0), (-0.0, 1)];
+
+fn zeros_size() -> usize {
+    3 * KINDS.len().pow(3) * (KINDS.len() + 1) * KINDS.len() * 2 * 4
+}
+
+fn zeros(index: usize, out: &mut Writer<'_>) {
+    let mut choices = Choices(index);
+    let starts = choices.below(3) + 1;
+    let first: [(f64, u8); 3] = std::array::from_fn(|_| choices.of(&KINDS));
+    let second = KINDS.get(choices.below(KINDS.len() + 1));
+    let (value, mark) = choices.of(&KINDS);
+    let flag = choices.below(2) == 1;
+    let knots: [(&[f64], &[f64]); 4] = [
+        (&[], &[]),
+        (&[0.0, 3.0], &[3.0, 0.0]),
+        (&[0.0, 1.0, 1.0, 3.0], &[2.5, 0.5, 0.0, 2.0]),
+        (&[-1.0, 3.0], &[-1.0, 3.0]),
+    ];
+    let (x, y) = choices.of(&knots);
+    out.call(&Call::Explicit(Explicit {
+        clips: 3,
+        start_times: (0..starts).map(|i| i as f64).collect(),
+        start_clips: (0..starts).map(|i| i as f64).collect(),
+        knot_x: x.to_vec(),
+        knot_y: y.to_vec(),
+        filling: Filling { mark, value, flag, ..NO_FILLING },
+    }));
+    let samples: Vec<(f64, u8)> = first.into_iter().chain(second.copied()).collect();
+    out.call(&Call::Samples(Samples {
+        ends: vec![3, samples.len() as u64, samples.len() as u64],
+        times: [0.0, 1.0, 2.0, 1.5].into_iter().take(samples.len()).collect(),
+        values: samples.iter().map(|sample| sample.0).collect(),
+        marks: samples.iter().map(|sample| sample.1).collect(),
+    }));
+    for t in [-1.0, 0.5, 1.0, 1.5, 2.5] {
+        out.call(&Call::Value(t));
+    }
+    for slots in [0, 1, 2, ROOM] {
+        out.call(&Call::Track(slots));
+    }
+    out.call(&Call::TrackHash);
 }
