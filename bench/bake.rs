@@ -229,9 +229,9 @@ impl<F: FnMut(f64, Answer)> Walk<'_, F> {
     /// The value from t on.
     fn say(&mut self, t: f64, answer: Answer) {
         if t == f64::MIN {
-            self.head = answer;
-        } else if answer != self.last {
-            (self.each)(at(place(t)), answer);
+            self.head = answer.written();
+        } else if !answer.alike(self.last) {
+            (self.each)(at(place(t)), answer.written());
         }
         self.last = answer;
     }

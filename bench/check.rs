@@ -32,7 +32,7 @@ pub fn by_values(case: &Case, track: &Track, value: f64) -> String {
     let (mut count, mut differing) = (0, 0);
     for i in asked {
         count += 1;
-        differing += usize::from(side.value(times[i]) != held(track, times[i]));
+        differing += usize::from(!side.value(times[i]).alike(held(track, times[i])));
     }
     if differing == 0 { format!("{count} values equal") } else { format!("{differing} of {count} values DIFFERING") }
 }
