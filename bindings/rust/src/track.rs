@@ -5,7 +5,8 @@ use crate::{StageTime, mark};
 
 /// What an attribute is at a stage time.
 ///
-/// Two answers are equal if they are alike: the same variant and, of values, the same bits. So 0.0 and -0.0 differ.
+/// Two answers are equal if they are alike, as a track counts it: the same variant and, of values, the same number. So
+/// 0.0 and -0.0 are equal. The value question keeps a zero's sign: to tell it, compare `value().map(f64::to_bits)`.
 #[derive(Clone, Copy, Debug)]
 pub enum Answer {
     /// This value is drawn.
@@ -34,6 +35,15 @@ impl Answer {
         }
     }
 
+    /// As a track writes it: value zero as 0.0.
+    fn written(self) -> Answer {
+        match self {
+            // Both zeros are equal to this one.
+            Answer::Value(0.0) => Answer::Value(0.0),
+            other => other,
+        }
+    }
+
     /// The [mark](crate::mark) and the value slot, 0.0 where there is no value.
     #[must_use]
     pub fn marked(self) -> (u8, f64) {
@@ -47,8 +57,9 @@ impl Answer {
 
 impl PartialEq for Answer {
     fn eq(&self, other: &Self) -> bool {
+        // Of numbers as written the bits decide. A NaN, which no answer of the library holds, thus still equals itself.
         let bits = |answer: &Answer| {
-            let (mark, value) = answer.marked();
+            let (mark, value) = answer.written().marked();
             (mark, value.to_bits())
         };
         bits(self) == bits(other)
@@ -68,7 +79,8 @@ pub struct Change {
 
 /// A track: what holds first, and every change, ascending. Reading it needs no set, no clip and no samples.
 ///
-/// Two tracks are equal if their heads are alike and their changes lie at equal times and are alike.
+/// Zero is written 0.0 throughout, of values and of times. Two tracks are equal if their heads are alike and their changes
+/// lie at equal times and are alike; they are then so bit for bit.
 #[derive(Clone, Debug)]
 pub struct Track {
     head: Answer,
@@ -83,10 +95,11 @@ impl Track {
     }
 
     /// A track of a head and changes, for one that was kept somewhere; `None` unless it is such as a bake writes: times
-    /// finite and ascending, each change unlike what held before, no NaN, and an absent head without changes.
+    /// finite and ascending, each change unlike what held before, no NaN, and an absent head without changes. A zero, of a
+    /// value or of a time, is written 0.0 as a bake does.
     #[must_use]
     pub fn new(head: Answer, changes: impl IntoIterator<Item = Change>) -> Option<Track> {
-        let mut track = Track::of_lists(head, Vec::new(), Vec::new(), Vec::new());
+        let mut track = Track::of_lists(head.written(), Vec::new(), Vec::new(), Vec::new());
         let is_nan = |answer: Answer| answer.value().is_some_and(f64::is_nan);
         let mut last = Change { time: StageTime(f64::MIN), answer: head };
         for change in changes {
@@ -95,8 +108,8 @@ impl Track {
             if absent || !ascends || is_nan(change.answer) || change.answer == last.answer {
                 return None;
             }
-            let (mark, value) = change.answer.marked();
-            // Zero is written 0.0.
+            let (mark, value) = change.answer.written().marked();
+            // Time zero is written 0.0.
             track.times.push(change.time.0 + 0.0);
             track.values.push(value);
             track.marks.push(mark);
@@ -129,7 +142,7 @@ impl Track {
         &self.times
     }
 
-    /// The value of each change, 0.0 for a block.
+    /// The value of each change, 0.0 for a block. A value zero is 0.0, whatever its sign was.
     #[must_use]
     pub fn values(&self) -> &[f64] {
         &self.values
