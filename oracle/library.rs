@@ -54,6 +54,23 @@ fn write_answer(out: &mut Line, answer: Answer) {
     out.number(mark.into()).double(value);
 }
 
+/// For comparison to the bit: of doubles the two zeros are equal, and a NaN, which a block's slot may be, to nothing.
+fn bits(list: &[f64]) -> Vec<u64> {
+    list.iter().map(|d| d.to_bits()).collect()
+}
+
+/// A track to the bit: the head's mark and value, the times, values and marks of the changes.
+type TrackBits = (u8, u64, Vec<u64>, Vec<u64>, Vec<u8>);
+
+fn track_bits(head: Answer, times: &[f64], values: &[f64], marks: &[u8]) -> TrackBits {
+    let (mark, value) = head.marked();
+    (mark, value.to_bits(), bits(times), bits(values), marks.to_vec())
+}
+
+fn bits_of(track: &Track) -> TrackBits {
+    track_bits(track.head(), track.times(), track.values(), track.marks())
+}
+
 /// FNV-1a 64 over each change's time, value and mark.
 fn write_hash(out: &mut Line, track: &Track) {
     let mut hash = 0xcbf2_9ce4_8422_2325u64;
@@ -174,9 +191,12 @@ impl Desk {
         let baked = self.resolver.bake_into(&samples, &mut times, &mut values, &mut marks);
         let made = self.resolver.bake(&samples);
         same(&baked, &made, |&(head, n), made| {
-            made.head() == head
-                && (made.times(), made.values(), made.marks()) == (&times[..n], &values[..n], &marks[..n])
+            bits_of(made) == track_bits(head, &times[..n], &values[..n], &marks[..n])
         });
+        if let Ok(track) = &made {
+            let kept = Track::new(track.head(), track.changes()).expect("such as a bake writes");
+            assert_eq!(bits_of(&kept), bits_of(track), "a kept track is made again");
+        }
         assert_eq!(self.resolver.change_count(&samples), made.map(|track| track.len()));
         let (head, count) = baked?;
         write_answer(out.word("track"), head);
@@ -200,8 +220,6 @@ fn normalize(n: &calls::Samples, slots: usize, out: &mut Line) -> Answered {
     let (mut times, mut values, mut marks) = (vec![0.0; slots], vec![0.0; slots], vec![0; slots]);
     let count = tavitrozy::normalize_into(&n.times, &n.values, &n.marks, &mut times, &mut values, &mut marks);
     let made = tavitrozy::normalize(&n.times, &n.values, &n.marks);
-    // A block's slot may be a NaN, which is equal to nothing.
-    let bits = |list: &[f64]| list.iter().map(|d| d.to_bits()).collect::<Vec<_>>();
     same(&count, &made, |&n, made| {
         let made = made.lent();
         (bits(made.times), bits(made.values), made.marks) == (bits(&times[..n]), bits(&values[..n]), &marks[..n])
