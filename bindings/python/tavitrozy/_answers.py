@@ -43,7 +43,7 @@ def accepted(number: int) -> None:
 
 @dataclass(frozen=True)
 class Value:
-    """A number: it is drawn."""
+    """A number: it is drawn. Two are equal as numbers: 0.0 and -0.0 are, as a track counts it; `math.copysign` tells the sign that `Resolver.value` keeps."""
 
     value: float
 

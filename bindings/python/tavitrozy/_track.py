@@ -4,7 +4,7 @@ from array import array
 from typing import Any, Iterator, Tuple
 
 from . import _library, _lists
-from ._answers import Answer, answer_of, mark_of, value_of
+from ._answers import Answer, Value, answer_of, mark_of, value_of
 from ._library import calls
 
 
@@ -12,8 +12,8 @@ class Track:
     """The value at every stage time: a head, and changes that each hold from their time on.
 
     `bake` makes one; it can also be made of a head (`Value`, `Blocked` or `Absent`) and three lists of one length: ascending stage times, values, and
-    marks (0 a value, 1 a block). The lists are copied, with time zero as 0.0 and under a block the value 0.0, as a bake writes them. A track does not change.
-    Two tracks are equal if they are so bit for bit: values 0.0 and -0.0 differ.
+    marks (0 a value, 1 a block). The lists are copied, with zero as 0.0, of times and values, and under a block the value 0.0, as a bake writes them. A track
+    does not change. Two tracks are equal if their heads and their changes are: at equal times, with equal marks and equal numbers.
     """
 
     __slots__ = ("_head", "_times", "_values", "_marks", "_lent")
@@ -25,9 +25,9 @@ class Track:
         if max(marks, default=0) > _library.NONE:
             raise ValueError("a mark is 0 (a value), 1 (a block) or 2 (absent)")
         for place, mark in enumerate(marks):
-            times[place] += 0.0  # -0.0 becomes 0.0
-            values[place] = values[place] if mark == _library.VALUE else 0.0
-        self._hold(head, times, values, marks)
+            times[place] = times[place] or 0.0  # -0.0 becomes 0.0
+            values[place] = values[place] or 0.0 if mark == _library.VALUE else 0.0
+        self._hold(Value(0.0) if head == Value(0.0) else head, times, values, marks)
 
     @classmethod
     def _of(cls, head: Answer, times: array, values: array, marks: array) -> "Track":
@@ -53,7 +53,7 @@ class Track:
 
     @property
     def values(self) -> memoryview:
-        """The value of each change; 0.0 where its mark is not 0."""
+        """The value of each change; 0.0 where its mark is not 0. A value zero is 0.0, whatever its sign was."""
         return memoryview(self._values).toreadonly()
 
     @property
@@ -79,6 +79,7 @@ class Track:
         return ((time, answer_of(mark, value)) for time, value, mark in zip(self._times, self._values, self._marks))
 
     def _bits(self) -> Tuple[bytes, ...]:
+        """What is equal for equal tracks: zero is 0.0 here, so bits differ where numbers do. (A NaN equals its own bits.)"""
         head = _library.Entry(value_of(self._head), 0)
         return bytes([mark_of(self._head)]), bytes(head)[:8], self._times.tobytes(), self._values.tobytes(), self._marks.tobytes()
 

@@ -29,12 +29,12 @@ class Tracks(unittest.TestCase):
         self.assertEqual((track.read(math.nan), track.read(-math.inf), track.read(math.inf)), (Value(-7.0), Value(-7.0), Value(3.0)))
         self.assertEqual((len(track), bool(Track(Absent(), [], [], []))), (3, True))
 
-    def test_equal_by_bits(self):
+    def test_equal_as_numbers(self):
         track = Track(Value(1), [0], [0.0], [0])
-        self.assertEqual(track, Track(Value(1), [0], [0.0], [0]))
-        self.assertEqual(hash(track), hash(Track(Value(1), [0], [0.0], [0])))
+        for same in (Track(Value(1), [0], [0.0], [0]), Track(Value(1), [-0.0], [-0.0], [0])):
+            self.assertEqual((track, hash(track)), (same, hash(same)))
         for other in (
-            Track(Value(1), [0], [-0.0], [0]),
+            Track(Value(1), [0], [-5e-324], [0]),
             Track(Value(1), [0], [0.0], [1]),
             Track(Value(1), [1], [0.0], [0]),
             Track(Value(2), [0], [0.0], [0]),
@@ -42,12 +42,20 @@ class Tracks(unittest.TestCase):
             Track(Value(1), [], [], []),
         ):
             self.assertNotEqual(track, other)
-        self.assertNotEqual(Track(Value(0.0), [], [], []), Track(Value(-0.0), [], [], []))
+        for head in (Value(-0.0), Value(0)):
+            same = Track(head, [], [], [])
+            self.assertEqual((Track(Value(0.0), [], [], []), hash(Track(Value(0.0), [], [], []))), (same, hash(same)))
+        self.assertEqual((Value(0.0), hash(Value(0.0))), (Value(-0.0), hash(Value(-0.0))))
+        self.assertNotEqual(Value(0.0), Blocked())
+        self.assertNotEqual(Track(Value(0.0), [], [], []), Track(Blocked(), [], [], []))
         self.assertNotEqual(track, "a track")
         self.assertEqual(pickle.loads(pickle.dumps(track)), track)
 
     def test_as_a_bake_writes(self):
         self.assertEqual(Track(Blocked(), [-0.0], [5], [1]), Track(Blocked(), [0.0], [0], [1]))
+        made = Track(Value(-0.0), [-0.0, 1], [-0.0, -0.0], [1, 0])
+        written = [made.head.value, *made.times, *made.values, made.read(-1).value, made.read(1).value]
+        self.assertEqual([math.copysign(1, number) for number in written], [1.0] * len(written))
 
     def test_not_writable(self):
         times = array("d", [1, 2])

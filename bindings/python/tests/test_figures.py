@@ -91,6 +91,31 @@ class Figures(unittest.TestCase):
             self.assertEqual(r.value(samples, time), answer)
             self.assertNotEqual(r.value(samples, _below(time)), answer)
 
+    def test_zeros(self):
+        """A track writes zero as 0.0, and two zeros are no change; a value keeps its sign."""
+
+        def signs(*numbers):
+            return [math.copysign(1, number) for number in numbers]
+
+        for clips, changes in (
+            ([[(0, -0.0)], [(0, 0.0)]], []),
+            ([[(0, 0.0)], [(0, -0.0)]], []),
+            ([[(0, -0.0), (5, None)], [(0, 0.0)]], [(5.0, Blocked()), (10.0, Value(0.0))]),
+            ([[(0, -0.0), (5, 1.0)], [(0, -0.0)]], [(5.0, Value(1.0)), (10.0, Value(0.0))]),
+        ):
+            r, samples = resolver(2, [(0, 0), (10, 1)]), Samples.of_clips(clips)
+            track = r.bake(samples)
+            self.assertEqual(list(track), changes)
+            self.assertEqual(signs(track.head.value, *track.values), [1.0] * (1 + len(changes)))
+            self.assertEqual(signs(*(r.value(samples, t).value for t in (-5, 15))), signs(clips[0][0][1], clips[1][0][1]))
+            for time in (-5, 5, 10, 15):
+                self.assertEqual(track.read(time), r.value(samples, time))
+        r, samples = resolver(2, [(0, 0), (10, 1)], default=-0.0), Samples.of_clips([[(0, 0.0)], []])
+        self.assertEqual((len(r.bake(samples)), signs(r.standing.default.value, r.value(samples, 15).value)), (0, [-1.0, -1.0]))
+        r, samples = resolver(1, [(0, 0)], [(0, 10), (10, 0)]), Samples.of_clips([[(0, -0.0), (5, 0.0), (10, 1.0)]])
+        self.assertEqual((r.bake(samples).head, list(r.bake(samples).values)), (Value(1.0), [0.0]))
+        self.assertEqual(signs(r.value(samples, 5).value, r.value(samples, 5.000000000000001).value), [1.0, -1.0])
+
     def test_no_starts(self):
         r = resolver(0, [])
         samples = Samples.of_clips([])
