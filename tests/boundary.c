@@ -1,4 +1,4 @@
-/* The library as a C program meets it: the worked figures, every refusal number, NULL and the limits, what a refused call leaves, and the odd readings.
+/* The library as a C program meets it: the worked figures, zeros, every refusal number, NULL and the limits, what a refused call leaves, and the odd readings.
  * It is built as C11 and as C++17, so it keeps to what both have. Prints what is not so; status 1 if anything is not. */
 #include <fenv.h>
 #include <math.h>
@@ -157,6 +157,56 @@ static void falling(void) {
   CHECK(tavitrozy_value(&r, LENT(&s), at(nextafter(t.times[0], -1))).value == 3 && tavitrozy_clip_time(&r, at(nextafter(t.times[0], -1))).time.value == 10);
   CHECK(t.times[1] == nextafter(5.0, 6.0) && t.values[1] == 1);
   CHECK(tavitrozy_value(&r, LENT(&s), at(5)).value == 2);
+}
+
+/* ---- a track writes value zero as 0.0, and two zeros are no change; a value keeps its sign */
+
+static void zero_head(void) {
+  const double start[] = {0}, clip[] = {0};
+  static samples s;
+  tavitrozy_resolver r;
+  tavitrozy_fresh(&r);
+  add(&s, 0, -0.0), end_clip(&s);
+  CHECK(accept(&r, 1, start, clip, 1, NULL, NULL, 0) == 0);
+  tavitrozy_baked b = tavitrozy_bake(&r, LENT(&s), NULL, 0, NULL, 0, NULL, 0);
+  CHECK(b.number == 0 && b.mark == TAVITROZY_VALUE && same_bits(b.value, 0.0) && b.count == 0);
+  CHECK(same_bits(tavitrozy_value(&r, LENT(&s), at(-1)).value, -0.0) && same_bits(tavitrozy_value(&r, LENT(&s), at(1)).value, -0.0));
+}
+
+static void zero_changes(void) {
+  const double starts[] = {0, 10}, numbers[] = {0, 1};
+  static samples s, blocked, numbered;
+  track_lists t;
+  tavitrozy_resolver r;
+  tavitrozy_fresh(&r);
+  CHECK(accept(&r, 2, starts, numbers, 2, NULL, NULL, 0) == 0);
+  add(&s, 0, -0.0), end_clip(&s), add(&s, 0, 0.0), end_clip(&s);
+  tavitrozy_baked b = tavitrozy_bake(&r, LENT(&s), NULL, 0, NULL, 0, NULL, 0);
+  CHECK(b.number == 0 && same_bits(b.value, 0.0) && b.count == 0 && tavitrozy_change_count(&r, LENT(&s)).count == 0);
+  CHECK(same_bits(tavitrozy_value(&r, LENT(&s), at(5)).value, -0.0) && same_bits(tavitrozy_value(&r, LENT(&s), at(15)).value, 0.0));
+  /* a block between them: the marks differ */
+  add(&blocked, 0, -0.0), add(&blocked, 5, -0.0), end_clip(&blocked), add(&blocked, 0, -0.0), end_clip(&blocked);
+  blocked.marks[1] = TAVITROZY_BLOCK;
+  b = tavitrozy_bake(&r, LENT(&blocked), OUT(&t, 2));
+  CHECK(b.number == 0 && b.mark == TAVITROZY_VALUE && same_bits(b.value, 0.0) && b.count == 2);
+  CHECK(t.times[0] == 5 && t.marks[0] == TAVITROZY_BLOCK && same_bits(t.values[0], 0.0));
+  CHECK(t.times[1] == 10 && t.marks[1] == TAVITROZY_VALUE && same_bits(t.values[1], 0.0));
+  CHECK(tavitrozy_bake(&r, LENT(&blocked), OUT(&t, 1)).number == TAVITROZY_REFUSED_NO_ROOM);
+  /* from 1 to -0.0 and on to 0.0: one change, one slot */
+  add(&numbered, 0, 1), add(&numbered, 5, -0.0), end_clip(&numbered), add(&numbered, 0, 0.0), end_clip(&numbered);
+  b = tavitrozy_bake(&r, LENT(&numbered), OUT(&t, 1));
+  CHECK(b.number == 0 && b.value == 1 && b.count == 1 && t.times[0] == 5 && t.marks[0] == TAVITROZY_VALUE && same_bits(t.values[0], 0.0));
+}
+
+static void zero_default(void) {
+  const double starts[] = {0, 10}, numbers[] = {0, 1};
+  static samples s;
+  tavitrozy_resolver r;
+  tavitrozy_fresh(&r);
+  add(&s, 0, 0.0), end_clip(&s), end_clip(&s);
+  CHECK(tavitrozy_accept(&r, 2, starts, 2, numbers, 2, NULL, 0, NULL, 0, NULL, 0, value_default(-0.0), false) == 0);
+  CHECK(same_bits(r.shape.manifest.fallback.value, -0.0) && same_bits(tavitrozy_value(&r, LENT(&s), at(15)).value, -0.0));
+  CHECK(tavitrozy_change_count(&r, LENT(&s)).count == 0);
 }
 
 /* ---- every refusal number, and what it leaves: nothing is written */
@@ -494,7 +544,7 @@ static void version(void) {
 }
 
 int main(void) {
-  active_clips(), equal_entries(), clip_times(), templates(), held(), missing(), falling();
+  active_clips(), equal_entries(), clip_times(), templates(), held(), missing(), falling(), zero_head(), zero_changes(), zero_default();
   refused_acceptances(), refused_retimings(), refused_without_set(), refused_samples(), refused_for_room_or_time(), refused_fields();
   nothing_lent(), limits_of_sets(), limits_of_templates(), limits_of_samples();
   outputs(), stands_as_sorted(), normal_form(), readings(), readings_out_of_order(), environment(), version();
