@@ -326,14 +326,20 @@ fn retime(index: usize, out: &mut Writer<'_>) {
     out.call(&Call::Retime(0.0, 1.0));
 }
 
-// Up to three starts of three clips: samples that are a zero of either sign, 1.0 or a block, one such sample or none, none; a
-// default of the same kinds, knots that rise, fall and jump.
+// Zeros of either sign, 1.0 and blocks: the first clip has three such samples, the second one or none, the third none; the
+// default is one of them too. One to three starts; knots that fall, jump and rise.
 
 /// Value and mark.
 const KINDS: [(f64, u8); 4] = [(-0.0, 0), (0.0, 0), (1.0, 0), (-0.0, 1)];
+const KNOTS: [(&[f64], &[f64]); 4] = [
+    (&[], &[]),
+    (&[0.0, 3.0], &[3.0, 0.0]),
+    (&[0.0, 1.0, 1.0, 3.0], &[2.5, 0.5, 0.0, 2.0]),
+    (&[-1.0, 3.0], &[-1.0, 3.0]),
+];
 
 fn zeros_size() -> usize {
-    3 * KINDS.len().pow(3) * (KINDS.len() + 1) * KINDS.len() * 2 * 4
+    3 * KINDS.len().pow(3) * (KINDS.len() + 1) * KINDS.len() * 2 * KNOTS.len()
 }
 
 fn zeros(index: usize, out: &mut Writer<'_>) {
@@ -343,13 +349,7 @@ fn zeros(index: usize, out: &mut Writer<'_>) {
     let second = KINDS.get(choices.below(KINDS.len() + 1));
     let (value, mark) = choices.of(&KINDS);
     let flag = choices.below(2) == 1;
-    let knots: [(&[f64], &[f64]); 4] = [
-        (&[], &[]),
-        (&[0.0, 3.0], &[3.0, 0.0]),
-        (&[0.0, 1.0, 1.0, 3.0], &[2.5, 0.5, 0.0, 2.0]),
-        (&[-1.0, 3.0], &[-1.0, 3.0]),
-    ];
-    let (x, y) = choices.of(&knots);
+    let (x, y) = choices.of(&KNOTS);
     out.call(&Call::Explicit(Explicit {
         clips: 3,
         start_times: (0..starts).map(|i| i as f64).collect(),
