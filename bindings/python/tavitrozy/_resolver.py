@@ -211,7 +211,7 @@ class Resolver:
         return reply.time.value
 
     def value(self, samples: Samples, stage_time: float) -> Answer:
-        """The value at a stage time. Refused with 20, 1, 2, 9 or 10."""
+        """The value at a stage time, with the bits that were lent: -0.0 stays -0.0. Refused with 20, 1, 2, 9 or 10."""
         reply = calls.tavitrozy_lent_value(*self._held.lent, *samples._lent, _library.StageTime(stage_time))
         accepted(reply.number)
         return answer_of(reply.mark, reply.value)
@@ -242,7 +242,7 @@ class Resolver:
         return [StageSample(time, mark == _library.BLOCK) for time, mark in zip(times, marks)]
 
     def bake(self, samples: Samples) -> Track:
-        """The track: the value at every stage time. Refused with 20, 1, 2 or 9."""
+        """The track: the value at every stage time, zero as 0.0; from -0.0 to 0.0 is no change. Refused with 20, 1, 2 or 9."""
         held = self._held
         count = self._ask(calls.tavitrozy_lent_change_count, samples, held=held).count
         times, values, marks = _lists.slots("d", count), _lists.slots("d", count), _lists.slots("B", count)

@@ -221,7 +221,7 @@ impl Resolver {
         Refusal::checked(reply.number, ClipTime(reply.time.value))
     }
 
-    /// What the attribute is at a stage time.
+    /// What the attribute is at a stage time, with the bits that were lent: -0.0 stays -0.0.
     ///
     /// # Errors
     ///
@@ -325,6 +325,7 @@ impl Resolver {
     }
 
     /// The whole answer as one track: what holds first, and every change at the very double where the value changes.
+    /// Value zero is written 0.0, and from -0.0 to 0.0 is no change.
     ///
     /// # Errors
     ///
