@@ -1,4 +1,4 @@
-/* Tavitrozy: OpenUSD value clips resolved and baked, exactly. Version 0.1.0, for x86-64 Linux.
+/* Tavitrozy: OpenUSD value clips resolved and baked, exactly. Version 0.2.0, for x86-64 Linux.
  *
  * A resolver holds one clip set, or none. It answers what an attribute is at a stage time, and bakes the whole answer into a track: a head, and every
  * change at the very double where the value changes. docs/VALUE-CLIPS.md (share/doc/tavitrozy where installed) says what every call answers. Words used here:
@@ -47,9 +47,9 @@
 /* ---- version */
 
 #define TAVITROZY_VERSION_MAJOR 0
-#define TAVITROZY_VERSION_MINOR 1
+#define TAVITROZY_VERSION_MINOR 2
 #define TAVITROZY_VERSION_PATCH 0
-#define TAVITROZY_VERSION "0.1.0"
+#define TAVITROZY_VERSION "0.2.0"
 
 /* ---- refusals. Where several apply the first in the order given at the call is told. */
 
@@ -147,11 +147,12 @@ typedef struct {
 /* found: whether a clip is active (none is where the set has no starts). */
 typedef struct { uint8_t number; bool found; uint64_t clip; } tavitrozy_clip_reply;
 typedef struct { uint8_t number; tavitrozy_at_clip time; } tavitrozy_time_reply;
-/* mark TAVITROZY_VALUE: the value; TAVITROZY_BLOCK: blocked; TAVITROZY_NONE: absent (a set without starts). */
+/* mark TAVITROZY_VALUE: the value, with the bits that it was lent with, -0.0 as -0.0; TAVITROZY_BLOCK: blocked; TAVITROZY_NONE: absent (a set without
+ * starts). */
 typedef struct { uint8_t number; uint8_t mark; double value; } tavitrozy_value_reply;
 typedef struct { uint8_t number; uint8_t state; } tavitrozy_untimed_reply;
 typedef struct { uint8_t number; size_t count; } tavitrozy_counted;
-/* The head (mark and value) of a baked track, and how many changes were written. */
+/* The head (mark and value, zero as 0.0) of a baked track, and how many changes were written. */
 typedef struct { uint8_t number; uint8_t mark; double value; size_t count; } tavitrozy_baked;
 /* An entry of a track: TAVITROZY_VALUE and a value, or TAVITROZY_BLOCK or TAVITROZY_NONE and 0.0. */
 typedef struct { double value; uint8_t mark; } tavitrozy_entry;
@@ -338,7 +339,8 @@ static inline tavitrozy_counted tavitrozy_change_count(const tavitrozy_resolver 
   return tavitrozy_lent_change_count(TAVITROZY_LENT(resolver), TAVITROZY_LENT_SAMPLES);
 }
 
-/* 20, 1, 2, 9, 22: the track. 22 means precisely fewer slots, in the shortest output, than there are changes. Slots past the count are untouched. */
+/* 20, 1, 2, 9, 22: the track. 22 means precisely fewer slots, in the shortest output, than there are changes. Slots past the count are untouched.
+ * A change lies where the number or the mark changes: from -0.0 to 0.0 there is none, and a value zero is written 0.0, in the head too. */
 static inline tavitrozy_baked tavitrozy_bake(const tavitrozy_resolver *TAVITROZY_RESTRICT resolver,
   const double *TAVITROZY_RESTRICT times, size_t times_len, const double *TAVITROZY_RESTRICT values, size_t values_len,
   const uint8_t *TAVITROZY_RESTRICT marks, size_t marks_len, const uint64_t *TAVITROZY_RESTRICT ends, size_t ends_len,

@@ -16,7 +16,7 @@ use Rattle.definitions.specs.Samples.{Samples}
 use Rattle.laws.proofs.list.Places.{last-inside}
 use Rattle.laws.proofs.cell.Direct.{SoundSet, SoundSamples}
 use Rattle.laws.specs.cell.Stretches.{severalStarts}
-use Rattle.laws.proofs.cell.Tracks.{SoundValues}
+use Rattle.laws.proofs.cell.Numbers.{SoundValues, sound-values}
 use Rattle.laws.specs.cell.Lent.{AcceptedLists, setOf, samplesOf, start}
 use Rattle.laws.proofs.cell.Lent.{active-times, zip-length, zip-here, sound-set, sound-samples}
 use Rattle.window.proofs.Parts.{ready-starts}
@@ -41,7 +41,7 @@ module _ {starts : List Float} {clips : List ℕ} {xs ys blocks : List Float} {m
   samples = sound-samples set s (R .accepted)
 
   pub numbers : SoundValues (setOf (length ends) starts clips xs ys blocks m) (samplesOf times values marks ends)
-  numbers = record { values = R .numbers; default = R .sound .default .fitting }
+  numbers = sound-values set s (R .sound) (R .accepted) (R .numbers)
 
   -- ---- the active start
 

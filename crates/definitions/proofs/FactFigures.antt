@@ -18,7 +18,6 @@ use Rattle.definitions.specs.Timing.{lastAtMost, activePosition, onSegme
 use Rattle.definitions.specs.Samples.{clipBegin, clipEnd, clipTimes, heldPlace}
 use Rattle.definitions.specs.Value.{says, blockedAt, contributes, readClip, directSource, window, stageTimesForClipTime, windowSampleTimes, gathered, jump}
 use Rattle.definitions.specs.StageSamples.{dropEqual, dedup, inOrder, stageSampleTimes}
-use Rattle.definitions.specs.Track.{entryOf, alike}
 use Rattle.definitions.specs.Facts.{maxName, StageSampleTimesAre, lastUpTo, firstAbove, sameTime, readingTimeInOrder, valueInOrder}
 use Rattle.definitions.proofs.Sets.{n, frac, -n, holds, sameTimes, is, templated, falling, falling-samples}
 
@@ -63,6 +62,6 @@ computed : FactFigures
 unfolding
     table round neg add sub mul div lt le eq toBits lerp share isWhole truncated signBit totalKey explicitSet isClipNumber beforeHash hashRun withFraction split
     digits placesBy places padded wholeBody format name lastAtMost activePosition onSegment mapTime mapStageToClip clipBegin clipEnd clipTimes heldPlace says
-    blockedAt contributes readClip directSource window stageTimesForClipTime windowSampleTimes gathered jump entryOf alike dropEqual dedup stageSampleTimes
+    blockedAt contributes readClip directSource window stageTimesForClipTime windowSampleTimes gathered jump dropEqual dedup stageSampleTimes
     readingTimeInOrder valueInOrder repeated promoted activations templateSet
 computed = record { figures = refl; times = record { finitely = tt; ascend = tt; starts = tt } }

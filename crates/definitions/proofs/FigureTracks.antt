@@ -1,16 +1,20 @@
--- The two tracks of the figures marked (P) in docs/VALUE-CLIPS.md, proved at every double: the one that never changes, and the one with a change at 20. Assumes nothing.
+-- The two tracks of the figures marked (P) in docs/VALUE-CLIPS.md, proved at every double: the one that never changes, and the one with a change at 20; and two of zeros
+-- of both signs, which do not change. Assumes nothing.
 use mathlib.Core.Path.{_≡_, refl, sym, ap, _∙_, subst, subst⁻¹}
 use Prim.Native.Nat.{ℕ, suc}
+use mathlib.Core.Logic.{_⊎_, inl, inr}
 use mathlib.Core.Bool.{Bool, true, false, not, _||_, cond}
 use mathlib.Core.List.{List, [], _∷_}
 use mathlib.Core.Option.{Option, none, some}
 use lib.Dec.{T, not-T}
 use lib.ListN.{getElem?}
-use lib.Ieee.{Float, round, add, sub, mul, div, neg, lt, le, eq, toBits, ofBits, fits}
+use lib.Ieee.{Float, round, add, sub, mul, div, neg, lt, le, eq, toBits, ofBits, fits, isNan}
 use lib.Ieee.Bits.{is-true, is-false}
 use Rattle.gf.specs.Doubles.{key, ofKey, totalKey, truncated}
 use Rattle.gf.proofs.KeyLaws.{lt-not-le, eq→key}
+use Rattle.definitions.specs.declared.Answer.{Answer}
 use Rattle.definitions.specs.declared.Answer.the-variants.{Value}
+use Rattle.definitions.specs.declared.StageTime.{StageTime}
 use Rattle.definitions.specs.ClipSet.{ClipSet, stage}
 use Rattle.definitions.specs.Doubles.{lowest, FiniteDouble}
 use Rattle.definitions.specs.Explicit.{explicitSet}
@@ -19,9 +23,10 @@ use Rattle.definitions.specs.Samples.{clipBegin, clipEnd, clipTimes, hel
 use Rattle.definitions.specs.declared.Source.{Source}
 use Rattle.definitions.specs.declared.Source.the-variants.{Sample as sample}
 use Rattle.definitions.specs.Value.{sourceAt, directSource, says, blockedAt, contributes, readClip, firstReading, interpolateMissingValue, window, stageTimesForClipTime, windowSampleTimes, gathered, lowerNeighbour, upperNeighbour, between, jump, readingTime, valueSource, valueInSet}
-use Rattle.definitions.specs.Track.{Change, entryOf, alike, changeAt, TrackOf}
-use Rattle.definitions.proofs.Tracks.{constant, single, no-nan, key-eq, not-le}
-use Rattle.definitions.proofs.Sets.{n, gap, gap-samples, falling, falling-samples}
+use Rattle.definitions.specs.Track.{Change, entryOf, alike, writtenEntry, changeAt, TrackOf}
+use Rattle.definitions.proofs.Written.{Numeric}
+use Rattle.definitions.proofs.Tracks.{steady, constant, single, no-nan, key-eq, not-le}
+use Rattle.definitions.proofs.Sets.{n, -n, two, gap, gap-samples, falling, falling-samples, one, zeros, zeros-falling}
 
 -- ---- block at 0 too: "head 3.0, no change"
 
@@ -53,8 +58,8 @@ unfolding valueInSet valueSource says explicitSet round toBits totalKey truncate
 value-is t = ap (λ (r : Source). says set gap-samples r) (direct-is _)
 
 pub gap-track : TrackOf (valueInSet set gap-samples) (record { initial = record { value = n 3; mark = 0 }; changes = [] })
-unfolding entryOf
-gap-track = constant (valueInSet set gap-samples) (Value (n 3)) value-is
+unfolding writtenEntry eq round fits isNan
+gap-track = constant (valueInSet set gap-samples) (Value (n 3)) (tt, tt) value-is
 
 -- ---- starts 0, 20; knots (0,10) (20,0): "head 2.0; 3.0 at 20"
 
@@ -237,19 +242,73 @@ unfolding lowest ofKey round ofBits lt
 twenty-above = tt
 
 unlike : T (not (alike (entryOf (Value (n 3))) (entryOf (Value (n 2)))))
-unfolding alike entryOf toBits round
+unfolding alike entryOf eq round
 unlike = tt
 
 -- the change is written as the figure says
 change-is : changeAt (valueInSet fall falling-samples) (n 20) ≡ record { time = n 20; value = n 3; mark = 0 }
-unfolding changeAt entryOf
+unfolding changeAt writtenEntry eq round
 change-is = rw (twenty-plain, high-value (n 20) twenty-finite twenty-reached)
   where
     twenty-reached : T (le (n 20) (n 20))
     twenty-reached = unfold le lt eq round in tt
 
 pub falling-track : TrackOf (valueInSet fall falling-samples) (record { initial = record { value = n 2; mark = 0 }; changes = record { time = n 20; value = n 3; mark = 0 } ∷ [] })
-unfolding entryOf
+unfolding writtenEntry eq round fits isNan
 falling-track =
     subst (λ (c : Change). TrackOf (valueInSet fall falling-samples) (record { initial = record { value = n 2; mark = 0 }; changes = c ∷ [] })) change-is
-    (single (valueInSet fall falling-samples) (Value (n 2)) (Value (n 3)) (n 20) twenty-finite twenty-above twenty-plain low-value high-value unlike)
+    (single (valueInSet fall falling-samples) (Value (n 2)) (Value (n 3)) (tt, tt) (tt, tt) (n 20) twenty-finite twenty-above twenty-plain low-value high-value unlike)
+
+-- ---- zeros of both signs: -0.0 then 0.0 over two clips, and both in one clip that is read along a falling segment. "head 0.0, no change"
+
+abbrev pub zero-set : ClipSet
+zero-set = explicitSet two
+
+abbrev pub falling-zero-set : ClipSet
+falling-zero-set = explicitSet one
+
+-- one of the two zeros
+abbrev Zero : Answer → Type 0
+Zero a = (a ≡ Value (-n 0)) ⊎ (a ≡ Value (n 0))
+
+zero-numeric : (a : Answer) → Zero a → Numeric a
+unfolding round neg fits isNan
+zero-numeric a (inl e) = subst⁻¹ Numeric e (tt, tt)
+zero-numeric a (inr e) = subst⁻¹ Numeric e (tt, tt)
+
+zero-alike : (a : Answer) → Zero a → T (alike (entryOf a) (entryOf (Value (n 0))))
+unfolding alike entryOf round neg eq
+zero-alike a (inl e) = rw e tt
+zero-alike a (inr e) = rw e tt
+
+pub zero-track : (v : StageTime → Answer) → ((t : Float) → Zero (v (stage t))) → TrackOf v (record { initial = record { value = n 0; mark = 0 }; changes = [] })
+unfolding writtenEntry round eq fits isNan
+zero-track v z = steady v (Value (n 0)) (tt, tt) (λ t. zero-numeric (v (stage t)) (z t)) (λ t. zero-alike (v (stage t)) (z t))
+
+zero-read : (u : Float) (b : Bool) → Zero (says zero-set zeros (sourceAt zero-set zeros (stage u) (cond (b || false) 1 0) (getElem? (zero-set .active) (cond (b || false) 1 0))))
+unfolding explicitSet round neg toBits totalKey truncated says clipBegin contributes blockedAt readClip clipEnd clipTimes heldPlace lastAtMost mapTime mapStageToClip le lt eq
+zero-read u true = inr refl
+zero-read u false = inl refl
+
+zero-direct : (u : Float) → Zero (says zero-set zeros (directSource zero-set zeros (stage u)))
+unfolding directSource activePosition lastAtMost explicitSet round toBits totalKey truncated
+zero-direct u = zero-read u (le (n 10) u)
+
+zero-value : (t : Float) → Zero (valueInSet zero-set zeros (stage t))
+unfolding valueInSet valueSource explicitSet round toBits totalKey truncated
+zero-value t = zero-direct (readingTime zero-set zeros (stage t))
+
+pub zeros-track : TrackOf (valueInSet zero-set zeros) (record { initial = record { value = n 0; mark = 0 }; changes = [] })
+zeros-track = zero-track (valueInSet zero-set zeros) zero-value
+
+zero-at-place : (b : Bool) → Zero (says falling-zero-set zeros-falling (sample 0 (cond (b || false) 1 0)))
+unfolding says clipBegin round neg
+zero-at-place true = inl refl
+zero-at-place false = inr refl
+
+zero-falling : (t : Float) → Zero (valueInSet falling-zero-set zeros-falling (stage t))
+unfolding valueInSet valueSource directSource activePosition lastAtMost explicitSet round toBits totalKey truncated contributes blockedAt readClip clipBegin clipEnd clipTimes heldPlace mapStageToClip
+zero-falling t = zero-at-place (le (n 5) (mapTime (falling-zero-set .knots) t))
+
+pub zeros-falling-track : TrackOf (valueInSet falling-zero-set zeros-falling) (record { initial = record { value = n 0; mark = 0 }; changes = [] })
+zeros-falling-track = zero-track (valueInSet falling-zero-set zeros-falling) zero-falling

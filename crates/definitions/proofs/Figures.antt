@@ -1,5 +1,5 @@
 -- docs/VALUE-CLIPS.md, "Worked figures", computed by the definitions. `figures`: those marked (P), proved together, from the definitions, as one table, with their two
--- tracks, proved at every double; `unmarked`: the values of the one that is not. `examples`: what the Rust gave in runs. `wrong`: false figures, each found false.
+-- tracks, proved at every double; `unmarked`: the values of the one that is not; two tracks of zeros. `examples`: what the Rust gave in runs. `wrong`: false figures, each found false.
 -- Assumes nothing.
 use mathlib.Core.Path.{_≡_, refl}
 use Prim.Native.Nat.{ℕ, suc, _-_, _^_}
@@ -29,8 +29,8 @@ use Rattle.definitions.specs.WholeList.{runFrom}
 use Rattle.definitions.specs.Calls.{explicit, retime, bake, step, after}
 use Rattle.definitions.specs.declared.ValueState.{ValueState}
 use Rattle.definitions.specs.declared.ValueState.the-variants.{Present as present, Blocked as blocked, Absent as absent}
-use Rattle.definitions.proofs.Sets.{n, frac, -n, greatest, nextHigher, bytes, holds, fails, same, sameTimes, sameBytes, sameNames, isClip, is, fields, missing, templated, numbers, clipTimeAt, valueAt, names, two, jumping, falling, falling-samples, gap, gap-samples, one, one-samples}
-use Rattle.definitions.proofs.FigureTracks.{set as gap-set, fall, gap-track, falling-track}
+use Rattle.definitions.proofs.Sets.{n, frac, -n, greatest, nextHigher, bytes, holds, fails, same, sameTimes, sameBytes, sameNames, isClip, is, fields, missing, templated, numbers, clipTimeAt, valueAt, names, two, jumping, falling, falling-samples, gap, gap-samples, one, one-samples, zeros, zeros-falling}
+use Rattle.definitions.proofs.FigureTracks.{set as gap-set, fall, gap-track, falling-track, zero-set, falling-zero-set, zeros-track, zeros-falling-track}
 
 -- ---- the table
 
@@ -359,6 +359,8 @@ record Figures : Type 0 where
   head-and-change : TrackOf (valueInSet fall falling-samples) (record { initial = record { value = n 2; mark = 0 }; changes = record { time = n 20; value = n 3; mark = 0 } ∷ [] })
   head-alone : TrackOf (valueInSet gap-set gap-samples) (record { initial = record { value = n 3; mark = 0 }; changes = [] })
   unmarked : holds unmarked-table ≡ true
+  zeros-alone : TrackOf (valueInSet zero-set zeros) (record { initial = record { value = n 0; mark = 0 }; changes = [] })
+  zeros-falling-alone : TrackOf (valueInSet falling-zero-set zeros-falling) (record { initial = record { value = n 0; mark = 0 }; changes = [] })
   wrong : fails wrong-table ≡ true
   examples : holds examples-table ≡ true
   -- demand 3's premises can be met: a list of calls, refused ones among them, after which a set stands; its samples are accepted by a row of the table
@@ -375,4 +377,4 @@ unfolding
     upperNeighbour jump readingTime valueSource valueInSet entryOf alike differs unmarked-table wrong-table examples-table nameNumber apply isIdentity movedNumber
     moved sorted retimeStageTimes retimeNumber dropEqual dedup stageSampleTimes suppliedAt anySamples untimedAnswer timeSamples merge mergeEqual
     normalizeTimeSamples normalizeNumber step runFrom askValue
-computed = record { figures = refl; head-and-change = falling-track; head-alone = gap-track; unmarked = refl; wrong = refl; examples = refl; stands-after = refl }
+computed = record { figures = refl; head-and-change = falling-track; head-alone = gap-track; unmarked = refl; zeros-alone = zeros-track; zeros-falling-alone = zeros-falling-track; wrong = refl; examples = refl; stands-after = refl }

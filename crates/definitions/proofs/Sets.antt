@@ -7,7 +7,7 @@ use mathlib.Core.List.{List, [], _∷_, map}
 use mathlib.Core.Option.{Option, none, some}
 use lib.Dec.{eqb}
 use lib.IntN.{pos}
-use lib.Ieee.{Float, fin, binary64, round, neg, toBits}
+use lib.Ieee.{Float, nan, fin, binary64, round, neg, toBits}
 use Rattle.gf.specs.Doubles.{key, ofKey, most}
 use Rattle.definitions.specs.declared.Knot.{Knot}
 use Rattle.definitions.specs.declared.Answer.{Answer}
@@ -20,7 +20,7 @@ use Rattle.definitions.specs.Template.{TemplateFields, templateSet}
 use Rattle.definitions.specs.Timing.{mapStageToClip}
 use Rattle.definitions.specs.Samples.{Samples}
 use Rattle.definitions.specs.Value.{valueInSet}
-use Rattle.definitions.specs.Track.{entryOf, alike}
+use Rattle.definitions.specs.Track.{markOf, slotOf}
 
 -- ---- how a figure is written
 
@@ -76,8 +76,9 @@ abbrev pub isClip : Option ℕ → ℕ → Bool
 isClip none k = false
 isClip (some c) k = eqb c k
 
+-- an answer, by its bits
 abbrev pub is : Answer → Answer → Bool
-is a b = alike (entryOf a) (entryOf b)
+is a b = eqb (markOf a) (markOf b) && same (slotOf a) (slotOf b)
 
 -- a set with no knots, blocks, default or flag, and one with knots
 abbrev pub noDefault : Default
@@ -161,3 +162,17 @@ one = fields 1 (n 0 ∷ []) (n 0 ∷ []) (n 0 ∷ n 10 ∷ []) (n 10 ∷ n 0 ∷
 
 abbrev pub one-samples : Samples
 one-samples = numbers (n 0 ∷ n 5 ∷ n 10 ∷ []) (n 1 ∷ n 2 ∷ n 3 ∷ []) (3 ∷ [])
+
+-- ---- zeros of both signs
+
+-- for `two`: clip 0 has 0→-0.0, clip 1 10→0.0
+abbrev pub zeros : Samples
+zeros = numbers (n 0 ∷ n 10 ∷ []) (-n 0 ∷ n 0 ∷ []) (1 ∷ 2 ∷ [])
+
+-- for `gap`: -0.0, a block, 0.0
+abbrev pub zeros-and-block : Samples
+zeros-and-block = record { times = n 0 ∷ n 10 ∷ n 20 ∷ []; values = -n 0 ∷ nan ∷ n 0 ∷ []; marks = 0 ∷ 1 ∷ 0 ∷ []; ends = 1 ∷ 2 ∷ 3 ∷ [] }
+
+-- for `one`, whose knots fall: 0→0.0, 5→-0.0
+abbrev pub zeros-falling : Samples
+zeros-falling = numbers (n 0 ∷ n 5 ∷ []) (n 0 ∷ -n 0 ∷ []) (2 ∷ [])

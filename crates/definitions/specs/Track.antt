@@ -5,7 +5,7 @@ use mathlib.Core.Bool.{Bool, not, _&&_, _||_, cond}
 use mathlib.Core.List.{List, [], _∷_, List·Memᴰ, map}
 use lib.Dec.{T, eqb, ltb}
 use lib.ListN.{length}
-use lib.Ieee.{Float, binary64, eq, lt, le, toBits}
+use lib.Ieee.{Float, eq, lt, le}
 use Rattle.gf.specs.Doubles.{key, ofKey, 0·0}
 use Rattle.definitions.specs.declared.StageTime.{StageTime}
 use Rattle.definitions.specs.declared.Answer.{Answer}
@@ -29,7 +29,7 @@ slotOf (Value v) = v
 slotOf Blocked = 0·0
 slotOf Absent = 0·0
 
--- a value and its mark, as a track holds them
+-- a value and its mark
 pub record Entry : Type 0 where
   pub value : Float
   pub mark : ℕ
@@ -37,9 +37,17 @@ pub record Entry : Type 0 where
 unfoldable pub entryOf : Answer → Entry
 entryOf a = record { value = slotOf a; mark = markOf a }
 
--- "Values are alike if marks and, for mark 0, bits are alike."
+-- "Values are alike if marks and, for mark 0, numbers are equal." So the two zeros are.
 unfoldable pub alike : Entry → Entry → Bool
-alike a b = eqb (a .mark) (b .mark) && (not (eqb (a .mark) markValue) || eqb (toBits binary64 (a .value)) (toBits binary64 (b .value)))
+alike a b = eqb (a .mark) (b .mark) && (not (eqb (a .mark) markValue) || eq (a .value) (b .value))
+
+-- "A value zero is written 0.0, in the head and in the changes."
+abbrev pub zeroAsPlus : Float → Float
+zeroAsPlus x = cond (eq x 0·0) 0·0 x
+
+-- an answer as a track writes it
+unfoldable pub writtenEntry : Answer → Entry
+writtenEntry a = record { value = zeroAsPlus (slotOf a); mark = markOf a }
 
 -- ---- the track
 
@@ -70,13 +78,16 @@ module _ (v : StageTime → Answer) where
   abbrev pub valueAt : Float → Entry
   valueAt t = entryOf (v (stage t))
 
+  abbrev pub writtenAt : Float → Entry
+  writtenAt t = writtenEntry (v (stage t))
+
   -- the value at t differs from that at the next lower double
   unfoldable pub differs : Float → Bool
   differs t = not (alike (valueAt t) (valueAt (nextLower t)))
 
   -- the change at t as it is written, "time zero as 0.0"
   unfoldable pub changeAt : Float → Change
-  changeAt t = record { time = ofKey (key t); value = valueAt t .value; mark = valueAt t .mark }
+  changeAt t = record { time = ofKey (key t); value = writtenAt t .value; mark = writtenAt t .mark }
 
   -- a change lies where the value differs, and is written so. "The lowest finite double has no lower neighbour and no change".
   pub record IsChange (c : Change) : Type 0 where
@@ -88,7 +99,7 @@ module _ (v : StageTime → Answer) where
   -- It is the track of v. (There is only one, so its count is v's.)
   pub record TrackOf (track : Track) : Type 0 where
     -- "The head is the value at the lowest finite double."
-    pub initial-is : track .initial ≡ valueAt lowest
+    pub initial-is : track .initial ≡ writtenAt lowest
     pub ascends : T (ascending (changeTimes (track .changes)))
     -- "its changes lie at exactly the named doubles": each is one, and none is missing
     pub each : (c : Change) → List·Memᴰ c (track .changes) → IsChange c

@@ -12,6 +12,7 @@ use Rattle.definitions.specs.Calls.{bakedOf}
 use Rattle.laws.specs.set.Sound.{Sound, SoundModel}
 use Rattle.laws.proofs.set.Accepted.{accepted}
 use Rattle.laws.proofs.cell.Lent.{sound-set, sound-samples}
+use Rattle.laws.proofs.cell.Numbers.{sound-values}
 use Rattle.laws.proofs.cell.Tracks.{track-only}
 use Rattle.track.specs.declared.bake.Baked.{Baked}
 use Rattle.track.specs.Bakes.{bakeCode}
@@ -43,8 +44,9 @@ count-suffices d s c o p b m ft fv t z h k =
     let w = stands s n (model d) (sym (ap (λ (x : Counted). x .number) code) ∙ z) in
     let st = w .0 in
     let sound : Sound (st .set) = subst SoundModel (w .1) (m .sound) in
+    let taken = accepted (st .set) s ft (w .2) in
     let one : t .counts .track ≡ k .bakes .track =
-    track-only (st .set) s (sound-set (st .set) sound) (sound-samples (st .set) s (accepted (st .set) s ft (w .2))) (record { values = fv; default = sound .default .fitting })
+    track-only (st .set) s (sound-set (st .set) sound) (sound-samples (st .set) s taken) (sound-values (st .set) s sound taken fv)
     (t .counts .track) (k .bakes .track) (t .counts .is st (w .1) (w .2)) (k .bakes .is st (w .1) (w .2)) in
     let count : c .count ≡ length (k .bakes .track .changes) = ap (λ (x : Counted). x .count) code ∙ counts s n (model d) st (w .1) (w .2) ∙ ap (λ (x : Track). length (x .changes)) one in
     let room : length (k .bakes .track .changes) ≤ slots o = omega arith in

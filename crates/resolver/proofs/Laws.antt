@@ -29,6 +29,7 @@ use Rattle.definitions.specs.Value.{valueInSet}
 use Rattle.definitions.specs.Track.{Track, TrackOf, Outputs, slots, bakeNumber}
 use Rattle.laws.specs.cell.Lent.{setOf, samplesOf}
 use Rattle.laws.proofs.cell.Lent.{active-times, knot-times, sound-set, sound-samples}
+use Rattle.laws.proofs.cell.Numbers.{sound-values}
 use Rattle.laws.proofs.cell.Tracks.{track-is}
 use Rattle.laws.proofs.cell.StageTimes.{stage-sample-times}
 use Rattle.track.specs.declared.bake.Baked.{Baked}
@@ -254,7 +255,7 @@ module _ (d : Resolver) {times values : List Float} {marks ends : List ℕ} {n :
         reply = reply (roomNumber (slots before) (length (trackOf (setIn (d .set)) s .changes))) (bakedOf (trackOf (setIn (d .set)) s));
         bakes = subst (λ (x : Model). Bakes x s before (reply (roomNumber (slots before) (length (trackOf (setIn (d .set)) s .changes))) (bakedOf (trackOf (setIn (d .set)) s))) after) (sym (stands-as d e))
             (bakes (standingIn d) s (sound-set (setIn (d .set)) sound) (sound-samples (setIn (d .set)) s is-accepted)
-            (record { values = j .values-fit; default = sound .default .fitting }) (sym (judged-number d j) ∙ z) before after r q);
+            (sound-values (setIn (d .set)) s sound is-accepted (j .values-fit)) (sym (judged-number d j) ∙ z) before after r q);
         code = q .replies;
       }
 
@@ -267,7 +268,7 @@ module _ (d : Resolver) {times values : List Float} {marks ends : List ℕ} {n :
       subst (λ (x : Model). CountsChanges x s (replied n)) (sym (stands-as d e)) (record {
         track = track;
         is = λ st p k. subst (λ (x : Standing). TrackOf (valueInSet (x .set) s) (trackOf (setIn (d .set)) s)) (same-standing (standingIn d) st p)
-            (track-is (setIn (d .set)) s (sound-set (setIn (d .set)) sound) (sound-samples (setIn (d .set)) s is-accepted) (record { values = j .values-fit; default = sound .default .fitting }));
+            (track-is (setIn (d .set)) s (sound-set (setIn (d .set)) sound) (sound-samples (setIn (d .set)) s is-accepted) (sound-values (setIn (d .set)) s sound is-accepted (j .values-fit)));
         replies = ap replied (q ∙ ap (λ (x : ClipSet). length (trackOf x s .changes)) lent-is) ∙ ap (λ (k : ℕ). reply k (length (trackOf (setIn (d .set)) s .changes))) (sym (sym (judged-number d j) ∙ z));
       })
 

@@ -28,7 +28,7 @@ use Rattle.run.specs.Readings.{readingAt}
 use Rattle.run.specs.Runs.{lineOn, passedBy, passingAt, Passing, spanned, inverseKey, InRunAt}
 use Rattle.run.proofs.RunLaws.{segment-fits, passing-lower}
 use Rattle.run.proofs.Runs.{span-number}
-use Rattle.run.proofs.Readings.{entry-alike}
+use Rattle.run.proofs.Readings.{entry-one, entry-self, place-inside}
 use Rattle.run.proofs.Walking.{Reaches}
 
 -- ---- a sample's inverse time is one of the segment's
@@ -106,9 +106,13 @@ module _ {cs vs : List Float} {ms : List ℕ} {q : Knot × Knot} {floor : Float}
     passed-reaches = record {
       from = S .from;
       level = stays at (m - 1) l (omega (arith, S .within)) (every-map (λ (x : Float). key x < m → key x ≤ at) (λ (x : Float). key x ≤ m - 1 → key x ≤ at) before (onSegment cs q) (S .clear));
-      sure = entry-alike (R .reads) (placeOn cs (lineOn q) (key (passedBy cs q floor (ofKey m)))) (placeOn cs (lineOn q) (key (passedBy cs q floor (ofKey at))));
+      sure = entry-one (R .reads) (placeOn cs (lineOn q) (passedKey m)) (placeOn cs (lineOn q) (passedKey at)) (place-inside (R .reads) (lineOn q) (passedKey m)) (place-inside (R .reads) (lineOn q) (passedKey at));
+      self = entry-self (R .reads) (placeOn cs (lineOn q) (passedKey at)) (place-inside (R .reads) (lineOn q) (passedKey at));
     }
       where
+        passedKey : ℕ → ℕ
+        passedKey j = key (passedBy cs q floor (ofKey j))
+
         before : (x : Float) → (key x < m → key x ≤ at) → key x ≤ m - 1 → key x ≤ at
         before x c w = elim (decLe m 0) [
           | yes h ↦ omega (arith, S .from)

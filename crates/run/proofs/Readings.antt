@@ -9,13 +9,17 @@ use lib.Dec.{T}
 use lib.ListN.{length, getD}
 use lib.Ieee.{Float, nan}
 use Rattle.gf.specs.Doubles.{ofKey, 0·0}
+use Rattle.definitions.specs.declared.Answer.{Answer}
 use Rattle.definitions.specs.declared.Answer.the-variants.{Value, Blocked}
 use Rattle.definitions.specs.Value.{marked}
 use Rattle.definitions.specs.Track.{Entry, alike}
+use Rattle.definitions.proofs.Written.{Numeric, zero-number, written-self, written-one}
 use Rattle.laws.specs.track.Steps.{Once, Level, StepAt}
 use Rattle.laws.proofs.track.Steps.{Through, grows-once, falls-once, level-through}
 use Rattle.laws.specs.cell.Knots as Knots
-use Rattle.laws.proofs.cell.Tracks.{marked-fits, alike-same}
+use Rattle.laws.specs.list.Places.{Fits}
+use Rattle.laws.proofs.list.Every.{every-getD}
+use Rattle.laws.proofs.cell.Numbers.{marked-numeric}
 use Rattle.window.proofs.Parts.{last-short}
 use Rattle.cell.specs.declared.step.line.Line.{Line}
 use Rattle.cell.specs.step.Lines.{lineIs, placeOn}
@@ -37,10 +41,19 @@ module _ (vs : List Float) (ms : List ℕ) (p : ℕ) where
   pub sample-blocked : (getD ms p 0 ≡ 0 → ⊥) → Blocked ≡ marked (getD ms p 0) (getD vs p 0·0)
   sample-blocked n = rw (ne-eqb (getD ms p 0) 0 n)
 
--- alike entries are one
-pub entry-alike : {ts vs : List Float} {ms : List ℕ} → Reads ts vs ms → (p r : ℕ) → T (alike (entryAt vs ms p) (entryAt vs ms r)) → entryAt vs ms p ≡ entryAt vs ms r
-entry-alike {vs = vs} {ms} R p r h =
-    alike-same (marked (getD ms p 0) (getD vs p 0·0)) (marked (getD ms r 0) (getD vs r 0·0)) (marked-fits vs (R .numbers) (getD ms p 0) p) (marked-fits vs (R .numbers) (getD ms r 0) r) h
+-- a sample says a number or is a block; so alike entries are one, and each is alike to itself
+module _ {ts vs : List Float} {ms : List ℕ} (R : Reads ts vs ms) where
+  abbrev told : ℕ → Answer
+  told p = marked (getD ms p 0) (getD vs p 0·0)
+
+  sample-numeric : (p : ℕ) → p < length ts → Numeric (marked (getD ms p 0) (getD vs p 0·0))
+  sample-numeric p h = marked-numeric (getD ms p 0) (getD vs p 0·0) (every-getD Fits vs p 0·0 (R .numbers) (zero-number .0)) (R .number p h)
+
+  pub entry-one : (p r : ℕ) → p < length ts → r < length ts → T (alike (entryAt vs ms p) (entryAt vs ms r)) → entryAt vs ms p ≡ entryAt vs ms r
+  entry-one p r h k = written-one (told p) (told r) (sample-numeric p h) (sample-numeric r k)
+
+  pub entry-self : (p : ℕ) → p < length ts → T (alike (entryAt vs ms p) (entryAt vs ms p))
+  entry-self p h = written-self (told p) (sample-numeric p h)
 
 -- ---- the place
 
@@ -73,4 +86,4 @@ module _ {ts vs : List Float} {ms : List ℕ} (R : Reads ts vs ms) (line : Line)
   read-level {at} {hi} l = level-through through at hi l
 
   pub read-reaches : {at hi m : ℕ} → StepAt (placeOn ts line) at hi m → Reaches (readingAt ts vs ms line) at m
-  read-reaches {at} {m = m} s = let l = s .above in record { from = omega arith; level = read-level (s .level); sure = entry-alike R (placeOn ts line m) (placeOn ts line at) }
+  read-reaches {at} {m = m} s = let l = s .above in record { from = omega arith; level = read-level (s .level); sure = entry-one R (placeOn ts line m) (placeOn ts line at) (place-inside m) (place-inside at); self = entry-self R (placeOn ts line at) (place-inside at) }

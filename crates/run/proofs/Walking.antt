@@ -11,7 +11,6 @@ use lib.ListN.{length, set, length-append}
 use lib.Ieee.{Float}
 use Rattle.gf.specs.Doubles.{ofKey}
 use Rattle.definitions.specs.Track.{Entry, Outputs, alike}
-use Rattle.definitions.proofs.Tracks.{alike-refl}
 use Rattle.definitions.specs.Moments.{outputs}
 use Rattle.laws.proofs.list.Tests.{holds, is-true}
 use Rattle.laws.specs.track.Track.{Change}
@@ -55,11 +54,12 @@ module _ (last here : Entry) (k room n : ℕ) (o : Outputs) where
       leaves = λ f. absurd (omega arith);
     }
 
--- v goes on as it is at the key at up to, and not at, the key m, and there alike entries are one
+-- v goes on as it is at the key at up to, and not at, the key m, and there alike entries are one; an entry is alike to itself
 pub record Reaches (v : ℕ → Entry) (at m : ℕ) : Type 0 where
   pub from : at ≤ m
   pub level : Level v at (m - 1)
   pub sure : T (alike (v m) (v at)) → v m ≡ v at
+  pub self : T (alike (v at) (v at))
 
 module _ {v : ℕ → Entry} {at m : ℕ} (R : Reaches v at m) where
   stop : at < m → StopAt v at m m
@@ -73,7 +73,7 @@ module _ {v : ℕ → Entry} {at m : ℕ} (R : Reaches v at m) where
   reached = go (alike (v m) (v at)) refl (decLe m at)
     where
       other : alike (v m) (v at) ≡ false → v m ≡ v at → ⊥
-      other a e = false≢true (sym a ∙ is-true (alike (v m) (v at)) (subst (λ (x : Entry). T (alike x (v at))) (sym e) (alike-refl (v at))))
+      other a e = false≢true (sym a ∙ is-true (alike (v m) (v at)) (subst (λ (x : Entry). T (alike x (v at))) (sym e) (R .self)))
 
       go : (b : Bool) → alike (v m) (v at) ≡ b → Dec (m ≤ at) → changesIn v at m ≡ cond b [] (record { key = m; value = v m } ∷ [])
       go true a (yes h) = changes-none entry-same v at m h

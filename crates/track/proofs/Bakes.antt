@@ -10,7 +10,8 @@ use Rattle.definitions.specs.Questions.{reply, roomNumber}
 use Rattle.definitions.specs.Track.{TrackOf, Outputs, slots, bakeNumber}
 use Rattle.definitions.specs.Calls as Calls
 use Rattle.laws.proofs.cell.Direct.{SoundSet, SoundSamples}
-use Rattle.laws.proofs.cell.Tracks.{SoundValues, track-is}
+use Rattle.laws.proofs.cell.Numbers.{SoundValues}
+use Rattle.laws.proofs.cell.Tracks.{track-is}
 use Rattle.track.specs.declared.bake.Baked.{Baked}
 use Rattle.track.specs.Bakes.{trackOf, bakeCode, BakeIs, bakedReply}
 

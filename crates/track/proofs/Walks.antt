@@ -11,12 +11,14 @@ use Rattle.gf.specs.Doubles.{ofKey}
 use Rattle.definitions.specs.declared.Missing.{Missing}
 use Rattle.definitions.specs.ClipSet.{ClipSet, stage}
 use Rattle.definitions.specs.Samples.{Samples}
+use Rattle.definitions.specs.Value.{valueInSet}
 use Rattle.definitions.specs.Track.{Outputs, slots}
 use Rattle.definitions.specs.Moments.{outputs}
 use Rattle.laws.proofs.track.Laws.{changes-none, changes-split}
 use Rattle.laws.proofs.cell.Direct.{SoundSet, SoundSamples}
 use Rattle.laws.specs.cell.Keys.{Keys, entryAtKey}
-use Rattle.laws.proofs.cell.Tracks.{SoundValues, entries-alike}
+use Rattle.definitions.proofs.Written.{written-self, written-one}
+use Rattle.laws.proofs.cell.Numbers.{SoundValues, value-numeric}
 use Rattle.laws.specs.cell.Tracks.{entry-same}
 use Rattle.laws.specs.cell.Lent.{setOf, samplesOf}
 use Rattle.window.specs.search.Latest.{LatestOf}
@@ -37,7 +39,8 @@ module _ (set : ClipSet) (s : Samples) (S : SoundSet set) (A : SoundSamples s) (
   next-key at = record {
     from = omega arith;
     level = λ j p q. let e : j ≡ at = omega arith in ap (entryAtKey set s) e;
-    sure = entries-alike set s S A F (stage (ofKey (at + 1))) (stage (ofKey at));
+    sure = written-one (valueInSet set s (stage (ofKey (at + 1)))) (valueInSet set s (stage (ofKey at))) (value-numeric set s F (stage (ofKey (at + 1)))) (value-numeric set s F (stage (ofKey at)));
+    self = written-self (valueInSet set s (stage (ofKey at))) (value-numeric set s F (stage (ofKey at)));
   }
 
 -- without segments there are no inverse times

@@ -21,7 +21,8 @@ use Rattle.laws.specs.cell.Knots.{flat, segment, lineOf}
 use Rattle.laws.proofs.cell.Direct.{SoundSet, SoundSamples}
 use Rattle.laws.specs.cell.Stretches.{heldFrom}
 use Rattle.laws.specs.cell.Cells.{constant, reading, directCell, cellOf}
-use Rattle.laws.proofs.cell.Tracks.{SoundValues}
+use Rattle.laws.proofs.set.Accepted.{accepted}
+use Rattle.laws.proofs.cell.Numbers.{SoundValues, sound-values}
 use Rattle.laws.proofs.cell.StageTimes.{stage-sample-times}
 use Rattle.laws.proofs.cell.InOrder.{value-in-order}
 
@@ -68,10 +69,6 @@ sound-samples : SoundSamples samples
 unfolding fits round
 sound-samples = record { times = (tt, (tt, tt)) }
 
-sound-values : SoundValues (set two saw) samples
-unfolding fits round
-sound-values = record { values = (tt, (tt, tt)); default = tt }
-
 -- what the facts ask: a well-formed set, and samples that are accepted for it
 given : Given (set two saw) samples
 unfolding fits round within le lt eq neg isNan equalKnots nanDefault samplesNumber samples1 unlikeLengths samples2 samples9 badMarks closes clipBegin clipEnd clipTimes
@@ -94,6 +91,10 @@ given = record {
   doubles = (tt, (tt, tt));
   accepted = refl;
 }
+
+numbers-so : SoundValues (set two saw) samples
+unfolding fits round
+numbers-so = sound-values (set two saw) samples (given .sound) (accepted (set two saw) samples (given .doubles) (given .accepted)) (tt, (tt, tt))
 
 times-so : StageSampleTimesAre (set two saw) (stageSampleTimes (set two saw) samples)
 times-so = stage-sample-times (set two saw) samples given

@@ -16,7 +16,7 @@ use Rattle.definitions.specs.ClipSet.{ClipSet, stage}
 use Rattle.definitions.specs.Samples.{Samples}
 use Rattle.definitions.specs.declared.Source.{Source}
 use Rattle.definitions.specs.Value.{says, upperNeighbour, valueSource, valueInSet}
-use Rattle.definitions.specs.Track.{entryOf}
+use Rattle.definitions.specs.Track.{writtenEntry}
 use Rattle.laws.specs.list.Every.{Every}
 use Rattle.laws.proofs.list.Every.{every-zip}
 use Rattle.laws.specs.list.Places.{Fits}
@@ -89,9 +89,9 @@ module _ (set : ClipSet) (s : Samples) (S : SoundSet set) (A : SoundSamples s) w
       let k = ofKey (key t) in
       sym (value-alike set s S A k t (ofKey-fits (key t)) (f .fitting) (alike-eq k t (ofKey-fits (key t)) (f .fitting) (ofKey-key t (f .fitting) (f .finitely))))
 
-  pub entry-of-key : (t : Float) → FiniteDouble t → entryOf (valueInSet set s (stage t)) ≡ entryAtKey set s (key t)
+  pub entry-of-key : (t : Float) → FiniteDouble t → writtenEntry (valueInSet set s (stage t)) ≡ entryAtKey set s (key t)
   unfolding valueInSet
-  entry-of-key t f = ap (λ (r : Source). entryOf (says set s r)) (source-of-key t f)
+  entry-of-key t f = ap (λ (r : Source). writtenEntry (says set s r)) (source-of-key t f)
 
   -- ---- the value, where no boundary is passed
 

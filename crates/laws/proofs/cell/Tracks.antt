@@ -3,80 +3,32 @@ use mathlib.Core.Path.{_≡_, refl, sym, ap, ap₂, _∙_, subst}
 use mathlib.Core.Logic.{inl, inr, ⊎-elim}
 use mathlib.Core.Bool.{Bool, true, false, not, cond}
 use mathlib.Core.List.{List, [], _∷_, map, List·Memᴰ, List·Memᴰ·head, List·Memᴰ·tail, List·Memᴰ·not-nil, List·Memᴰ·cases-cons}
-use Prim.Native.Nat.{ℕ, _+_, _-_, _≤_, _<_}
+use Prim.Native.Nat.{ℕ, _-_, _≤_, _<_}
 use native.Mathlib.Nat.{le-of-eq}
 use native.Mathlib.Omega.{arith}
-use lib.Dec.{T, T-not, not-T, leb, eqb, eqb→eq, lit≤}
-use lib.ListN.{getD}
-use lib.Ieee.{Float, binary64, fits, isNan, eq, lt, le, toBits}
-use Rattle.gf.proofs.Units.{same-bits}
-use Rattle.gf.specs.Doubles.{key, ofKey, least, most, 0·0}
+use lib.Dec.{T, T-not, not-T, leb, lit≤}
+use lib.Ieee.{Float, isNan, eq, lt, le}
+use Rattle.gf.specs.Doubles.{key, ofKey, least, most}
 use Rattle.gf.proofs.KeyLaws.{key-ofKey, ofKey-fits, ofKey-finite, ofKey-no-nan, finite→key, finite-no-nan, le-is, key→lt, lt→key, key→eq, eq→key}
 use Rattle.definitions.specs.declared.Answer.{Answer}
-use Rattle.definitions.specs.declared.Answer.the-variants.{Value, Blocked, Absent}
 use Rattle.definitions.specs.declared.StageTime.{StageTime}
 use Rattle.definitions.specs.Lists.{any, all, pairsFrom}
 use Rattle.definitions.specs.Doubles.{lowest, nextLower, FiniteDouble, ascending}
-use Rattle.definitions.specs.ClipSet.{ClipSet, markValue, stage}
-use Rattle.definitions.specs.Samples.{Samples, clipBegin}
-use Rattle.definitions.specs.declared.Source.{Source}
-use Rattle.definitions.specs.declared.Source.the-variants.{Sample as sample, Default as default, Blocked as blocked, Absent as absent}
-use Rattle.definitions.specs.Value.{marked, says, valueSource, valueInSet}
-use Rattle.definitions.specs.Track.{Entry, entryOf, alike, Change, Track, changeTimes, readTrack, readFrom, valueAt, differs, changeAt, IsChange, TrackOf}
-use Rattle.definitions.proofs.Tracks.{alike-refl}
+use Rattle.definitions.specs.ClipSet.{ClipSet, stage}
+use Rattle.definitions.specs.Samples.{Samples}
+use Rattle.definitions.specs.Value.{valueInSet}
+use Rattle.definitions.specs.Track.{Entry, entryOf, alike, Change, Track, changeTimes, readTrack, readFrom, valueAt, writtenAt, differs, changeAt, IsChange, TrackOf}
+use Rattle.definitions.proofs.Written.{alike-one, one-alike, written-alike, reading-one}
 use Rattle.laws.specs.track.Track as steps
 use Rattle.laws.proofs.track.Track as steps-laws
 use Rattle.laws.proofs.track.Laws.{held-low, held-rest, rising-has, track-of, track-unique}
 use Rattle.laws.specs.list.Every.{Every}
 use Rattle.laws.proofs.list.Tests.{both, both-l, both-r, or-l, or-r, or-split}
-use Rattle.laws.proofs.list.Every.{every-getD}
-use Rattle.laws.specs.list.Places.{Fits}
 use Rattle.laws.proofs.cell.Direct.{SoundSet, SoundSamples}
+use Rattle.laws.proofs.cell.Numbers.{SoundValues, value-numeric}
 use Rattle.laws.specs.cell.Keys.{entryAtKey}
 use Rattle.laws.proofs.cell.Keys.{entry-of-key}
-use Rattle.laws.specs.cell.Tracks.{other, entry-same, writtenChange, writtenTrack}
-
--- the values lent and the default are doubles
-pub record SoundValues (set : ClipSet) (s : Samples) : Type 0 where
-  pub values : Every Fits (s .values)
-  pub default : Fits (set .default .value)
-
--- ---- alike entries are one entry
-
-abbrev ValueFits : Answer → Type 0
-ValueFits (Value v) = Fits v
-ValueFits Blocked = Unit {0}
-ValueFits Absent = Unit {0}
-
-zero-fits : Fits 0·0
-unfolding fits
-zero-fits = tt
-
-pub marked-fits : (vs : List Float) → Every Fits vs → (mark at : ℕ) → ValueFits (marked mark (getD vs at 0·0))
-marked-fits vs f mark at = go (eqb mark markValue)
-  where
-    go : (b : Bool) → ValueFits (cond b (Value (getD vs at 0·0)) Blocked)
-    go true = every-getD Fits vs at 0·0 f zero-fits
-    go false = tt
-
-value-fits : (set : ClipSet) (s : Samples) → SoundValues set s → (r : Source) → ValueFits (says set s r)
-unfolding says
-value-fits set s F (sample c i) = let at = clipBegin (s .ends) c + i in marked-fits (s .values) (F .values) (getD (s .marks) at 0) at
-value-fits set s F default = F .default
-value-fits set s F blocked = tt
-value-fits set s F absent = tt
-
-pub alike-same : (a b : Answer) → ValueFits a → ValueFits b → T (alike (entryOf a) (entryOf b)) → entryOf a ≡ entryOf b
-unfolding alike entryOf
-alike-same (Value v) (Value w) f g h = ap (λ (x : Float). entryOf (Value x)) (same-bits binary64 v w f g (eqb→eq (toBits binary64 v) (toBits binary64 w) h))
-alike-same (Value v) Blocked f g h = absurd h
-alike-same (Value v) Absent f g h = absurd h
-alike-same Blocked (Value w) f g h = absurd h
-alike-same Blocked Blocked f g h = refl
-alike-same Blocked Absent f g h = absurd h
-alike-same Absent (Value w) f g h = absurd h
-alike-same Absent Blocked f g h = absurd h
-alike-same Absent Absent f g h = refl
+use Rattle.laws.specs.cell.Tracks.{entry-same, writtenChange, writtenTrack}
 
 -- ---- written out
 
@@ -151,21 +103,22 @@ written-each P (d ∷ cs) h c m = ⊎-elim (λ e. subst P (sym e) (h .0)) (λ n.
 -- ---- the two are one
 
 module _ (set : ClipSet) (s : Samples) (S : SoundSet set) (A : SoundSamples s) (F : SoundValues set s) where
-  pub entries-alike : (a b : StageTime) → T (alike (entryOf (valueInSet set s a)) (entryOf (valueInSet set s b))) → entryOf (valueInSet set s a) ≡ entryOf (valueInSet set s b)
-  unfolding valueInSet
-  entries-alike a b h = alike-same (says set s (valueSource set s a)) (says set s (valueSource set s b)) (value-fits set s F (valueSource set s a)) (value-fits set s F (valueSource set s b)) h
+  abbrev v : StageTime → Answer
+  v = valueInSet set s
 
   -- where the value differs, at a finite double, there is a change at its key
   pub differs-changes : (t : Float) → FiniteDouble t → T (differs (valueInSet set s) t) → steps-laws.ChangesAt (entryAtKey set s) (key t)
   unfolding differs nextLower
   differs-changes t f d e =
-      T-not (alike (valueAt (valueInSet set s) t) (entryAtKey set s (key t - 1))) d
-      (subst (λ (x : Entry). T (alike x (entryAtKey set s (key t - 1)))) (sym (entry-of-key set s S A t f ∙ e)) (alike-refl (entryAtKey set s (key t - 1))))
+      let low = ofKey (key t - 1) in
+      T-not (alike (valueAt v t) (valueAt v low)) d (one-alike (v (stage t)) (v (stage low)) (value-numeric set s F (stage t)) (value-numeric set s F (stage low)) (entry-of-key set s S A t f ∙ e))
 
   pub changes-differs : (k : ℕ) → least < k → k ≤ most → steps-laws.ChangesAt (entryAtKey set s) k → T (differs (valueInSet set s) (ofKey k))
   unfolding differs nextLower
   changes-differs k a b c =
-      rw (key-is k a b) (not-T (alike (entryAtKey set s k) (entryAtKey set s (k - 1))) (λ h. c (entries-alike (stage (ofKey k)) (stage (ofKey (k - 1))) h)))
+      let here = stage (ofKey k) in
+      let low = stage (ofKey (k - 1)) in
+      rw (key-is k a b) (not-T (alike (entryOf (v here)) (entryOf (v low))) (λ h. c (alike-one (v here) (v low) (value-numeric set s F here) (value-numeric set s F low) h)))
 
   lowest-key : (k : ℕ) → least < k → k ≤ most → T (lt lowest (ofKey k))
   unfolding lowest
@@ -212,7 +165,7 @@ module _ (set : ClipSet) (s : Samples) (S : SoundSet set) (A : SoundSamples s) (
       ascends = written-ascends least cs (t .rising) rng;
       each = written-each (IsChange (valueInSet set s)) cs (ones cs rng (own-value least h cs (t .rising)));
       complete = λ x f l d. written-has cs x f rng (t .places (key x) (above-lowest x f l) (finite→key x (f .fitting) (f .finitely) .1) .1 (differs-changes x f d));
-      gives = λ x f. rw (written-read h cs x f rng ∙ t .exact (key x) (finite→key x (f .fitting) (f .finitely) .0) (finite→key x (f .fitting) (f .finitely) .1) ∙ sym (entry-of-key set s S A x f)) (alike-refl (valueAt (valueInSet set s) x));
+      gives = λ x f. rw (written-read h cs x f rng ∙ t .exact (key x) (finite→key x (f .fitting) (f .finitely) .0) (finite→key x (f .fitting) (f .finitely) .1) ∙ sym (entry-of-key set s S A x f)) (written-alike (v (stage x)) (value-numeric set s F (stage x)));
     }
 
   -- Every set and samples have a track: the changes over all keys, written out
@@ -238,7 +191,7 @@ module _ (set : ClipSet) (s : Samples) (S : SoundSet set) (A : SoundSamples s) (
   changed-key : (c : Change) → Changed c → (least < key (c .time)) × (key (c .time) ≤ most)
   changed-key c p = (above-lowest set s S A F (c .time) (p .finitely) (p .above), finite→key (c .time) (p .finitely .fitting) (p .finitely .finitely) .1)
 
-  changed-value : (c : Change) → Changed c → keyedChange c .value ≡ valueAt (valueInSet set s) (c .time)
+  changed-value : (c : Change) → Changed c → keyedChange c .value ≡ writtenAt (valueInSet set s) (c .time)
   unfolding changeAt
   changed-value c p = λ i. record { value = p .written i .value; mark = p .written i .mark }
 
@@ -283,13 +236,13 @@ module _ (set : ClipSet) (s : Samples) (S : SoundSet set) (A : SoundSamples s) (
   ]
 
   -- what a track reads is the value somewhere
-  reads-value : (e : Entry) (cs : List Change) (t : Float) → (x : Float) → e ≡ valueAt (valueInSet set s) x → Every Changed cs → (y : Float) × (readFrom e cs t ≡ valueAt (valueInSet set s) y)
+  reads-value : (e : Entry) (cs : List Change) (t : Float) → (x : Float) → e ≡ writtenAt (valueInSet set s) x → Every Changed cs → (y : Float) × (readFrom e cs t ≡ writtenAt (valueInSet set s) y)
   unfolding readFrom
   reads-value e [] t x q p = (x, q)
   reads-value e (c ∷ cs) t x q p = go (le (c .time) t) (λ e′ x′ q′. reads-value e′ cs t x′ q′ (p .1))
     where
-      go : (b : Bool) → ((e′ : Entry) (x′ : Float) → e′ ≡ valueAt (valueInSet set s) x′ → (y : Float) × (readFrom e′ cs t ≡ valueAt (valueInSet set s) y))
-          → (y : Float) × (readFrom (cond b (record { value = c .value; mark = c .mark }) e) cs t ≡ valueAt (valueInSet set s) y)
+      go : (b : Bool) → ((e′ : Entry) (x′ : Float) → e′ ≡ writtenAt (valueInSet set s) x′ → (y : Float) × (readFrom e′ cs t ≡ writtenAt (valueInSet set s) y))
+          → (y : Float) × (readFrom (cond b (record { value = c .value; mark = c .mark }) e) cs t ≡ writtenAt (valueInSet set s) y)
       go true r = r (record { value = c .value; mark = c .mark }) (c .time) (changed-value c (p .0))
       go false r = r e x q
 
@@ -309,7 +262,8 @@ module _ (set : ClipSet) (s : Samples) (S : SoundSet set) (A : SoundSamples s) (
         ∙ sym (written-read (track .initial) keyed (ofKey k) f (ranged least keyed (le-of-eq refl) (keyed-all (track .changes) each-changed (t .ascends)) (keyed-upto (track .changes) each-changed)))
         ∙ ap (λ (cs : List Change). readFrom (track .initial) cs (ofKey k)) (keyed-back (track .changes) each-changed)
         ∙ y .1
-        ∙ entries-alike set s S A F (stage (y .0)) (stage (ofKey k)) (subst (λ (e : Entry). T (alike e (entryAtKey set s k))) (y .1) (t .gives (ofKey k) f))
+        ∙ reading-one (valueInSet set s (stage (y .0))) (valueInSet set s (stage (ofKey k))) (value-numeric set s F (stage (y .0))) (value-numeric set s F (stage (ofKey k)))
+        (subst (λ (e : Entry). T (alike e (valueAt (valueInSet set s) (ofKey k)))) (y .1) (t .gives (ofKey k) f))
 
     -- the value's track, by its keys, is the track over keys
     pub track-keyed : steps-laws.TrackOf least most (entryAtKey set s) (track .initial) keyed

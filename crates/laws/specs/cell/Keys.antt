@@ -1,15 +1,16 @@
 -- The value as a function of the key. Assumes nothing.
-use Prim.Native.Nat.{ℕ, _-_, _≤_}
-use Rattle.gf.specs.Doubles.{key, ofKey, least, most}
+use Prim.Native.Nat.{ℕ, _≤_}
+use Rattle.gf.specs.Doubles.{ofKey, least, most}
 use Rattle.definitions.specs.ClipSet.{ClipSet, stage}
 use Rattle.definitions.specs.Samples.{Samples}
 use Rattle.definitions.specs.Value.{valueInSet}
-use Rattle.definitions.specs.Track.{Entry, entryOf}
+use Rattle.definitions.specs.Track.{Entry, writtenEntry}
 
 -- ---- by the key
 
+-- as a track writes it
 abbrev pub entryAtKey : ClipSet → Samples → ℕ → Entry
-entryAtKey set s k = entryOf (valueInSet set s (stage (ofKey k)))
+entryAtKey set s k = writtenEntry (valueInSet set s (stage (ofKey k)))
 
 -- keys of finite doubles, from lo to hi
 pub record Keys (lo hi : ℕ) : Type 0 where

@@ -22,7 +22,7 @@ use Rattle.definitions.specs.ClipSet.{ClipSet, stage}
 use Rattle.definitions.specs.Timing.{lastAtMost}
 use Rattle.definitions.specs.Samples.{Samples, clipBegin, clipEnd}
 use Rattle.definitions.specs.Value.{marked, says, valueInSet, directSource, gathered}
-use Rattle.definitions.specs.Track.{Entry, entryOf}
+use Rattle.definitions.specs.Track.{Entry, writtenEntry}
 use Rattle.laws.proofs.list.Tests.{is-true, is-false, holds}
 use Rattle.laws.specs.list.Every.{Every}
 use Rattle.laws.proofs.list.Every.{every-at, every-take, every-drop}
@@ -61,7 +61,7 @@ use Rattle.cell.specs.CellAndEnd.{heldOf}
 use Rattle.cell.proofs.Lent.{sound, samples}
 use Rattle.cell.proofs.CellsRead.{CellAndEndIs, piece-constant}
 use Rattle.track.specs.span.Runs.{part}
-use Rattle.track.proofs.span.Spans.{part-length, part-at, source-on}
+use Rattle.track.proofs.span.Spans.{clip-lengths, clip-says, clip-reads, source-on}
 
 inf-fits : (s : Bool) → Fits (inf s)
 unfolding fits
@@ -140,24 +140,12 @@ module _ {starts : List Float} {clips : List ℕ} {xs ys blocks : List Float} {m
     some-part = subst (λ (l : List Float). 0 < length l) its-part long
 
     pub part-reads : Reads (part times ends (w .clip)) (part values ends (w .clip)) (part marks ends (w .clip))
-    part-reads =
-        let i = ready-readable R .inside (w .clip) clip-named in
-        let v = R .accepted .values in
-        let f = R .accepted .marks in
-        record {
-          ascending = ready-readable R .rising (w .clip) clip-named;
-          values = part-length values ends (w .clip) (omega arith) ∙ sym (part-length times ends (w .clip) i);
-          marks = part-length marks ends (w .clip) (omega arith) ∙ sym (part-length times ends (w .clip) i);
-          some = some-part;
-          numbers = every-take Fits (clipEnd ends (w .clip) - clipBegin ends (w .clip)) (drop (clipBegin ends (w .clip)) values) (every-drop Fits (clipBegin ends (w .clip)) values (R .numbers));
-        }
+    part-reads = clip-reads R (w .clip) clip-named some-part
 
     -- what a sample of the window says
-    sample-says : (i : ℕ) → i < length (part times ends (w .clip)) → entryOf (says set s (sample (w .clip) i)) ≡ entryOf (marked (getD (part marks ends (w .clip)) i 0) (getD (part values ends (w .clip)) i 0·0))
+    sample-says : (i : ℕ) → i < length (part times ends (w .clip)) → writtenEntry (says set s (sample (w .clip) i)) ≡ writtenEntry (marked (getD (part marks ends (w .clip)) i 0) (getD (part values ends (w .clip)) i 0·0))
     unfolding says
-    sample-says i h =
-        let e = part-length times ends (w .clip) (ready-readable R .inside (w .clip) clip-named) in
-        ap entryOf (ap₂ marked (part-at marks ends (w .clip) i 0 (omega arith)) (part-at values ends (w .clip) i 0·0 (omega arith)))
+    sample-says i h = let l = clip-lengths R (w .clip) clip-named .0 in ap writtenEntry (clip-says R (w .clip) clip-named i (omega arith))
 
     -- ---- the run
 
@@ -312,7 +300,7 @@ module _ {starts : List Float} {clips : List ℕ} {xs ys blocks : List Float} {m
         pub run-says : entryAtKey set s j ≡ passingAt (part times ends (w .clip)) (part values ends (w .clip)) (part marks ends (w .clip)) (segmentOf xs ys i) l j
         unfolding valueInSet
         run-says =
-            ap (λ (r : Source). entryOf (says set s r)) (source-held ∙ read)
+            ap (λ (r : Source). writtenEntry (says set s r)) (source-held ∙ read)
             ∙ sample-says (placeOn (part times ends (w .clip)) (lineOn (segmentOf xs ys i)) (key (H .m))) place-inside
             ∙ ap (readingAt (part times ends (w .clip)) (part values ends (w .clip)) (part marks ends (w .clip)) (lineOn (segmentOf xs ys i))) (sym passed)
 

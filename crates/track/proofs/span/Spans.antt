@@ -1,6 +1,7 @@
 -- The span of a piece: up to its last key its cell reads and says the value, and the place that it reads turns one way. Assumes nothing.
 use mathlib.Core.Path.{_≡_, refl, sym, ap, ap₂, _∙_, subst}
 use mathlib.Core.Logic.{inl, inr}
+use mathlib.Core.Bool.{false}
 use mathlib.Core.List.{List}
 use Prim.Native.Nat.{ℕ, _+_, _-_, _≤_, _<_, min}
 use native.Mathlib.Nat.{le-of-eq}
@@ -8,16 +9,16 @@ use native.Mathlib.Omega.{arith}
 use lib.Dec.{T}
 use lib.ListN.{length, getD, drop, length-drop}
 use lib.Seq.{getD-take, getD-drop, length-take-le}
-use lib.Ieee.{Float, le}
+use lib.Ieee.{Float, isNan, le}
 use Rattle.gf.specs.Doubles.{0·0, ofKey}
 use Rattle.gf.proofs.KeyLaws.{ofKey-fits, ofKey-mono}
 use Rattle.gf.proofs.LerpLaws.{Inside}
 use Rattle.definitions.specs.declared.Missing.{Missing}
 use Rattle.definitions.specs.declared.Source.{Source}
-use Rattle.definitions.specs.ClipSet.{ClipSet, stage}
+use Rattle.definitions.specs.ClipSet.{ClipSet, markValue, stage}
 use Rattle.definitions.specs.Samples.{Samples, clipBegin, clipEnd, clipTimes}
 use Rattle.definitions.specs.Value.{marked, says, valueInSet}
-use Rattle.definitions.specs.Track.{Entry, entryOf}
+use Rattle.definitions.specs.Track.{Entry, writtenEntry}
 use Rattle.laws.proofs.list.Every.{every-take, every-drop}
 use Rattle.laws.specs.list.Places.{Fits}
 use Rattle.laws.specs.track.Steps.{Agree}
@@ -34,7 +35,7 @@ use Rattle.window.proofs.Parts.{ready-readable, last-short}
 use Rattle.window.specs.declared.Bound.{Bound}
 use Rattle.cell.specs.declared.step.line.Line.{Line}
 use Rattle.cell.specs.step.Lines.{lineIs, placeOn}
-use Rattle.run.specs.Readings.{LeftOnce, readingAt}
+use Rattle.run.specs.Readings.{LeftOnce, Reads, readingAt}
 use Rattle.value.specs.Answers.{answerIn, Answerable}
 use Rattle.value.proofs.Answers.{says-ready, value-in}
 use Rattle.cell.specs.declared.Cell.{Cell}
@@ -79,6 +80,43 @@ module _ {A : Type 0} (l : List A) (ends : List ℕ) (c : ℕ) where
   pub part-at : (i : ℕ) (d : A) → i < clipEnd ends c - clipBegin ends c → getD l (clipBegin ends c + i) d ≡ getD (part l ends c) i d
   part-at i d h = sym (getD-take (clipEnd ends c - clipBegin ends c) (drop (clipBegin ends c) l) i d h ∙ getD-drop (clipBegin ends c) l i d)
 
+-- of a clip of the set
+module _ {starts : List Float} {clips : List ℕ} {xs ys blocks : List Float} {m : Missing} {times values : List Float} {marks ends : List ℕ} (R : AcceptedLists starts clips xs ys blocks m times values marks ends) (c : ℕ) (named : c < length ends) where
+  abbrev b : ℕ
+  b = clipBegin ends c
+
+  abbrev n : ℕ
+  n = clipEnd ends c - clipBegin ends c
+
+  pub clip-lengths : (length (part times ends c) ≡ clipEnd ends c - clipBegin ends c) × (length (part values ends c) ≡ clipEnd ends c - clipBegin ends c) × (length (part marks ends c) ≡ clipEnd ends c - clipBegin ends c)
+  clip-lengths =
+      let i = ready-readable R .inside c named in
+      let v = R .accepted .values in
+      let w = R .accepted .marks in
+      (part-length times ends c i, part-length values ends c (omega arith), part-length marks ends c (omega arith))
+
+  pub clip-says : (i : ℕ) → i < clipEnd ends c - clipBegin ends c
+      → marked (getD marks (clipBegin ends c + i) 0) (getD values (clipBegin ends c + i) 0·0) ≡ marked (getD (part marks ends c) i 0) (getD (part values ends c) i 0·0)
+  clip-says i h = ap₂ marked (part-at marks ends c i 0 h) (part-at values ends c i 0·0 h)
+
+  clip-number : (i : ℕ) → i < length (part times ends c) → getD (part marks ends c) i 0 ≡ markValue → isNan (getD (part values ends c) i 0·0) ≡ false
+  clip-number i h e =
+      let l : i < n = let k = clip-lengths .0 in omega arith in
+      let f = ready-readable R .from c named in
+      let u = ready-readable R .inside c named in
+      ap isNan (sym (part-at values ends c i 0·0 l)) ∙ R .accepted .number (b + i) 0·0 0 (omega arith) (part-at marks ends c i 0 l ∙ e)
+
+  -- it can be read, if it has samples
+  pub clip-reads : 0 < length (part times ends c) → Reads (part times ends c) (part values ends c) (part marks ends c)
+  clip-reads some = record {
+    ascending = ready-readable R .rising c named;
+    values = clip-lengths .1 ∙ sym (clip-lengths .0);
+    marks = clip-lengths .2 ∙ sym (clip-lengths .0);
+    some = some;
+    numbers = every-take Fits n (drop b values) (every-drop Fits b values (R .numbers));
+    number = clip-number;
+  }
+
 -- ---- a cell that reads the value from k to hi
 
 -- the place that a reading takes turns one way
@@ -102,12 +140,12 @@ module _ {starts : List Float} {clips : List ℕ} {xs ys blocks : List Float} {m
   pub told-sayable : Answerable (length values) ends (readOn times ends cell k)
   told-sayable = subst (Answerable (length values) ends) (D .reads k (le-of-eq refl) (D .keys .order)) (value-in R (stage (ofKey k)))
 
-  entry-on : (j : ℕ) → k ≤ j → j ≤ hi → entryAtKey lent held j ≡ entryOf (says lent held (readOn times ends cell j))
+  entry-on : (j : ℕ) → k ≤ j → j ≤ hi → entryAtKey lent held j ≡ writtenEntry (says lent held (readOn times ends cell j))
   unfolding valueInSet
-  entry-on j a b = ap (λ (r : Source). entryOf (says lent held r)) (D .reads j a b)
+  entry-on j a b = ap (λ (r : Source). writtenEntry (says lent held r)) (D .reads j a b)
 
-  pub told-here : entryOf (answerIn m values marks ends (readOn times ends cell k)) ≡ entryAtKey (setOf (length ends) starts clips xs ys blocks m) (samplesOf times values marks ends) k
-  told-here = ap entryOf (says-ready R (readOn times ends cell k)) ∙ sym (entry-on k (le-of-eq refl) (D .keys .order))
+  pub told-here : writtenEntry (answerIn m values marks ends (readOn times ends cell k)) ≡ entryAtKey (setOf (length ends) starts clips xs ys blocks m) (samplesOf times values marks ends) k
+  told-here = ap writtenEntry (says-ready R (readOn times ends cell k)) ∙ sym (entry-on k (le-of-eq refl) (D .keys .order))
 
   -- ---- where a clip is read
 
@@ -119,19 +157,6 @@ module _ {starts : List Float} {clips : List ℕ} {xs ys blocks : List Float} {m
     turning : LeftOnce (placeOn (part times ends c) line) k hi
     turning = subst (λ (d : Cell). TurnsOn times ends d k hi) q (D .turns)
 
-    abbrev b : ℕ
-    b = clipBegin ends c
-
-    abbrev n : ℕ
-    n = clipEnd ends c - clipBegin ends c
-
-    lengths : (length (part times ends c) ≡ n) × (length (part values ends c) ≡ n) × (length (part marks ends c) ≡ n)
-    lengths =
-        let i = ready-readable R .inside c (sampled .0) in
-        let v = R .accepted .values in
-        let w = R .accepted .marks in
-        (part-length times ends c i, part-length values ends c (omega arith), part-length marks ends c (omega arith))
-
     run : Run times values marks ends c line k hi
     run = record {
       clip = sampled .0;
@@ -139,35 +164,26 @@ module _ {starts : List Float} {clips : List ℕ} {xs ys blocks : List Float} {m
       inside = ready-readable R .inside c (sampled .0);
       valued = R .accepted .values;
       flagged = R .accepted .marks;
-      reads = record {
-        ascending = ready-readable R .rising c (sampled .0);
-        values = lengths .1 ∙ sym (lengths .0);
-        marks = lengths .2 ∙ sym (lengths .0);
-        some = sampled .1;
-        numbers = every-take Fits n (drop b values) (every-drop Fits b values (R .numbers));
-      };
+      reads = clip-reads R c (sampled .0) (sampled .1);
       turns = turning;
     }
 
-    sample-says : (i : ℕ) → i < n → marked (getD marks (b + i) 0) (getD values (b + i) 0·0) ≡ marked (getD (part marks ends c) i 0) (getD (part values ends c) i 0·0)
-    sample-says i h = ap₂ marked (part-at marks ends c i 0 h) (part-at values ends c i 0·0 h)
-
-    place-inside : (j : ℕ) → placeOn (part times ends c) line j < n
+    place-inside : (j : ℕ) → placeOn (part times ends c) line j < clipEnd ends c - clipBegin ends c
     unfolding placeOn
-    place-inside j = let l = lengths .0 in let h = last-short (part times ends c) (Knots.along (lineIs line) (ofKey j)) (sampled .1) in omega arith
+    place-inside j = let l = clip-lengths R c (sampled .0) .0 in let h = last-short (part times ends c) (Knots.along (lineIs line) (ofKey j)) (sampled .1) in omega arith
 
     reading-says : (j : ℕ) → k ≤ j → j ≤ hi → entryAtKey lent held j ≡ readingAt (part times ends c) (part values ends c) (part marks ends c) line j
     unfolding says
     reading-says j x y =
         entry-on j x y
-        ∙ ap (λ (d : Cell). entryOf (says lent held (readOn times ends d j))) q
-        ∙ ap entryOf (sample-says (placeOn (part times ends c) line j) (place-inside j))
+        ∙ ap (λ (d : Cell). writtenEntry (says lent held (readOn times ends d j))) q
+        ∙ ap writtenEntry (clip-says R c (sampled .0) (placeOn (part times ends c) line j) (place-inside j))
 
   constant-says : (r : Source) → cell ≡ Constant r → (j : ℕ) → k ≤ j → j ≤ hi → entryAtKey lent held j ≡ entryAtKey lent held k
   constant-says r q j x y =
       entry-on j x y
-      ∙ ap (λ (d : Cell). entryOf (says lent held (readOn times ends d j))) q
-      ∙ sym (entry-on k (le-of-eq refl) (D .keys .order) ∙ ap (λ (d : Cell). entryOf (says lent held (readOn times ends d k))) q)
+      ∙ ap (λ (d : Cell). writtenEntry (says lent held (readOn times ends d j))) q
+      ∙ sym (entry-on k (le-of-eq refl) (D .keys .order) ∙ ap (λ (d : Cell). writtenEntry (says lent held (readOn times ends d k))) q)
 
   pub told-runs : Runs times values marks ends cell k hi
   told-runs = go cell refl

@@ -10,7 +10,7 @@ use Rattle.gf.specs.Doubles.{key, ofKey}
 use Rattle.definitions.specs.declared.Missing.{Missing}
 use Rattle.definitions.specs.Doubles.{FiniteDouble}
 use Rattle.definitions.specs.Samples.{clipBegin, clipEnd}
-use Rattle.definitions.specs.Track.{entryOf}
+use Rattle.definitions.specs.Track.{writtenEntry}
 use Rattle.laws.specs.list.Places.{Ascending}
 use Rattle.laws.specs.cell.Keys.{Keys}
 use Rattle.lists.specs.Segments.{segmentAt}
@@ -55,7 +55,7 @@ pub record ReadsAt (times values : List Float) (marks ends : List ℕ) (cell : C
 -- the step from k on in the cell, up to top or to the key before its end e; the place of the walk stays in its window
 pub record CellStep (m : Missing) (times values : List Float) (marks ends : List ℕ) (cell : Cell) (e : Bound) (at : WindowPlace) (k top : ℕ) (r : Step) : Type 0 where
   pub way : r .span .way ≡ ByCell cell
-  pub here : entryIs (r .span .here) ≡ entryOf (answerIn m values marks ends (readOn times ends cell k))
+  pub here : entryIs (r .span .here) ≡ writtenEntry (answerIn m values marks ends (readOn times ends cell k))
   pub upto : r .span .hi ≡ min top (endKey e - 1)
   pub start : r .place .start ≡ at .start
   pub window : r .place .window ≡ at .window

@@ -6,7 +6,7 @@ use lib.Ieee.Scale.{finite}
 use lib.Dec.{T}
 use Rattle.gf.proofs.KeyLaws.{ofKey-finite}
 use Rattle.definitions.specs.ClipSet.{stage}
-use Rattle.definitions.specs.Track.{entryOf}
+use Rattle.definitions.specs.Track.{writtenEntry}
 use Rattle.definitions.specs.Value.{valueInSet}
 use Rattle.laws.specs.cell.Lent.{setOf, samplesOf}
 use borrow.Author.Needs.{needs}
@@ -22,10 +22,10 @@ returns : tie.Need-returns
 returns c =
     let a = c .before .before .before .before .before .before .before .before .before .before .before .before .args in
     c .entry-of .ensures
-    ∙ ap entryOf (c .before .value-in-set .ensures)
+    ∙ ap writtenEntry (c .before .value-in-set .ensures)
     ∙ ap
     (λ (t : Float).
-    entryOf
+    writtenEntry
     (valueInSet (setOf (length (a .ends .now)) (a .starts .now) (a .clips .now) (a .xs .now) (a .ys .now) (a .blocks .now) (a .m)) (samplesOf (a .times .now) (a .values .now) (a .marks .now) (a .ends .now)) (stage t)))
     (c .before .before .of-key .ensures)
 

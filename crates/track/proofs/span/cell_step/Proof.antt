@@ -5,7 +5,7 @@ use native.Mathlib.Omega.{arith}
 use lib.ListN.{length}
 use lib.Ieee.{Float}
 use Rattle.gf.specs.Doubles.{ofKey}
-use Rattle.definitions.specs.Track.{entryOf}
+use Rattle.definitions.specs.Track.{writtenEntry}
 use Rattle.value.specs.Answers.{answerIn, Answerable}
 use Rattle.cell.specs.CellAndEnd.{CellAsks, CellIn}
 use Rattle.track.specs.span.Steps.{ReadsAt}
@@ -55,7 +55,7 @@ returns c =
       found = found q;
       step = record {
         way = refl;
-        here = x .entry-of .ensures ∙ ap entryOf (x .before .answer-of .ensures ∙ ap (answerIn (a .m) (a .values .now) (a .marks .now) (a .ends .now)) (x .before .before .read-on .ensures));
+        here = x .entry-of .ensures ∙ ap writtenEntry (x .before .answer-of .ensures ∙ ap (answerIn (a .m) (a .values .now) (a .marks .now) (a .ends .now)) (x .before .before .read-on .ensures));
         upto = l .lesser .ensures ∙ ap (λ (e : ℕ). min (a .top) (e - 1)) (l .before .end-key .ensures);
         start = refl;
         window = refl;

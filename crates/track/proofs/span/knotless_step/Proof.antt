@@ -3,7 +3,7 @@ use mathlib.Core.Path.{refl, sym, ap, _∙_, subst}
 use Prim.Native.Nat.{ℕ, _-_, min}
 use native.Mathlib.Omega.{arith}
 use lib.ListN.{length}
-use Rattle.definitions.specs.Track.{entryOf}
+use Rattle.definitions.specs.Track.{writtenEntry}
 use Rattle.window.specs.declared.Bound.the-variants.{At}
 use Rattle.value.specs.Answers.{answerIn, Answerable}
 use Rattle.cell.specs.declared.Cell.{Cell}
@@ -45,7 +45,7 @@ returns c =
       way = ap ByCell (q .knotless-cell .ensures);
       here =
           c .entry-of .ensures
-          ∙ ap entryOf (c .before .answer-of .ensures
+          ∙ ap writtenEntry (c .before .answer-of .ensures
           ∙ ap (answerIn (a .m) (a .values .now) (a .marks .now) (a .ends .now)) (c .before .before .read-on .ensures ∙ ap (λ (d : Cell). readOn (a .times .now) (a .ends .now) d (a .k)) (q .knotless-cell .ensures)));
       upto = l .lesser .ensures ∙ ap (λ (e : ℕ). min (a .top) (e - 1)) (l .before .key .ensures);
       start = refl;

@@ -1,8 +1,6 @@
 -- `entry::alike` meets its contract. Assumes nothing.
-use mathlib.Core.Path.{_∙_}
 use Rattle.cell.specs.step.Entries.{entryIs}
-use Rattle.cell.proofs.step.Likeness.{unlike-marks, like-marks, like-bits}
-use borrow.Author.Needs.{needs}
+use Rattle.cell.proofs.step.Likeness.{unlike-marks, like-marks, like-numbers}
 use Rattle.cell.proofs.step.entry.alike.Statement.{statement}
 use Rattle.cell.proofs.step.entry.alike.Tie as tie
 
@@ -13,7 +11,7 @@ returns-2 : tie.Need-returns-2
 returns-2 c = let a = c .before .before .before .before .before .args in like-marks (entryIs (a .a)) (entryIs (a .b)) (c .before .before .if1 .left) (c .if2 .taken)
 
 returns-3 : tie.Need-returns-3
-returns-3 c = let a = c .before .before .before .before .before .before .args in c .same-bits .ensures ∙ like-bits (entryIs (a .a)) (entryIs (a .b)) (c .before .before .before .if1 .left) (c .before .if2 .left)
+returns-3 c = let a = c .before .before .before .before .before .before .before .args in like-numbers (entryIs (a .a)) (entryIs (a .b)) (c .before .before .before .before .if1 .left) (c .before .before .if2 .left)
 
 pub alike-spec : {M : Type 1} → statement M
-alike-spec = tie.close (tie.spec returns returns-2 (λ c κs. search needs) returns-3)
+alike-spec = tie.close (tie.spec returns returns-2 returns-3)
