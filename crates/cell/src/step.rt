@@ -20,7 +20,8 @@ ghost use Rattle.definitions.specs.Moments.{was};
 ghost use Rattle.laws.specs.list.Places.{Ascending};
 ghost use Rattle.laws.specs.track.Steps.{Once, StepAt, FirstStep};
 ghost use Rattle.laws.specs.cell.Keys.{Keys};
-ghost use Rattle.cell.specs.step.Lines.{placeOn};
+ghost use Rattle.laws.specs.cell.Knots as Knots;
+ghost use Rattle.cell.specs.step.Lines.{lineIs, placeOn};
 
 // Whether the sample at q is read at the key k.
 fn is_read(ts: &[f64], line: Line, q: usize, k: u64) -> bool
@@ -99,9 +100,10 @@ fn step_between(ts: &[f64], line: Line, q: usize, k: u64, hi: u64) -> u64
     b
 }
 
-// The first step above a key where the sample at q is read, by doubling steps up to hi.
-fn step_above(ts: &[f64], line: Line, q: usize, k: u64, hi: u64) -> Next
+// The first step above a key where the sample at q is read, by doubling steps up to hi, where the clip time is `top`.
+fn step_above(ts: &[f64], line: Line, q: usize, top: f64, k: u64, hi: u64) -> Next
     requires { ⌜ Ascending (now ts) ⌝ ∗ ⌜ q < length (now ts) ⌝ }
+    requires { ⌜ top ≡ Knots.along (lineIs line) (Key.ofKey hi) ⌝ }
     requires { ⌜ Keys k hi ⌝ }
     requires { ⌜ Once (placeOn (now ts) line) k hi ⌝ }
     requires { ⌜ placeOn (now ts) line k ≡ q ⌝ }
@@ -117,7 +119,7 @@ fn step_above(ts: &[f64], line: Line, q: usize, k: u64, hi: u64) -> Next
         a = b;
         width = width + width;
     }
-    if is_read(ts, line, q, hi) {
+    if is_place(ts, q, top) {
         return Next::Nothing;
     }
     Next::At(step_between(ts, line, q, a, hi))
@@ -147,9 +149,11 @@ fn step_below(ts: &[f64], line: Line, q: usize, k: u64, hi: u64) -> u64
 }
 
 // The least key above k and up to hi at which another sample is read than at k, where it is the one
-// at q.
-pub fn next_step(ts: &[f64], line: Line, q: usize, k: u64, hi: u64) -> Next
+// at q. The clip time at hi is handed in: left to the compiler, it is worked out before a loop over steps also on a line
+// that has no segment, from what happens to lie in its place.
+pub fn next_step(ts: &[f64], line: Line, q: usize, top: f64, k: u64, hi: u64) -> Next
     requires { ⌜ Ascending (now ts) ⌝ ∗ ⌜ q < length (now ts) ⌝ }
+    requires { ⌜ top ≡ Knots.along (lineIs line) (Key.ofKey hi) ⌝ }
     requires { ⌜ Keys k hi ⌝ }
     requires { ⌜ Once (placeOn (now ts) line) k hi ⌝ }
     requires { ⌜ placeOn (now ts) line k ≡ q ⌝ }
@@ -157,7 +161,7 @@ pub fn next_step(ts: &[f64], line: Line, q: usize, k: u64, hi: u64) -> Next
 {
     let g = guess(ts, line, q, k, hi);
     if is_read(ts, line, q, g) {
-        return step_above(ts, line, q, g, hi);
+        return step_above(ts, line, q, top, g, hi);
     }
     Next::At(step_below(ts, line, q, k, g))
 }

@@ -7,7 +7,7 @@ use Rattle.sdf.specs.declared.Counted.{Counted}
 use Rattle.definitions.specs.ClipSet.{ClipSet, Model, Standing, noSet, standing}
 use Rattle.definitions.specs.Samples.{Samples, samplesNumber}
 use Rattle.definitions.specs.Questions.{reply, ofSet}
-use Rattle.definitions.specs.Track.{Track, Outputs, slots}
+use Rattle.definitions.specs.Track.{Track, slots}
 use Rattle.definitions.specs.Calls.{bakedOf}
 use Rattle.laws.specs.set.Sound.{Sound, SoundModel}
 use Rattle.laws.proofs.set.Accepted.{accepted}

@@ -71,12 +71,13 @@ pub fn fill_changes(
     requires { ⌜ Room room n (outputs (now outtimes) (now outvalues) (now outmarks)) ⌝ }
     ensures { λ r. ⌜ Walked (readingAt (was ts) (was vs) (was ms) line) k hi room n (outsWere outtimes outvalues outmarks) (outsLeft outtimes outvalues outmarks) r ⌝ }
 {
+    let top = along(line, gf::of_key(hi));
     let mut at = k;
     let mut place = place_on(ts, line, k);
     let mut last = entry_of_sample(vs, ms, place);
     let mut count = n;
     loop {
-        let Next::At(step) = next_step(ts, line, place, at, hi) else {
+        let Next::At(step) = next_step(ts, line, place, top, at, hi) else {
             return Went {
                 key: hi,
                 last,

@@ -3,12 +3,14 @@ use mathlib.Core.Path.{_≡_, refl, sym, ap, _∙_, subst}
 use Prim.Native.Nat.{ℕ, _-_, _≤_}
 use native.Mathlib.Omega.{arith}
 use borrow.Author.Needs.{needs}
+use Rattle.gf.specs.Doubles.{ofKey}
 use Rattle.definitions.specs.Track.{Entry, Outputs}
 use Rattle.definitions.specs.Moments.{outputs}
 use Rattle.laws.specs.track.Steps.{Level, StepAt, FirstStep}
 use Rattle.laws.specs.declared.Next.{Next}
 use Rattle.laws.specs.cell.Keys.{Keys}
-use Rattle.cell.specs.step.Lines.{placeOn}
+use Rattle.laws.specs.cell.Knots as Knots
+use Rattle.cell.specs.step.Lines.{lineIs, placeOn}
 use Rattle.cell.specs.step.Entries.{entryIs}
 use Rattle.run.specs.Readings.{Reads, entryAt, readingAt}
 use Rattle.run.specs.Walks.{Room, Stands}
@@ -19,11 +21,11 @@ use Rattle.run.proofs.fill_changes.Statement.{statement}
 use Rattle.run.proofs.fill_changes.Tie as tie
 
 abbrev Inv-loop : tie.InvT-loop
-Inv-loop ts vs ms line k hi room n outtimes₀ outvalues₀ outmarks₀ at₀ place₀ last₀ count₀ outtimes outvalues outmarks at place last count =
+Inv-loop ts vs ms line k hi room n outtimes₀ outvalues₀ outmarks₀ top₀ at₀ place₀ last₀ count₀ outtimes outvalues outmarks at place last count =
     (at ≤ hi) × (place ≡ placeOn ts line at) × Stands (readingAt ts vs ms line) k room n (outputs outtimes₀ outvalues₀ outmarks₀) (outputs outtimes outvalues outmarks) at (entryIs last) count
 
 abbrev μ-loop : tie.MeasureT-loop
-μ-loop ts vs ms line k hi room n outtimes₀ outvalues₀ outmarks₀ at₀ place₀ last₀ count₀ outtimes outvalues outmarks at place last count =
+μ-loop ts vs ms line k hi room n outtimes₀ outvalues₀ outmarks₀ top₀ at₀ place₀ last₀ count₀ outtimes outvalues outmarks at place last count =
     hi - at
 
 -- from the function's entry: the samples, the keys, what is read, the outputs
@@ -47,7 +49,7 @@ room a = a .pre .1 .1 .1
 
 -- at the loop's head: the function's entry
 abbrev entry : tie.At-loop Inv-loop μ-loop → tie.Start Inv-loop μ-loop
-entry b = b .before .before .before .before .before .before .before .before .before
+entry b = b .before .before .before .before .before .before .before .before .before .before .before
 
 -- the end
 abbrev end : tie.After-enum-told Inv-loop μ-loop → tie.At-loop Inv-loop μ-loop
@@ -97,17 +99,24 @@ long c = let a = entry (loop (step (stepped (c .before)))) in stands-long (w a) 
 long-end : (c : tie.After-enum-told Inv-loop μ-loop) → Long (outs (entry (end c))) (outputs (end c .loop .outtimes) (end c .loop .outvalues) (end c .loop .outmarks))
 long-end c = let a = entry (end c) in stands-long (w a) (a .args .k) (a .args .room) (a .args .n) (outs a) (room a) (ended c)
 
+of-key-requires : tie.Need-of-key-requires Inv-loop μ-loop
+of-key-requires c κs = let K = keys (c .before .before .before .before .before .before) in (omega (arith, K .low, K .order), K .high)
+
 place-on-requires : tie.Need-place-on-requires Inv-loop μ-loop
-place-on-requires c κs = let a = c .before .before .before .before .before .before in let K = keys a in (reads a .ascending, (K .low, omega (arith, K .order, K .high)))
+place-on-requires c κs = let a = c .before .before .before .before .before .before .before .before in let K = keys a in (reads a .ascending, (K .low, omega (arith, K .order, K .high)))
 
 entry-of-sample-requires : tie.Need-entry-of-sample-requires Inv-loop μ-loop
-entry-of-sample-requires c κs = let a = c .before .before .before .before .before .before .before in place-slots (reads a) (a .args .line) (c .place-on .result) (a .args .k) (c .place-on .ensures)
+entry-of-sample-requires c κs = let a = c .before .before .before .before .before .before .before .before .before in place-slots (reads a) (a .args .line) (c .place-on .result) (a .args .k) (c .place-on .ensures)
 
 loop-holds : tie.Need-loop-holds Inv-loop μ-loop
 loop-holds c =
-    let a = c .before .before .before .before .before .before .before .before in
+    let a = c .before .before .before .before .before .before .before .before .before .before in
     let e = c .entry-of-sample .ensures ∙ ap (entryAt (a .args .vs .now) (a .args .ms .now)) (c .before .place-on .ensures) in
     (keys a .order, c .before .place-on .ensures, stands-first (w a) (a .args .k) (a .args .room) (a .args .n) (outs a) (room a) (entryIs (c .entry-of-sample .result)) e)
+
+-- the clip time at hi
+top-is : (b : tie.At-loop Inv-loop μ-loop) → b .before .before .before .along .result ≡ Knots.along (lineIs (entry b .args .line)) (ofKey (entry b .args .hi))
+top-is b = let c = b .before .before .before in c .along .ensures ∙ ap (Knots.along (lineIs (entry b .args .line))) (c .before .of-key .ensures)
 
 next-step-requires : tie.Need-next-step-requires Inv-loop μ-loop
 next-step-requires c κs =
@@ -116,7 +125,7 @@ next-step-requires c κs =
     let e = c .loop .inv .1 in
     let h = place-inside (reads a) (a .args .line) (c .loop .at) in
     let l = c .loop .inv .2 .from in
-    (reads a .ascending, (omega arith, (record { low = omega (arith, K .low, l); order = c .loop .inv .0; high = K .high }, (turns-once (c .loop .at) l (a .pre .1 .1 .0), sym e))))
+    (reads a .ascending, (omega arith, (top-is c, (record { low = omega (arith, K .low, l); order = c .loop .inv .0; high = K .high }, (turns-once (c .loop .at) l (a .pre .1 .1 .0), sym e)))))
 
 same-length : tie.Need-same-length Inv-loop μ-loop
 same-length c = long-end c .times
@@ -190,6 +199,8 @@ fill-changes-spec =
     (tie.spec
     Inv-loop
     μ-loop
+    of-key-requires
+    (λ c κs. search needs)
     place-on-requires
     entry-of-sample-requires
     loop-holds

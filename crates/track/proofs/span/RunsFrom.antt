@@ -20,12 +20,12 @@ use Rattle.definitions.specs.Lists.{any}
 use Rattle.definitions.specs.Doubles.{FiniteDouble}
 use Rattle.definitions.specs.ClipSet.{ClipSet, stage}
 use Rattle.definitions.specs.Timing.{lastAtMost}
-use Rattle.definitions.specs.Samples.{Samples, clipBegin, clipEnd}
+use Rattle.definitions.specs.Samples.{Samples}
 use Rattle.definitions.specs.Value.{marked, says, valueInSet, directSource, gathered}
 use Rattle.definitions.specs.Track.{Entry, writtenEntry}
 use Rattle.laws.proofs.list.Tests.{is-true, is-false, holds}
 use Rattle.laws.specs.list.Every.{Every}
-use Rattle.laws.proofs.list.Every.{every-at, every-take, every-drop}
+use Rattle.laws.proofs.list.Every.{every-at}
 use Rattle.laws.specs.list.Places.{Fits, Number}
 use Rattle.laws.proofs.list.Places.{atMost, at-most-length, beyond, up-to, last-is}
 use Rattle.laws.specs.cell.Keys.{Keys, entryAtKey}

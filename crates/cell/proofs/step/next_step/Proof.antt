@@ -16,13 +16,13 @@ abbrev f : tie.Start → ℕ → ℕ
 f a = placeOn (a .args .ts .now) (a .args .line)
 
 keys : (a : tie.Start) → Keys (a .args .k) (a .args .hi)
-keys a = a .pre .1 .1 .0
+keys a = a .pre .1 .1 .1 .0
 
 once : (a : tie.Start) → Once (f a) (a .args .k) (a .args .hi)
-once a = a .pre .1 .1 .1 .0
+once a = a .pre .1 .1 .1 .1 .0
 
 at : (a : tie.Start) → f a (a .args .k) ≡ a .args .q
-at a = a .pre .1 .1 .1 .1
+at a = a .pre .1 .1 .1 .1 .1
 
 -- the sample at q is read at the guess
 still : (c : tie.Then1) → f (c .before .before .before .before) (c .before .before .guess .result) ≡ c .before .before .before .before .args .q
@@ -40,7 +40,7 @@ step-above-requires c κs =
     let a = c .before .before .before .before in
     let K = keys a in
     let g = c .before .before .guess .ensures in
-    (a .pre .0, (a .pre .1 .0, (record { low = omega (arith, K .low, g .0); order = g .1; high = K .high }, (once-part (once a) _ _ (g .0) (omega arith) (still c ∙ sym (at a)), still c))))
+    (a .pre .0, (a .pre .1 .0, (a .pre .1 .1 .0, (record { low = omega (arith, K .low, g .0); order = g .1; high = K .high }, (once-part (once a) _ _ (g .0) (omega arith) (still c ∙ sym (at a)), still c)))))
 
 returns : tie.Need-returns
 returns c =
