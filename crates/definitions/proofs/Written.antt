@@ -123,11 +123,11 @@ module _ (a b : Answer) (n : Numeric a) (m : Numeric b) where
   by-numbers equal = eqb (markOf a) (markOf b) && (not (eqb (markOf a) markValue) || equal)
 
   -- likeness can be told by what is written for both, or for the first
-  pub both-written : alike (writtenEntry a) (writtenEntry b) ≡ alike (entryOf a) (entryOf b)
+  both-written : alike (writtenEntry a) (writtenEntry b) ≡ alike (entryOf a) (entryOf b)
   unfolding alike entryOf writtenEntry
   both-written = ap by-numbers (both-equal (slotOf a) (slotOf b) (slot-number a n) (slot-number b m))
 
-  pub first-written : alike (writtenEntry a) (entryOf b) ≡ alike (entryOf a) (entryOf b)
+  first-written : alike (writtenEntry a) (entryOf b) ≡ alike (entryOf a) (entryOf b)
   unfolding alike entryOf writtenEntry
   first-written = ap by-numbers (first-equal (slotOf a) (slotOf b) (slot-number a n) (slot-number b m))
 

@@ -17,6 +17,8 @@ pub mod Ends
 pub mod Zeros
 -- The value as a function of the key, and the end of a cell
 pub mod Keys
+-- What holds of every source that a value can have
+pub mod Sources
 -- A value is a number or none
 pub mod Numbers
 -- The track over keys, written out, is the value's, and the only one

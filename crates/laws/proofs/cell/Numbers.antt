@@ -1,13 +1,13 @@
 -- A value is a number or none, where the samples and the manifest default are. Assumes nothing.
 use mathlib.Core.Path.{_≡_, sym, ap, subst}
 use mathlib.Core.Bool.{Bool, true, false, not, _&&_, cond}
-use mathlib.Core.List.{List, [], _∷_, reverse}
+use mathlib.Core.List.{List, [], _∷_}
 use mathlib.Core.Option.{Option, none, some}
-use Prim.Native.Nat.{ℕ, suc, _+_}
+use Prim.Native.Nat.{ℕ, _+_}
 use native.Mathlib.Decide.{decLe}
 use native.Mathlib.Omega.{arith}
-use lib.Dec.{T, eqb, eqb→eq, ltb}
-use lib.ListN.{length, getD, getElem?, take, drop, List·getD-eq-default}
+use lib.Dec.{T, eqb, eqb→eq}
+use lib.ListN.{length, getD, List·getD-eq-default}
 use lib.Ieee.{Float, isNan}
 use Rattle.gf.specs.Doubles.{0·0}
 use Rattle.definitions.specs.declared.StageTime.{StageTime}
@@ -15,16 +15,17 @@ use Rattle.definitions.specs.declared.Start.{Start}
 use Rattle.definitions.specs.declared.Source.{Source}
 use Rattle.definitions.specs.declared.Source.the-variants.{Default as default, Blocked as blocked}
 use Rattle.definitions.specs.declared.Answer.the-variants.{Value, Blocked}
-use Rattle.definitions.specs.ClipSet.{ClipSet, markValue, stage, nanDefault}
-use Rattle.definitions.specs.Timing.{activePosition, mapStageToClip}
+use Rattle.definitions.specs.ClipSet.{ClipSet, markValue, nanDefault}
+use Rattle.definitions.specs.Timing.{mapStageToClip}
 use Rattle.definitions.specs.Samples.{Samples, clipBegin, clipTimes, heldPlace}
-use Rattle.definitions.specs.Value.{marked, says, _orElse_, blockedAt, contributes, sampleOf, readClip, firstReading, interpolateMissingValue, ownReading, manifestDefault, gapSource, sourceAt, directSource, readingTime, valueSource, valueInSet}
+use Rattle.definitions.specs.Value.{marked, says, sampleOf, readClip, valueInSet}
 use Rattle.definitions.proofs.Written.{Numeric, zero-number}
 use Rattle.laws.specs.list.Every.{Every}
 use Rattle.laws.specs.list.Places.{Fits}
 use Rattle.laws.proofs.list.Every.{every-getD}
 use Rattle.laws.specs.set.Sound.{Sound}
 use Rattle.laws.specs.set.Accepted.{Accepted}
+use Rattle.laws.proofs.cell.Sources.{IfRead, Sourced, value-sourced}
 
 -- each sample says a number or is a block, and a default that is a value is a number
 pub record SoundValues (set : ClipSet) (s : Samples) : Type 0 where
@@ -66,65 +67,26 @@ module _ (set : ClipSet) (s : Samples) (F : SoundValues set s) where
   abbrev Says : Source → Type 0
   Says r = Numeric (says set s r)
 
-  abbrev IfSays : Option Source → Type 0
-  IfSays none = Unit {0}
-  IfSays (some r) = Says r
+  -- of a start nothing need be known
+  abbrev Any : Start → Type 0
+  Any a = Unit {0}
 
-  or-else : (o : Option Source) (r : Source) → IfSays o → Says r → Says (o orElse r)
-  or-else none r p q = q
-  or-else (some o) r p q = p
+  all-any : (l : List Start) → Every Any l
+  all-any [] = tt
+  all-any (a ∷ l) = (tt, all-any l)
 
-  read-numeric : (c : ℕ) (t : StageTime) → IfSays (readClip set s c t)
+  read-numeric : (c : ℕ) (t : StageTime) → IfRead Says (readClip set s c t)
   unfolding readClip says
   read-numeric c t = go (heldPlace (clipTimes s c) (mapStageToClip (set .knots) t))
     where
-      go : (o : Option ℕ) → IfSays (sampleOf c o)
+      go : (o : Option ℕ) → IfRead Says (sampleOf c o)
       go none = tt
       go (some i) = F .values (clipBegin (s .ends) c + i)
 
-  first-numeric : (l : List Start) → IfSays (firstReading set s l)
-  unfolding firstReading
-  first-numeric [] = tt
-  first-numeric (a ∷ l) = go (blockedAt set (a .time)) (readClip set s (a .clip) (stage (a .time))) (read-numeric (a .clip) (stage (a .time))) (first-numeric l)
-    where
-      go : (b : Bool) (o : Option Source) → IfSays o → IfSays (firstReading set s l) → IfSays (cond b (firstReading set s l) (elim o [ none ↦ firstReading set s l | some r ↦ some r ]))
-      go true o p q = q
-      go false none p q = q
-      go false (some r) p q = p
-
-  gap-numeric : (p : ℕ) → Says (gapSource set s p)
-  unfolding interpolateMissingValue says
-  gap-numeric p = go (set .interpolateMissing)
-    where
-      go : (b : Bool) → Says (cond b (interpolateMissingValue set s p) blocked)
-      go true = or-else (firstReading set s (reverse (take p (set .active)))) _ (first-numeric (reverse (take p (set .active)))) (or-else (firstReading set s (drop (suc p) (set .active))) blocked (first-numeric (drop (suc p) (set .active))) tt)
-      go false = tt
-
-  default-numeric : IfSays (manifestDefault set)
+  sourced : Sourced set s Says Any
   unfolding says
-  default-numeric = go (eqb (set .default .mark) markValue) (eqb→eq (set .default .mark) markValue)
-    where
-      go : (b : Bool) → (T b → set .default .mark ≡ markValue) → IfSays (cond b (some default) none)
-      go true e = F .default (e tt)
-      go false e = tt
-
-  source-numeric : (t : StageTime) (p : ℕ) (o : Option Start) → Says (sourceAt set s t p o)
-  unfolding says
-  source-numeric t p none = tt
-  source-numeric t p (some a) = or-else (ownReading set s a t) (manifestDefault set orElse gapSource set s p) (go (contributes set a)) (or-else (manifestDefault set) (gapSource set s p) default-numeric (gap-numeric p))
-    where
-      go : (b : Bool) → IfSays (cond b (readClip set s (a .clip) t) none)
-      go true = read-numeric (a .clip) t
-      go false = tt
-
-  direct-numeric : (t : StageTime) → Says (directSource set s t)
-  unfolding directSource
-  direct-numeric t = let p = activePosition (set .active) t in source-numeric t p (getElem? (set .active) p)
+  sourced = record { starts = all-any (set .active); reads = λ a t h. read-numeric (a .clip) t; default = F .default; blocked = tt; absent = tt }
 
   pub value-numeric : (t : StageTime) → Numeric (valueInSet set s t)
-  unfolding valueInSet valueSource
-  value-numeric t = go (ltb 1 (length (set .active)))
-    where
-      go : (b : Bool) → Says (cond b (directSource set s (stage (readingTime set s t))) (directSource set s t))
-      go true = direct-numeric (stage (readingTime set s t))
-      go false = direct-numeric t
+  unfolding valueInSet
+  value-numeric t = value-sourced Says Any sourced t
