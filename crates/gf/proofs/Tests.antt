@@ -16,8 +16,5 @@ differs nan = nan-differs
 differs (inf s) = number-same (inf s) (ne (inf s) (inf s)) refl refl
 differs (fin s m e) = number-same (fin s m e) (ne (fin s m e) (fin s m e)) refl refl
 
-pub is-nan : (x : Float) → ne x x ≡ true → x ≡ nan
-is-nan x e = differs-from-itself x (subst T (sym e) tt)
-
 pub not-nan : (x : Float) → ne x x ≡ false → T (not (isNan x))
 not-nan x e = subst (λ (b : Bool). T (not b)) (sym e ∙ differs x) tt

@@ -74,10 +74,10 @@ turns-by f g e lo hi t = elim t [
 -- ---- a clip's part
 
 module _ {A : Type 0} (l : List A) (ends : List ℕ) (c : ℕ) where
-  pub part-length : clipEnd ends c ≤ length l → length (part l ends c) ≡ clipEnd ends c - clipBegin ends c
+  part-length : clipEnd ends c ≤ length l → length (part l ends c) ≡ clipEnd ends c - clipBegin ends c
   part-length h = length-take-le (clipEnd ends c - clipBegin ends c) (drop (clipBegin ends c) l) (rw (length-drop (clipBegin ends c) l) (omega arith))
 
-  pub part-at : (i : ℕ) (d : A) → i < clipEnd ends c - clipBegin ends c → getD l (clipBegin ends c + i) d ≡ getD (part l ends c) i d
+  part-at : (i : ℕ) (d : A) → i < clipEnd ends c - clipBegin ends c → getD l (clipBegin ends c + i) d ≡ getD (part l ends c) i d
   part-at i d h = sym (getD-take (clipEnd ends c - clipBegin ends c) (drop (clipBegin ends c) l) i d h ∙ getD-drop (clipBegin ends c) l i d)
 
 -- of a clip of the set
