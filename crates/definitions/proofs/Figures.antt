@@ -13,7 +13,7 @@ use Rattle.definitions.specs.declared.Knot.{Knot}
 use Rattle.definitions.specs.declared.LayerOffset.{LayerOffset}
 use Rattle.definitions.specs.declared.Answer.the-variants.{Value, Blocked, Absent}
 use Rattle.definitions.specs.Doubles.{lowest, nextLower}
-use Rattle.definitions.specs.ClipSet.{ClipSet, noSet, standing, asAccepted, asRetimed, stage, clip, nanDefault, beyondLimits, equalStarts, equalKnots, badDefaultMark, activeTimes}
+use Rattle.definitions.specs.ClipSet.{ClipSet, noSet, standing, stage, clip, nanDefault, beyondLimits, equalStarts, equalKnots, badDefaultMark, activeTimes}
 use Rattle.definitions.specs.Explicit.{ExplicitFields, explicitSet, explicitNumber, explicit1, explicit2, explicit3}
 use Rattle.definitions.specs.Names.{beforeHash, hashRun, withFraction, split, readable, digits, placesBy, places, padded, wholeBody, decimals, fractionBody, format, name, nameNumber}
 use Rattle.definitions.specs.Template.{TemplateFields, timesUnstorable, timesDisordered, repeated, promoted, activations, templateSet, templateNumber, template1, template2, template6, template7, template8}
@@ -205,7 +205,7 @@ abbrev retimedBy : Float → Float → ExplicitFields → ClipSet
 retimedBy by scale f = retimeStageTimes (offset by scale) (explicitSet f)
 
 abbrev retimingOf : Float → Float → ExplicitFields → ℕ
-retimingOf by scale f = retimeNumber (standing (asAccepted (explicitSet f))) (offset by scale)
+retimingOf by scale f = retimeNumber (standing (explicitSet f)) (offset by scale)
 
 abbrev clipsOf : TemplateFields → ℕ
 clipsOf f = templateSet f .clips
@@ -288,11 +288,7 @@ examples-table =
     ∷ eqb (retimingOf (n 0) (neg (n 1)) jumping) 0
     ∷ sameTimes (xs (retimedBy (n 0) (neg (n 1)) jumping)) (-n 20 ∷ -n 10 ∷ -n 10 ∷ n 0 ∷ [])
     ∷ sameTimes (ys (retimedBy (n 0) (neg (n 1)) jumping)) (n 10 ∷ n 10 ∷ n 0 ∷ n 0 ∷ [])
-    -- calls: an identity counts as the retiming; a refused one does not, nor changes what stands; an acceptance replaces all
     ∷ eqb (retimeNumber (after []) (offset (n 0) (n 1))) 20
-    ∷ eqb (retimeNumber (after (explicit two ∷ retime (offset (n 0) (n 1)) ∷ [])) (offset (n 0) (n 1))) 21
-    ∷ eqb (retimeNumber (after (explicit two ∷ retime (offset nan (n 1)) ∷ [])) (offset (n 0) (n 1))) 0
-    ∷ eqb (retimeNumber (after (explicit two ∷ retime (offset (n 0) (n 1)) ∷ explicit jumping ∷ [])) (offset (n 0) (n 1))) 0
     -- templates: the order 1, 2, 7, 6, 8, 2, 4, 5, 9; the slack of 0.5; an absent offset's slot; a stride that does not move t, and a huge one
     ∷ eqb (templateNumber (templated "f.usd" (n 1) (n 3) (n 0) false (n 0))) 7
     ∷ eqb (templateNumber (templated "f.usd" (n 1) (n 3) (n 1) false nan)) 6
@@ -324,9 +320,9 @@ examples-table =
     ∷ eqb (explicitNumber (fields 1 (nextHigher (n 1099511627776) ∷ []) (n 0 ∷ []) [] [])) 2
     -- questions: 20, then the samples' numbers, then 10
     ∷ isRefused (askValue noSet one-samples (stage nan)) 20
-    ∷ isRefused (askValue (standing (asAccepted (explicitSet one))) gap-samples (stage nan)) 1
-    ∷ isRefused (askValue (standing (asAccepted (explicitSet one))) one-samples (stage nan)) 10
-    ∷ not (isRefused (askValue (standing (asRetimed (explicitSet one))) one-samples (stage greatest)) 10)
+    ∷ isRefused (askValue (standing (explicitSet one)) gap-samples (stage nan)) 1
+    ∷ isRefused (askValue (standing (explicitSet one)) one-samples (stage nan)) 10
+    ∷ not (isRefused (askValue (standing (explicitSet one)) one-samples (stage greatest)) 10)
     -- neighbours: zero is one double, the lowest is -f64::MAX; in the total order the zeros are two
     ∷ same lowest (neg (n (2 ^ 1024 - 2 ^ 971)))
     ∷ same (nextLower (frac 1 (2 ^ 1074))) (n 0)
@@ -364,7 +360,7 @@ record Figures : Type 0 where
   wrong : fails wrong-table ≡ true
   examples : holds examples-table ≡ true
   -- demand 3's premises can be met: a list of calls, refused ones among them, after which a set stands; its samples are accepted by a row of the table
-  stands-after : after (retime (offset (n 0) (n 1)) ∷ explicit falling ∷ explicit (fields 2 (n 0 ∷ -n 0 ∷ []) (n 0 ∷ n 1 ∷ []) [] []) ∷ bake falling-samples noRoom ∷ []) ≡ standing (asAccepted (explicitSet falling))
+  stands-after : after (retime (offset (n 0) (n 1)) ∷ explicit falling ∷ explicit (fields 2 (n 0 ∷ -n 0 ∷ []) (n 0 ∷ n 1 ∷ []) [] []) ∷ bake falling-samples noRoom ∷ []) ≡ standing (explicitSet falling)
 
 computed : Figures
 unfolding

@@ -1,6 +1,6 @@
 -- The order of the numbers, computed by the definitions: for each operation and each two neighbours of its chain a call to which both apply, and the
--- number that it gets, which is the first. Two neighbours have no row, since they can't meet: 20 and 21 (no set stands, or one does), and a template's second
--- 2 and its 4 (argued in docs/DECISIONS.md, "Acceptance and numbers"). Assumes nothing.
+-- number that it gets, which is the first. Two neighbours have no row, since they can't meet: a template's second 2 and its 4
+-- (argued in docs/DECISIONS.md, "Acceptance and numbers"). Assumes nothing.
 use mathlib.Core.Path.{_≡_, refl}
 use Prim.Native.Nat.{ℕ, zero, suc, _+_}
 use Prim.Native.String.{String}
@@ -14,7 +14,7 @@ use lib.Ieee.Scale.{finite}
 use Rattle.gf.specs.Doubles.{within, key, ofKey, lerp, share, abs, isWhole, truncated, isClipNumber, signBit, totalKey, storable}
 use Rattle.definitions.specs.declared.LayerOffset.{LayerOffset}
 use Rattle.definitions.specs.Doubles.{lowest, nextLower}
-use Rattle.definitions.specs.ClipSet.{ClipSet, Model, noSet, standing, asAccepted, asRetimed, stage, clip, nanDefault, beyondLimits, equalStarts, equalKnots, badDefaultMark}
+use Rattle.definitions.specs.ClipSet.{ClipSet, Model, noSet, standing, stage, clip, nanDefault, beyondLimits, equalStarts, equalKnots, badDefaultMark}
 use Rattle.definitions.specs.Explicit.{ExplicitFields, explicitSet, explicitNumber, explicit1, explicit2, explicit3}
 use Rattle.definitions.specs.Names.{beforeHash, hashRun, withFraction, split, readable, digits, placesBy, places, padded, wholeBody, decimals, fractionBody, format, name, nameNumber}
 use Rattle.definitions.specs.Template.{TemplateFields, timesUnstorable, timesDisordered, repeated, promoted, activations, templateSet, templateNumber, template1, template2, template6, template7, template8}
@@ -25,7 +25,7 @@ use Rattle.definitions.specs.Value.{says, blockedAt, contributes, readCl
 use Rattle.definitions.specs.StageSamples.{dropEqual, dedup, stageSampleTimes, suppliedAt, stageSamples, anySamples, untimedAnswer}
 use Rattle.definitions.specs.Normalize.{timeSamples, merge, mergeEqual, normalizeTimeSamples, normalizeNumber}
 use Rattle.definitions.specs.Track.{bakeNumber}
-use Rattle.definitions.specs.Questions.{Reply, refused, replied, askActiveClip, askClipTime, askValue, askStageSampleTimes, askStageSamples, askStageSampleCount, askUntimed, clipTimesNumber}
+use Rattle.definitions.specs.Questions.{numberOf, askActiveClip, askClipTime, askValue, askStageSampleTimes, askStageSamples, askStageSampleCount, askUntimed, clipTimesNumber}
 use Rattle.definitions.proofs.Sets.{n, frac, bytes, holds, fields, templated, noDefault, two, one}
 
 -- ---- how a row is written: both tests hold of the call, and it gets this number
@@ -38,10 +38,6 @@ ofExplicit a b f number = row (a f) (b f) (explicitNumber f) number
 
 abbrev ofTemplate : (TemplateFields → Bool) → (TemplateFields → Bool) → TemplateFields → ℕ → Bool
 ofTemplate a b f number = row (a f) (b f) (templateNumber f) number
-
-abbrev numberOf : {A : Type 0} → Reply A → ℕ
-numberOf (refused k) = k
-numberOf (replied a) = 0
 
 abbrev repeat : ℕ → ℕ → List ℕ
 repeat zero b = []
@@ -120,7 +116,7 @@ ys = n 0 ∷ n 1 ∷ n 2 ∷ []
 
 -- the set of two starts, as it was accepted
 abbrev stands : ExplicitFields → Model
-stands f = standing (asAccepted (explicitSet f))
+stands f = standing (explicitSet f)
 
 -- two starts and three knots, which a scale of 0 makes one
 abbrev rows : ExplicitFields
@@ -158,9 +154,8 @@ table =
     ∷ ofTemplate template8 expanded2 (templated "#" (n 1099511627775) (n 1099511627776) (frac 1 1000) true (frac 1 1000)) 8
     ∷ ofTemplate template4 template5 (templated "#" (crowded 2) (crowded 3) (frac 1 10000) true (frac 1 10000000000)) 4
     ∷ ofTemplate template5 template9 (written (bytes "#") 3 (templated "#" (n 1) (n 1) (n 1) true (n 0))) 5
-    -- a retiming: 20, 21, 2, 2, 4, 5
+    -- a retiming: 20, 2, 2, 4, 5
     ∷ row true (not (finite nan)) (retimeNumber noSet (by nan (n 1))) 20
-    ∷ row true (not (finite nan)) (retimeNumber (standing (asRetimed (explicitSet two))) (by nan (n 1))) 21
     ∷ row (beyondLimits (retimeStageTimes (by (n 2199023255552) (n 0)) (explicitSet two))) (equalStarts (retimeStageTimes (by (n 2199023255552) (n 0)) (explicitSet two))) (retimeNumber (stands two) (by (n 2199023255552) (n 0))) 2
     ∷ row (equalStarts (retimeStageTimes (by (n 0) (n 0)) (explicitSet rows))) (equalKnots (retimeStageTimes (by (n 0) (n 0)) (explicitSet rows))) (retimeNumber (stands rows) (by (n 0) (n 0))) 4
     -- samples: 1, 2, 9

@@ -211,7 +211,7 @@ gives-values v o r p (track, is, enough, short) = (
 )
 
 due-values : (m : Model) (s : Samples) (o : Outputs) (r : Reply Baked) (p : Outputs) → Due m s o r p → DueValues m s o r p
-due-values m s o r p d st e z = gives-values (valueInSet (st .set) s) o r p (d st e z)
+due-values m s o r p d set e z = gives-values (valueInSet set s) o r p (d set e z)
 
 pub whole-list-values : {State : Type 0} (fresh : State) (Moves : Call → State → State → Type 0) (Replies : State → Samples → Outputs → Reply Baked → Outputs → Type 0)
     → WholeList fresh Moves Replies → WholeListValues fresh Moves Replies

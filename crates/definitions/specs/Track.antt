@@ -130,4 +130,4 @@ writeTrack track o = record {
 -- 20, then the samples' 1, 2 and 9, then 22, which "means precisely fewer slots than changes": `count` is the track's
 unfoldable pub bakeNumber : Model → Samples → (room count : ℕ) → ℕ
 bakeNumber noSet s room count = 20
-bakeNumber (standing st) s room count = samplesNumber (st .set) s then 22 if ltb room count else 0
+bakeNumber (standing set) s room count = samplesNumber set s then 22 if ltb room count else 0

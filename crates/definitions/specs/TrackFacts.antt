@@ -9,7 +9,7 @@ use Rattle.definitions.specs.declared.StageTime.{StageTime}
 use Rattle.definitions.specs.declared.Answer.{Answer}
 use Rattle.definitions.specs.Lists.{countFrom}
 use Rattle.definitions.specs.Doubles.{FiniteDouble}
-use Rattle.definitions.specs.ClipSet.{Model, Standing, noSet, standing}
+use Rattle.definitions.specs.ClipSet.{ClipSet, Model, noSet, standing}
 use Rattle.definitions.specs.Samples.{Samples, samplesNumber}
 use Rattle.definitions.specs.Value.{valueInSet}
 use Rattle.definitions.specs.Track.{alike, Track, Outputs, slots, valueAt, differs}
@@ -41,7 +41,7 @@ module _ (v : StageTime → Answer) where
 
 -- Demand 3 in these words
 abbrev pub DueValues : Model → Samples → Outputs → Reply Baked → Outputs → Type 0
-DueValues m s o r p = (st : Standing) → m ≡ standing st → samplesNumber (st .set) s ≡ 0 → GivesValues (valueInSet (st .set) s) o r p
+DueValues m s o r p = (set : ClipSet) → m ≡ standing set → samplesNumber set s ≡ 0 → GivesValues (valueInSet set s) o r p
 
 abbrev pub WholeListValues : {State : Type 0} → State → (Call → State → State → Type 0) → (State → Samples → Outputs → Reply Baked → Outputs → Type 0) → Type 0
 WholeListValues fresh Moves Replies = WholeListOf noSet step fresh Moves Replies DueValues

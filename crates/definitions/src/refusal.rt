@@ -23,6 +23,4 @@ pub const TIME_NOT_FINITE: u8 = 10;
 
 pub const NO_SET: u8 = 20;
 
-pub const ALREADY_RETIMED: u8 = 21;
-
 pub const NO_ROOM: u8 = 22;

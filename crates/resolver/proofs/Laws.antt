@@ -11,7 +11,7 @@ use mathlib.Core.Option.{Option, none, some}
 use lib.Ieee.{Float}
 use lib.Ieee.Scale.{finite}
 use Rattle.definitions.specs.declared.LayerOffset.{LayerOffset}
-use Rattle.definitions.specs.ClipSet.{ClipSet, Model, Standing, noSet, standing, asAccepted, asRetimed}
+use Rattle.definitions.specs.ClipSet.{ClipSet, Model, noSet, standing}
 use Rattle.definitions.specs.Explicit.{ExplicitFields, explicitNumber, explicitSet}
 use Rattle.definitions.specs.Template.{TemplateFields, templateNumber, templateSet}
 use Rattle.definitions.specs.Retime.{movedNumber, retimeNumber, retimeStageTimes}
@@ -34,7 +34,7 @@ use Rattle.laws.proofs.cell.Tracks.{track-is}
 use Rattle.laws.proofs.cell.StageTimes.{stage-sample-times}
 use Rattle.track.specs.declared.bake.Baked.{Baked}
 use Rattle.track.specs.Bakes.{trackOf, bakeCode, BakeIs}
-use Rattle.track.proofs.Bakes.{bakes}
+use Rattle.track.proofs.Bakes.{same-standing, bakes}
 use Rattle.definitions.specs.Calls.{step, accepted, retimed, bakedOf, outputsAfter, Bakes, CountsChanges}
 use Rattle.laws.specs.list.Places.{Ascending}
 use Rattle.laws.specs.set.Sound.{Sound, SoundModel}
@@ -55,7 +55,7 @@ use Rattle.standing.specs.declared.Counts.{Counts}
 use Rattle.standing.specs.Standing.{setIn, Installed, Unpacked, Packed, Asked, lentSet, answered}
 use Rattle.sdf.specs.Counted.{counted, listed, itself}
 use Rattle.standing.specs.Lists.{timeOf, markIn, ListsTimes, ListsSamples}
-use Rattle.resolver.specs.State.{standingIn, model, Made, lentState}
+use Rattle.resolver.specs.State.{model, Made, lentState}
 use Rattle.resolver.specs.Promises.{Accepts, Expands, Retimes, BakesTrack, TellsTimes, TellsSamples, countCode, TellsChangeCount, Installable, Installs}
 
 -- ---- installing
@@ -72,40 +72,40 @@ accepted-same : (n m : ℕ) (before a b : Model) → n ≡ m → (n ≡ 0 → a 
 accepted-same zero m c a b e h = h refl ∙ accepted-granted m c b (sym e)
 accepted-same (suc n) m c a b e h = ap (λ (k : ℕ). accepted k c b) e
 
-pub installs-not : (d : Resolver) (p : Prepared) (b : Bool) → Made d → (p .number ≡ 0 → ⊥) → Installs d p b (record { number = p .number; resolver = d })
-installs-not d p b m h = record { number = refl; kept = λ n. refl; after = accepted-refused (p .number) (model d) (standing (record { set = clipSetOf (p .set); retimed = b })) h; made = m }
+pub installs-not : (d : Resolver) (p : Prepared) → Made d → (p .number ≡ 0 → ⊥) → Installs d p (record { number = p .number; resolver = d })
+installs-not d p m h = record { number = refl; kept = λ n. refl; after = accepted-refused (p .number) (model d) (standing (clipSetOf (p .set))) h; made = m }
 
-pub installs : (d : Resolver) (p : Prepared) (b : Bool) (set : StandingSet) → Installable p → p .number ≡ 0 → Installed (p .set) set → Installs d p b (record { number = 0; resolver = record { stands = true; retimed = b; set = set } })
-installs d p b set i e q = record {
+pub installs : (d : Resolver) (p : Prepared) (set : StandingSet) → Installable p → p .number ≡ 0 → Installed (p .set) set → Installs d p (record { number = 0; resolver = record { stands = true; set = set } })
+installs d p set i e q = record {
   number = sym e;
   kept = λ n. absurd (n refl);
-  after = ap (λ (x : ClipSet). standing (record { set = x; retimed = b })) (q .is) ∙ accepted-granted (p .number) (model d) (standing (record { set = clipSetOf (p .set); retimed = b })) e;
+  after = ap standing (q .is) ∙ accepted-granted (p .number) (model d) (standing (clipSetOf (p .set))) e;
   made = record { whole = q .whole; sound = subst Sound (sym (q .is)) (i .sound) };
 }
 
-pub unpacks : (d : Resolver) (p : Prepared) (b : Bool) {c : Counts} {starts : List Float} {numbers : List ℕ} {xs ys blocks : List Float} → Installable p → p .number ≡ 0 → Unpacked (p .set) c starts numbers xs ys blocks
-    → Installs d p b (record { number = 0; resolver = lentState (record { stands = true; retimed = b; clips = p .set .clips; counts = c; manifest = manifestOf (p .set) }) starts numbers xs ys blocks })
-unpacks d p b i e u = installs d p b _ i e (record { whole = u .whole; is = u .is })
+pub unpacks : (d : Resolver) (p : Prepared) {c : Counts} {starts : List Float} {numbers : List ℕ} {xs ys blocks : List Float} → Installable p → p .number ≡ 0 → Unpacked (p .set) c starts numbers xs ys blocks
+    → Installs d p (record { number = 0; resolver = lentState (record { stands = true; clips = p .set .clips; counts = c; manifest = manifestOf (p .set) }) starts numbers xs ys blocks })
+unpacks d p i e u = installs d p _ i e (record { whole = u .whole; is = u .is })
 
 -- ---- acceptance
 
-pub accepts : (d : Resolver) (f : ExplicitFields) (p : Prepared) (r : Accepted) → parsing.Parses f p → Installs d p false r → Accepts d f r
+pub accepts : (d : Resolver) (f : ExplicitFields) (p : Prepared) (r : Accepted) → parsing.Parses f p → Installs d p r → Accepts d f r
 unfolding step
 accepts d f p r q i = record {
   number = i .number ∙ q .reply .number;
   kept = i .kept;
-  after = i .after ∙ accepted-same (p .number) (explicitNumber f) (model d) (standing (asAccepted (clipSetOf (p .set)))) (standing (asAccepted (explicitSet f))) (q .reply .number)
-      (λ e. ap (λ (x : ClipSet). standing (asAccepted x)) (made-is emptySet (explicitSet f) p (explicitNumber f) q e));
+  after = i .after ∙ accepted-same (p .number) (explicitNumber f) (model d) (standing (clipSetOf (p .set))) (standing (explicitSet f)) (q .reply .number)
+      (λ e. ap standing (made-is emptySet (explicitSet f) p (explicitNumber f) q e));
   made = i .made;
 }
 
-pub expands : (d : Resolver) (f : TemplateFields) (p : Prepared) (r : Accepted) → expanding.Expands f p → Installs d p false r → Expands d f r
+pub expands : (d : Resolver) (f : TemplateFields) (p : Prepared) (r : Accepted) → expanding.Expands f p → Installs d p r → Expands d f r
 unfolding step
 expands d f p r q i = record {
   number = i .number ∙ q .reply .number;
   kept = i .kept;
-  after = i .after ∙ accepted-same (p .number) (templateNumber f) (model d) (standing (asAccepted (clipSetOf (p .set)))) (standing (asAccepted (templateSet f))) (q .reply .number)
-      (λ e. ap (λ (x : ClipSet). standing (asAccepted x)) (made-is emptySet (templateSet f) p (templateNumber f) q e));
+  after = i .after ∙ accepted-same (p .number) (templateNumber f) (model d) (standing (clipSetOf (p .set))) (standing (templateSet f)) (q .reply .number)
+      (λ e. ap standing (made-is emptySet (templateSet f) p (templateNumber f) q e));
   made = i .made;
 }
 
@@ -113,10 +113,10 @@ expands d f p r q i = record {
 
 -- what stands, by the flags
 none-stands : (d : Resolver) → d .stands ≡ false → model d ≡ noSet
-none-stands d e = ap (λ (b : Bool). cond b (standing (standingIn d)) noSet) e
+none-stands d e = ap (λ (b : Bool). cond b (standing (setIn (d .set))) noSet) e
 
-stands-as : (d : Resolver) → d .stands ≡ true → model d ≡ standing (standingIn d)
-stands-as d e = ap (λ (x : Bool). cond x (standing (standingIn d)) noSet) e
+stands-as : (d : Resolver) → d .stands ≡ true → model d ≡ standing (setIn (d .set))
+stands-as d e = ap (λ (x : Bool). cond x (standing (setIn (d .set))) noSet) e
 
 pub stands-sound : (d : Resolver) → Made d → d .stands ≡ true → Sound (setIn (d .set))
 stands-sound d m e = subst SoundModel (stands-as d e) (m .sound)
@@ -143,23 +143,15 @@ pub retimes-20 : (d : Resolver) (o : LayerOffset) → Made d → d .stands ≡ f
 unfolding retimeNumber
 retimes-20 d o m e = refused-retime d o 20 m (sym (ap (λ (x : Model). retimeNumber x o) (none-stands d e))) (λ z. omega arith)
 
--- by the mark of the set that stands
-marked-number : (d : Resolver) (o : LayerOffset) (b : Bool) → d .stands ≡ true → d .retimed ≡ b → (21 if b else movedNumber (setIn (d .set)) o) ≡ retimeNumber (model d) o
-unfolding retimeNumber
-marked-number d o b e f = ap (λ (x : Bool). 21 if x else movedNumber (setIn (d .set)) o) (sym f) ∙ sym (ap (λ (x : Model). retimeNumber x o) (stands-as d e))
-
-pub retimes-21 : (d : Resolver) (o : LayerOffset) → Made d → d .stands ≡ true → d .retimed ≡ true → Retimes d o (record { number = 21; resolver = d })
-retimes-21 d o m e f = refused-retime d o 21 m (marked-number d o true e f) (λ z. omega arith)
-
-pub retimes : (d : Resolver) (o : LayerOffset) (set : clip.ClipSet) (p : Prepared) (r : Accepted) → d .stands ≡ true → d .retimed ≡ false → Packed (setIn (d .set)) set → sets.Retimes set o p → Installs d p true r → Retimes d o r
-unfolding step
-retimes d o set p r e f k q i =
-    let n : p .number ≡ retimeNumber (model d) o = q .reply .number ∙ ap (λ (x : ClipSet). movedNumber x o) (k .is) ∙ marked-number d o false e f in
+pub retimes : (d : Resolver) (o : LayerOffset) (set : clip.ClipSet) (p : Prepared) (r : Accepted) → d .stands ≡ true → Packed (setIn (d .set)) set → sets.Retimes set o p → Installs d p r → Retimes d o r
+unfolding step retimeNumber
+retimes d o set p r e k q i =
+    let n : p .number ≡ retimeNumber (model d) o = q .reply .number ∙ ap (λ (x : ClipSet). movedNumber x o) (k .is) ∙ sym (ap (λ (x : Model). retimeNumber x o) (stands-as d e)) in
     record {
       number = i .number ∙ n;
       kept = i .kept;
-      after = i .after ∙ accepted-same (p .number) (retimeNumber (model d) o) (model d) (standing (asRetimed (clipSetOf (p .set)))) (retimed o (model d)) n
-          (λ z. ap (λ (x : ClipSet). standing (asRetimed x)) (made-is (clipSetOf set) (retimeStageTimes o (clipSetOf set)) p (movedNumber (clipSetOf set) o) q z ∙ ap (retimeStageTimes o) (k .is)) ∙ sym (ap (retimed o) (stands-as d e)));
+      after = i .after ∙ accepted-same (p .number) (retimeNumber (model d) o) (model d) (standing (clipSetOf (p .set))) (retimed o (model d)) n
+          (λ z. ap standing (made-is (clipSetOf set) (retimeStageTimes o (clipSetOf set)) p (movedNumber (clipSetOf set) o) q z ∙ ap (retimeStageTimes o) (k .is)) ∙ sym (ap (retimed o) (stands-as d e)));
       made = i .made;
     }
 
@@ -214,9 +206,6 @@ module _ {A : Type 0} (s : Samples) (a : ClipSet → A) (d : Resolver) (e : d .s
 pub judged-number : (d : Resolver) {times values : List Float} {marks ends : List ℕ} {n : ℕ} → Judged (d .set .clips) times values marks ends n → n ≡ samplesNumber (setIn (d .set)) (samplesOf times values marks ends)
 judged-number d j = j .number (setIn (d .set)) (unfold setOf in refl)
 
-same-standing : (a b : Standing) → standing a ≡ standing b → a ≡ b
-same-standing a b p = cc
-
 -- what the operation has shown, where the samples are accepted
 module _ (d : Resolver) {times values : List Float} {marks ends : List ℕ} {n : ℕ} (m : Made d) (e : d .stands ≡ true) (j : Judged (d .set .clips) times values marks ends n) (z : n ≡ 0) where
   is-accepted : AcceptedSamples (setIn (d .set)) (samplesOf times values marks ends)
@@ -254,7 +243,7 @@ module _ (d : Resolver) {times values : List Float} {marks ends : List ℕ} {n :
       record {
         reply = reply (roomNumber (slots before) (length (trackOf (setIn (d .set)) s .changes))) (bakedOf (trackOf (setIn (d .set)) s));
         bakes = subst (λ (x : Model). Bakes x s before (reply (roomNumber (slots before) (length (trackOf (setIn (d .set)) s .changes))) (bakedOf (trackOf (setIn (d .set)) s))) after) (sym (stands-as d e))
-            (bakes (standingIn d) s (sound-set (setIn (d .set)) sound) (sound-samples (setIn (d .set)) s is-accepted)
+            (bakes (setIn (d .set)) s (sound-set (setIn (d .set)) sound) (sound-samples (setIn (d .set)) s is-accepted)
             (sound-values (setIn (d .set)) s sound is-accepted (j .values-fit)) (sym (judged-number d j) ∙ z) before after r q);
         code = q .replies;
       }
@@ -267,7 +256,7 @@ module _ (d : Resolver) {times values : List Float} {marks ends : List ℕ} {n :
       let track = trackOf (setIn (d .set)) s in
       subst (λ (x : Model). CountsChanges x s (replied n)) (sym (stands-as d e)) (record {
         track = track;
-        is = λ st p k. subst (λ (x : Standing). TrackOf (valueInSet (x .set) s) (trackOf (setIn (d .set)) s)) (same-standing (standingIn d) st p)
+        is = λ set p k. subst (λ (x : ClipSet). TrackOf (valueInSet x s) (trackOf (setIn (d .set)) s)) (same-standing (setIn (d .set)) set p)
             (track-is (setIn (d .set)) s (sound-set (setIn (d .set)) sound) (sound-samples (setIn (d .set)) s is-accepted) (sound-values (setIn (d .set)) s sound is-accepted (j .values-fit)));
         replies = ap replied (q ∙ ap (λ (x : ClipSet). length (trackOf x s .changes)) lent-is) ∙ ap (λ (k : ℕ). reply k (length (trackOf (setIn (d .set)) s .changes))) (sym (sym (judged-number d j) ∙ z));
       })
@@ -294,7 +283,7 @@ noTrack = record { initial = record { value = 0·0; mark = 0 }; changes = [] }
 pub bakes-20 : (d : Resolver) (s : Samples) (o : Outputs) → d .stands ≡ false → Bakes (model d) s o (refused 20) o
 bakes-20 d s o e = subst (λ (m : Model). Bakes m s o (refused 20) o) (sym (none-stands d e)) (record {
   track = noTrack;
-  is = λ st q. other (cc);
+  is = λ set q. other (cc);
   replies = unfold bakeNumber in refl;
   writes = unfold bakeNumber in refl;
 })
@@ -302,19 +291,16 @@ bakes-20 d s o e = subst (λ (m : Model). Bakes m s o (refused 20) o) (sym (none
 pub bakes-refused : (d : Resolver) (s : Samples) (o : Outputs) (n : ℕ) → d .stands ≡ true → n ≡ samplesNumber (setIn (d .set)) s → (n ≡ 0 → ⊥) → Bakes (model d) s o (refused n) o
 bakes-refused d s o n e q h = subst (λ (m : Model). Bakes m s o (refused n) o) (sym (stands-as d e)) (record {
   track = noTrack;
-  is = λ st p z. absurd (h (q ∙ ap (λ (x : Standing). samplesNumber (x .set) s) (same st p) ∙ z));
+  is = λ set p z. absurd (h (q ∙ ap (λ (x : ClipSet). samplesNumber x s) (same-standing (setIn (d .set)) set p) ∙ z));
   replies = refuses n h ∙ ap (λ (m : ℕ). reply m (bakedOf noTrack)) number-is;
   writes = keeps n h ∙ ap (λ (m : ℕ). outputsAfter m noTrack o) number-is;
 })
   where
-    same : (st : Standing) → standing (standingIn d) ≡ standing st → standingIn d ≡ st
-    same st p = cc
-
     kept : (m k : ℕ) → (m ≡ 0 → ⊥) → m ≡ (m then k)
     kept zero k g = absurd (g refl)
     kept (suc m) k g = refl
 
-    number-is : n ≡ bakeNumber (standing (standingIn d)) s (slots o) 0
+    number-is : n ≡ bakeNumber (standing (setIn (d .set))) s (slots o) 0
     number-is = unfold bakeNumber in kept n (22 if ltb (slots o) 0 else 0) h ∙ ap (λ (m : ℕ). m then 22 if ltb (slots o) 0 else 0) q
 
     refuses : (m : ℕ) → (m ≡ 0 → ⊥) → refused m ≡ reply m (bakedOf noTrack)
@@ -332,12 +318,12 @@ bakes-code {n = n} k e = record { reply = refused n; bakes = k; code = e }
 -- ---- the count of the changes, where it is refused
 
 pub counts-20 : (d : Resolver) (s : Samples) → d .stands ≡ false → CountsChanges (model d) s (refused 20)
-counts-20 d s e = subst (λ (m : Model). CountsChanges m s (refused 20)) (sym (none-stands d e)) (record { track = noTrack; is = λ st q. other (cc); replies = refl })
+counts-20 d s e = subst (λ (m : Model). CountsChanges m s (refused 20)) (sym (none-stands d e)) (record { track = noTrack; is = λ set q. other (cc); replies = refl })
 
 pub counts-refused : (d : Resolver) (s : Samples) (n : ℕ) → d .stands ≡ true → n ≡ samplesNumber (setIn (d .set)) s → (n ≡ 0 → ⊥) → CountsChanges (model d) s (refused n)
 counts-refused d s n e q h = record {
   track = noTrack;
-  is = λ st p z. absurd (h (q ∙ ap (λ (x : Standing). samplesNumber (x .set) s) (same-standing (standingIn d) st (sym (stands-as d e) ∙ p)) ∙ z));
+  is = λ set p z. absurd (h (q ∙ ap (λ (x : ClipSet). samplesNumber x s) (same-standing (setIn (d .set)) set (sym (stands-as d e) ∙ p)) ∙ z));
   replies = plainly-refused s (λ (x : ClipSet). 0) d e n q h;
 }
 
@@ -359,7 +345,7 @@ pub times-refused : (d : Resolver) (s : Samples) (before : List Float) (r : Coun
 times-refused d s before r n (e, f) h q = record {
   count = counted-refused r n e f ∙ ap counted q;
   times = ap (λ (x : Reply (List Float)). listed itself x before) q;
-  are = λ st p z. absurd (h (sym e ∙ z));
+  are = λ set p z. absurd (h (sym e ∙ z));
 }
 
 -- where it is replied to, the list stands at the front
@@ -381,11 +367,8 @@ times-replied d s l l′ before after r e p q b are =
     record {
       count = k .count ∙ ap counted q;
       times = k .times ∙ ap (λ (x : Reply (List Float)). listed itself x before) q;
-      are = λ st m z. subst (λ (x : Standing). StageSampleTimesAre (x .set) (take (r .count) after)) (same st (sym (stands-as d b) ∙ m)) (subst (StageSampleTimesAre (setIn (d .set))) (sym (list-written l′ before after r k z)) are);
+      are = λ set m z. subst (λ (x : ClipSet). StageSampleTimesAre x (take (r .count) after)) (same-standing (setIn (d .set)) set (sym (stands-as d b) ∙ m)) (subst (StageSampleTimesAre (setIn (d .set))) (sym (list-written l′ before after r k z)) are);
     }
-  where
-    same : (st : Standing) → standing (standingIn d) ≡ standing st → standingIn d ≡ st
-    same st p = cc
 
 pub list-refused : (d : Resolver) (s : Samples) (ts : List Float) (ms : List ℕ) (r : Counted) (n : ℕ) → (r .number ≡ n) × (r .count ≡ 0) → refused n ≡ askStageSamples (model d) s (min (length ts) (length ms)) → TellsSamples d s ts ts ms ms r
 list-refused d s ts ms r n (e, f) q = record {

@@ -4,7 +4,7 @@ use mathlib.Core.Path.{_≡_, refl, sym, ap, _∙_, subst}
 use Prim.Native.Nat.{ℕ, _≤_, _<_}
 use lib.ListN.{length}
 use borrow.Author.Tests.{lt-ltb, le-ltb}
-use Rattle.definitions.specs.ClipSet.{Model, Standing, noSet, standing}
+use Rattle.definitions.specs.ClipSet.{ClipSet, Model, noSet, standing}
 use Rattle.definitions.specs.Samples.{Samples, samplesNumber}
 use Rattle.definitions.specs.Questions.{Reply, reply}
 use Rattle.definitions.specs.Track.{Outputs, slots, bakeNumber}
@@ -15,13 +15,14 @@ use Rattle.track.proofs.Bakes.{code-read}
 use Rattle.definitions.proofs.WholeList as any
 use Rattle.definitions.proofs.WholeList.{whole-list}
 use Rattle.definitions.proofs.TrackFacts.{whole-list-values}
+use Rattle.definitions.proofs.Retimings.{whole-list-retimed}
 use Rattle.resolver.specs.declared.Resolver.{Resolver}
 use Rattle.resolver.specs.State.{model, Made}
 use Rattle.resolver.specs.Promises.{Begins, BakesTrack}
-use Rattle.resolver.specs.WholeList.{Moves, Replies, Demand3, Demand3Values}
+use Rattle.resolver.specs.WholeList.{Moves, Replies, Demand3, Demand3Values, Demand3Retimed}
 
 -- the bake's number where the samples are accepted: 0 with room enough, else 22
-module _ (m : Model) (st : Standing) (e : m ≡ standing st) (s : Samples) (z : samplesNumber (st .set) s ≡ 0) (room count : ℕ) where
+module _ (m : Model) (set : ClipSet) (e : m ≡ standing set) (s : Samples) (z : samplesNumber set s ≡ 0) (room count : ℕ) where
   pub enough : count ≤ room → bakeNumber m s room count ≡ 0
   unfolding bakeNumber
   enough h = rw (e, bakeNumber, z, le-ltb room count h)
@@ -36,11 +37,11 @@ pub by-number : (m : Model) (s : Samples) (o : Outputs) (r : Reply Baked) (p : O
 by-number m s o r p k n h = (k .replies ∙ ap (λ (n : ℕ). reply n (bakedOf (k .track))) h, k .writes ∙ ap (λ (n : ℕ). outputsAfter n (k .track) o) h)
 
 due : (m : Model) (s : Samples) (o : Outputs) (r : Reply Baked) (p : Outputs) → Bakes m s o r p → Due m s o r p
-due m s o r p k st e z = (
+due m s o r p k set e z = (
   k .track,
-  k .is st e z,
-  λ h. by-number m s o r p k 0 (enough m st e s z (slots o) (length (k .track .changes)) h),
-  λ h. by-number m s o r p k 22 (short m st e s z (slots o) (length (k .track .changes)) h),
+  k .is set e z,
+  λ h. by-number m s o r p k 0 (enough m set e s z (slots o) (length (k .track .changes)) h),
+  λ h. by-number m s o r p k 22 (short m set e s z (slots o) (length (k .track .changes)) h),
 )
 
 -- the reply that the code stands for, read from the struct
@@ -73,3 +74,6 @@ demand-3 fresh b =
 
 pub demand-3-values : Demand3Values
 demand-3-values fresh b = whole-list-values fresh Moves Replies (demand-3 fresh b)
+
+pub demand-3-retimed : Demand3Retimed
+demand-3-retimed fresh b = whole-list-retimed fresh Moves Replies (demand-3 fresh b)

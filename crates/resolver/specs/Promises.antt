@@ -1,6 +1,5 @@
 -- What each operation promises: its number for every argument, what stands after it, what it replies, and what every lent list holds. Assumes nothing.
 use mathlib.Core.Path.{_≡_}
-use mathlib.Core.Bool.{Bool}
 use mathlib.Core.Option.{Option, none, some}
 use Prim.Native.Nat.{ℕ, min}
 use mathlib.Core.List.{List}
@@ -12,7 +11,7 @@ use Rattle.definitions.specs.declared.ClipTime.{ClipTime}
 use Rattle.definitions.specs.Questions.{Reply, refused, replied, askActiveClip, askClipTime, askValue, askUntimed, askStageSampleTimes, askStageSamples, askStageSampleCount}
 use Rattle.definitions.specs.declared.Answer.{Answer}
 use Rattle.sdf.specs.declared.Counted.{Counted}
-use Rattle.definitions.specs.ClipSet.{Standing, noSet, standing}
+use Rattle.definitions.specs.ClipSet.{ClipSet, noSet, standing}
 use Rattle.definitions.specs.Explicit.{ExplicitFields, explicitNumber}
 use Rattle.definitions.specs.Template.{TemplateFields, templateNumber}
 use Rattle.definitions.specs.Retime.{retimeNumber}
@@ -113,7 +112,7 @@ pub record TellsTimes (d : Resolver) (s : Samples) (before after : List Float) (
   pub count : r ≡ counted (askStageSampleTimes (model d) s (length before))
   pub times : after ≡ listed itself (askStageSampleTimes (model d) s (length before)) before
   -- where it is replied to, those written are "finite, strictly ascending, every start among them"
-  pub are : (st : Standing) → model d ≡ standing st → r .number ≡ 0 → StageSampleTimesAre (st .set) (take (r .count) after)
+  pub are : (set : ClipSet) → model d ≡ standing set → r .number ≡ 0 → StageSampleTimesAre set (take (r .count) after)
 
 pub record TellsSamples (d : Resolver) (s : Samples) (times times′ : List Float) (marks marks′ : List ℕ) (r : Counted) : Type 0 where
   pub count : r ≡ counted (askStageSamples (model d) s (min (length times) (length marks)))
@@ -150,8 +149,8 @@ pub record Installable (p : Prepared) : Type 0 where
   pub held : ArraysWhole (p .set)
   pub sound : Sound (clipSetOf (p .set))
 
-pub record Installs (d : Resolver) (p : Prepared) (retimed : Bool) (r : Accepted) : Type 0 where
+pub record Installs (d : Resolver) (p : Prepared) (r : Accepted) : Type 0 where
   pub number : r .number ≡ p .number
   pub kept : Kept d r
-  pub after : model (r .resolver) ≡ accepted (p .number) (model d) (standing (record { set = clipSetOf (p .set); retimed = retimed }))
+  pub after : model (r .resolver) ≡ accepted (p .number) (model d) (standing (clipSetOf (p .set)))
   pub made : Made (r .resolver)

@@ -4,7 +4,7 @@ use mathlib.Core.Bool.{cond}
 use mathlib.Core.List.{List}
 use lib.Ieee.{Float}
 use Rattle.definitions.specs.Moments.{Lent, was, after}
-use Rattle.definitions.specs.ClipSet.{Model, Standing, noSet, standing}
+use Rattle.definitions.specs.ClipSet.{Model, noSet, standing}
 use Rattle.laws.specs.set.Sound.{SoundModel}
 use Rattle.standing.specs.Standing.{setIn, Whole}
 use Rattle.resolver.specs.declared.Resolver.{Resolver}
@@ -12,11 +12,8 @@ use Rattle.resolver.specs.declared.Shape.{Shape}
 use Rattle.resolver.specs.declared.Settled.{Settled}
 use Rattle.resolver.specs.declared.Accepted.{Accepted}
 
-abbrev pub standingIn : Resolver → Standing
-standingIn d = record { set = setIn (d .set); retimed = d .retimed }
-
 abbrev pub model : Resolver → Model
-model d = cond (d .stands) (standing (standingIn d)) noSet
+model d = cond (d .stands) (standing (setIn (d .set))) noSet
 
 -- "A desk or set handed in by value is one that an operation made": its arrays are whole, and its set is well-formed. Every operation ensures it of what it hands back.
 pub record Made (d : Resolver) : Type 0 where
@@ -28,7 +25,6 @@ pub record Made (d : Resolver) : Type 0 where
 abbrev pub lentState : Shape → List Float → List ℕ → List Float → List Float → List Float → Resolver
 lentState h starts numbers xs ys blocks = record {
   stands = h .stands;
-  retimed = h .retimed;
   set = record { clips = h .clips; counts = h .counts; starts = starts; numbers = numbers; xs = xs; ys = ys; blocks = blocks; manifest = h .manifest };
 }
 

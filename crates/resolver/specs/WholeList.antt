@@ -7,6 +7,7 @@ use Rattle.definitions.specs.Questions.{Reply}
 use Rattle.definitions.specs.Calls as calls
 use Rattle.definitions.specs.Calls.{Call, explicit, template, retime, bake}
 use Rattle.definitions.specs.TrackFacts.{WholeListValues}
+use Rattle.definitions.specs.Retimings.{WholeListRetimed}
 use Rattle.track.specs.declared.bake.Baked.{Baked}
 use Rattle.track.specs.Bakes.{bakedReply}
 use Rattle.resolver.specs.declared.Resolver.{Resolver}
@@ -32,3 +33,7 @@ Demand3 = (d : Resolver) → Begins d → calls.WholeList d Moves Replies
 -- What follows of it, in the caller's words: the count of the doubles at which the value changes, and the reading of the written lists.
 abbrev pub Demand3Values : Type 0
 Demand3Values = (d : Resolver) → Begins d → WholeListValues d Moves Replies
+
+-- What follows of it, by what was installed: "The track follows the set after all retimings of it accepted since it was installed."
+abbrev pub Demand3Retimed : Type 0
+Demand3Retimed = (d : Resolver) → Begins d → WholeListRetimed d Moves Replies

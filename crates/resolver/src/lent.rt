@@ -48,7 +48,6 @@ pub fn fresh() -> Shape
     };
     Shape {
         stands: false,
-        retimed: false,
         clips: 0,
         counts,
         manifest,
@@ -85,7 +84,7 @@ pub fn accept(
         default,
         interpolate,
     );
-    install(shape, prepared, false, starts, numbers, xs, ys, blocks)
+    install(shape, prepared, starts, numbers, xs, ys, blocks)
 }
 
 // The set that the template expands to takes the place of the standing one, unless a number refuses it.
@@ -115,10 +114,10 @@ pub fn accept_template(
         default,
         interpolate,
     );
-    install(shape, prepared, false, starts, numbers, xs, ys, blocks)
+    install(shape, prepared, starts, numbers, xs, ys, blocks)
 }
 
-// The standing set moved, unless a number refuses it.
+// The standing set moved, as the retimings before it left it, unless a number refuses it.
 pub fn retime(
     shape: Shape,
     starts: &mut [f64],
@@ -137,12 +136,6 @@ pub fn retime(
             shape,
         };
     }
-    if shape.retimed {
-        return Settled {
-            number: refusal::ALREADY_RETIMED,
-            shape,
-        };
-    }
     let set = standing::packed(
         shape.clips,
         starts,
@@ -154,14 +147,13 @@ pub fn retime(
         shape.manifest,
     );
     let moved = set.retime_stage_times(o);
-    install(shape, moved, true, starts, numbers, xs, ys, blocks)
+    install(shape, moved, starts, numbers, xs, ys, blocks)
 }
 
 // The prepared set stands, unless its number refuses it; then what stood still stands.
 fn install(
     shape: Shape,
     prepared: Prepared,
-    retimed: bool,
     starts: &mut [f64],
     numbers: &mut [u64],
     xs: &mut [f64],
@@ -170,7 +162,7 @@ fn install(
 ) -> Settled
     requires { ⌜ Made (lentState shape (now starts) (now numbers) (now xs) (now ys) (now blocks)) ⌝ }
     requires { ⌜ Installable prepared ⌝ }
-    ensures { λ r. ⌜ Installs (stateWas shape starts numbers xs ys blocks) prepared retimed (settledState r starts numbers xs ys blocks) ⌝ }
+    ensures { λ r. ⌜ Installs (stateWas shape starts numbers xs ys blocks) prepared (settledState r starts numbers xs ys blocks) ⌝ }
 {
     if prepared.number != 0 {
         return Settled {
@@ -186,7 +178,6 @@ fn install(
     };
     let next = Shape {
         stands: true,
-        retimed,
         clips: prepared.set.clips,
         counts,
         manifest,

@@ -27,7 +27,6 @@ ghost use Rattle.resolver.specs.Promises.{Begins, Accepts, Expands, Reti
 #[repr(C)]
 pub struct Resolver {
     pub stands: bool,
-    pub retimed: bool,
     pub set: StandingSet,
 }
 
@@ -35,7 +34,6 @@ pub struct Resolver {
 #[repr(C)]
 pub struct Shape {
     pub stands: bool,
-    pub retimed: bool,
     pub clips: u64,
     pub counts: Counts,
     pub manifest: Missing,
@@ -82,11 +80,7 @@ impl Resolver {
         ensures { λ r. ⌜ Begins r ⌝ }
     {
         let set = standing::installed(clip::empty());
-        Resolver {
-            stands: false,
-            retimed: false,
-            set,
-        }
+        Resolver { stands: false, set }
     }
 
     // The set of the fields takes the place of the standing one, unless a number refuses it.
@@ -114,7 +108,7 @@ impl Resolver {
             default,
             interpolate,
         );
-        install(self, prepared, false)
+        install(self, prepared)
     }
 
     // The set that the template expands to takes the place of the standing one, unless a number refuses it.
@@ -139,10 +133,10 @@ impl Resolver {
             default,
             interpolate,
         );
-        install(self, prepared, false)
+        install(self, prepared)
     }
 
-    // The standing set moved, unless a number refuses it.
+    // The standing set moved, as the retimings before it left it, unless a number refuses it.
     pub fn retime(self, o: LayerOffset) -> Accepted
         requires { ⌜ Made self ⌝ }
         ensures { λ r. ⌜ Retimes self o r ⌝ }
@@ -150,12 +144,6 @@ impl Resolver {
         if !self.stands {
             return Accepted {
                 number: refusal::NO_SET,
-                resolver: self,
-            };
-        }
-        if self.retimed {
-            return Accepted {
-                number: refusal::ALREADY_RETIMED,
                 resolver: self,
             };
         }
@@ -170,7 +158,7 @@ impl Resolver {
             self.set.manifest,
         );
         let moved = set.retime_stage_times(o);
-        install(self, moved, true)
+        install(self, moved)
     }
 
     // The clip time at a stage time, by the standing set's knots.
@@ -182,7 +170,6 @@ impl Resolver {
         let manifest = self.set.manifest;
         let shape = Shape {
             stands: self.stands,
-            retimed: self.retimed,
             clips: self.set.clips,
             counts,
             manifest,
@@ -207,7 +194,6 @@ impl Resolver {
         let manifest = self.set.manifest;
         let shape = Shape {
             stands: self.stands,
-            retimed: self.retimed,
             clips: self.set.clips,
             counts,
             manifest,
@@ -239,7 +225,6 @@ impl Resolver {
         let manifest = self.set.manifest;
         let shape = Shape {
             stands: self.stands,
-            retimed: self.retimed,
             clips: self.set.clips,
             counts,
             manifest,
@@ -268,7 +253,6 @@ impl Resolver {
         let manifest = self.set.manifest;
         let shape = Shape {
             stands: self.stands,
-            retimed: self.retimed,
             clips: self.set.clips,
             counts,
             manifest,
@@ -303,7 +287,6 @@ impl Resolver {
         let manifest = self.set.manifest;
         let shape = Shape {
             stands: self.stands,
-            retimed: self.retimed,
             clips: self.set.clips,
             counts,
             manifest,
@@ -340,7 +323,6 @@ impl Resolver {
         let manifest = self.set.manifest;
         let shape = Shape {
             stands: self.stands,
-            retimed: self.retimed,
             clips: self.set.clips,
             counts,
             manifest,
@@ -376,7 +358,6 @@ impl Resolver {
         let manifest = self.set.manifest;
         let shape = Shape {
             stands: self.stands,
-            retimed: self.retimed,
             clips: self.set.clips,
             counts,
             manifest,
@@ -404,7 +385,6 @@ impl Resolver {
         let manifest = self.set.manifest;
         let shape = Shape {
             stands: self.stands,
-            retimed: self.retimed,
             clips: self.set.clips,
             counts,
             manifest,
@@ -441,7 +421,6 @@ impl Resolver {
         let manifest = self.set.manifest;
         let shape = Shape {
             stands: self.stands,
-            retimed: self.retimed,
             clips: self.set.clips,
             counts,
             manifest,
@@ -465,10 +444,10 @@ impl Resolver {
 }
 
 // The prepared set stands, unless its number refuses it; then what stood still stands.
-fn install(d: Resolver, prepared: Prepared, retimed: bool) -> Accepted
+fn install(d: Resolver, prepared: Prepared) -> Accepted
     requires { ⌜ Made d ⌝ }
     requires { ⌜ Installable prepared ⌝ }
-    ensures { λ r. ⌜ Installs d prepared retimed r ⌝ }
+    ensures { λ r. ⌜ Installs d prepared r ⌝ }
 {
     if prepared.number != 0 {
         return Accepted {
@@ -477,11 +456,7 @@ fn install(d: Resolver, prepared: Prepared, retimed: bool) -> Accepted
         };
     }
     let set = standing::installed(prepared.set);
-    let next = Resolver {
-        stands: true,
-        retimed,
-        set,
-    };
+    let next = Resolver { stands: true, set };
     Accepted {
         number: 0,
         resolver: next,

@@ -1,2 +1,3 @@
--- What the numbers of a reply stand for.
+-- What the numbers of a reply stand for, and which is never replied.
 pub mod Codes
+pub mod Numbers

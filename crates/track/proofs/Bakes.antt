@@ -3,7 +3,7 @@ use mathlib.Core.Path.{_≡_, refl, sym, ap, _∙_, subst}
 use Prim.Native.Nat.{ℕ, zero, suc}
 use lib.ListN.{length}
 use Rattle.definitions.specs.Lists.{_then_}
-use Rattle.definitions.specs.ClipSet.{Standing, standing}
+use Rattle.definitions.specs.ClipSet.{ClipSet, standing}
 use Rattle.definitions.specs.Samples.{Samples, samplesNumber}
 use Rattle.definitions.specs.Value.{valueInSet}
 use Rattle.definitions.specs.Questions.{reply, roomNumber}
@@ -17,22 +17,22 @@ use Rattle.track.specs.Bakes.{trackOf, bakeCode, BakeIs, bakedReply}
 
 -- ---- the bake
 
--- the promise of a bake where the samples are accepted
-module _ (st : Standing) (s : Samples) (S : SoundSet (st .set)) (A : SoundSamples s) (F : SoundValues (st .set) s) (e : samplesNumber (st .set) s ≡ 0) (before after : Outputs) (r : Baked) (p : BakeIs (st .set) s before after r) where
-  number-is : bakeNumber (standing st) s (slots before) (length (trackOf (st .set) s .changes)) ≡ roomNumber (slots before) (length (trackOf (st .set) s .changes))
-  unfolding bakeNumber
-  number-is = ap (λ (n : ℕ). n then roomNumber (slots before) (length (trackOf (st .set) s .changes))) e
+pub same-standing : (a b : ClipSet) → standing a ≡ standing b → a ≡ b
+same-standing a b p = cc
 
-  pub bakes : Calls.Bakes (standing st) s before (reply (roomNumber (slots before) (length (trackOf (st .set) s .changes))) (Calls.bakedOf (trackOf (st .set) s))) after
+-- the promise of a bake where the samples are accepted
+module _ (set : ClipSet) (s : Samples) (S : SoundSet set) (A : SoundSamples s) (F : SoundValues set s) (e : samplesNumber set s ≡ 0) (before after : Outputs) (r : Baked) (p : BakeIs set s before after r) where
+  number-is : bakeNumber (standing set) s (slots before) (length (trackOf set s .changes)) ≡ roomNumber (slots before) (length (trackOf set s .changes))
+  unfolding bakeNumber
+  number-is = ap (λ (n : ℕ). n then roomNumber (slots before) (length (trackOf set s .changes))) e
+
+  pub bakes : Calls.Bakes (standing set) s before (reply (roomNumber (slots before) (length (trackOf set s .changes))) (Calls.bakedOf (trackOf set s))) after
   bakes = record {
-    track = trackOf (st .set) s;
-    is = λ other q n. subst (λ (x : Standing). TrackOf (valueInSet (x .set) s) (trackOf (st .set) s)) (same other q) (track-is (st .set) s S A F);
-    replies = ap (λ (n : ℕ). reply n (Calls.bakedOf (trackOf (st .set) s))) (sym number-is);
-    writes = p .writes ∙ ap (λ (n : ℕ). Calls.outputsAfter n (trackOf (st .set) s) before) (sym number-is);
+    track = trackOf set s;
+    is = λ other q n. subst (λ (x : ClipSet). TrackOf (valueInSet x s) (trackOf set s)) (same-standing set other q) (track-is set s S A F);
+    replies = ap (λ (n : ℕ). reply n (Calls.bakedOf (trackOf set s))) (sym number-is);
+    writes = p .writes ∙ ap (λ (n : ℕ). Calls.outputsAfter n (trackOf set s) before) (sym number-is);
   }
-    where
-      same : (other : Standing) → standing st ≡ standing other → st ≡ other
-      same other q = cc
 
 -- the code's reply, read again, is the reply
 pub code-read : (n : ℕ) (b : Calls.Baked) → bakedReply (bakeCode (reply n b)) ≡ reply n b

@@ -39,4 +39,4 @@ pub record Sound (set : ClipSet) : Type 0 where
 -- of what stands, if a set does
 abbrev pub SoundModel : Model → Type 0
 SoundModel noSet = Unit {0}
-SoundModel (standing s) = Sound (s .set)
+SoundModel (standing set) = Sound set

@@ -11,7 +11,7 @@ abbrev state : tie.Start → Resolver
 state s = let a = s .args in lentState (a .shape) (now (a .starts)) (now (a .numbers)) (now (a .xs)) (now (a .ys)) (now (a .blocks))
 
 returns : tie.Need-returns
-returns c = let s = c .before .before .before .before .before .before .before in installs-not (state s) (s .args .prepared) (s .args .retimed) (s .pre .0) (c .if1 .taken)
+returns c = let s = c .before .before .before .before .before .before .before in installs-not (state s) (s .args .prepared) (s .pre .0) (c .if1 .taken)
 
 unpacked-requires : tie.Need-unpacked-requires
 unpacked-requires c κs =
@@ -23,7 +23,7 @@ returns-2 : tie.Need-returns-2
 returns-2 c =
     let p = c .before .before .before .before .before .before .before .before .before .before .before .before .before .before .before .before .before in
     let s = p .before .before .before .before .before .before .before in
-    unpacks (state s) (s .args .prepared) (s .args .retimed) (s .pre .1) (p .if1 .left) (c .before .before .before .before .before .before .before .before .before .before .before .unpacked .ensures)
+    unpacks (state s) (s .args .prepared) (s .pre .1) (p .if1 .left) (c .before .before .before .before .before .before .before .before .before .before .before .unpacked .ensures)
 
 pub install-spec : {M : Type 1} → statement M
 install-spec = tie.close (tie.spec returns unpacked-requires (λ c. search needs) (λ c. search needs) (λ c. search needs) (λ c. search needs) (λ c. search needs) returns-2)

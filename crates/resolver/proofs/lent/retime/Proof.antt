@@ -1,4 +1,4 @@
--- `resolver::lent::retime` meets its contract: 20, 21, else the moved set is installed. Assumes nothing.
+-- `resolver::lent::retime` meets its contract: 20, else the moved set is installed. Assumes nothing.
 use mathlib.Core.Path.{sym, subst}
 use borrow.Author.Needs.{needs}
 use borrow.Author.Tests.{not-true, not-false}
@@ -6,7 +6,7 @@ use Rattle.laws.specs.set.Sound.{Sound}
 use denote.Ref.{now}
 use Rattle.resolver.specs.declared.Resolver.{Resolver}
 use Rattle.resolver.specs.State.{lentState}
-use Rattle.resolver.proofs.Laws.{stands-sound, retimes-20, retimes-21, retimes}
+use Rattle.resolver.proofs.Laws.{stands-sound, retimes-20, retimes}
 use Rattle.resolver.proofs.lent.retime.Statement.{statement}
 use Rattle.resolver.proofs.lent.retime.Tie as tie
 
@@ -19,15 +19,12 @@ entry c = c .before .before .before .before .before .before .before
 returns : tie.Need-returns
 returns c = let s = c .before .before .before .before .before .before .before in retimes-20 (state s) (s .args .o) (s .pre) (not-true _ (c .if1 .taken))
 
-returns-2 : tie.Need-returns-2
-returns-2 c = let s = c .before .before .before .before .before .before .before .before in retimes-21 (state s) (s .args .o) (s .pre) (not-false _ (c .before .if1 .left)) (c .if2 .taken)
-
 packed-requires : tie.Need-packed-requires
-packed-requires c κs = c .before .before .before .before .before .before .before .before .before .before .before .before .before .pre .whole
+packed-requires c κs = c .before .before .before .before .before .before .before .before .before .before .before .before .pre .whole
 
 retime-stage-times-requires : tie.Need-retime-stage-times-requires
 retime-stage-times-requires c κs =
-    let p = c .before .before .before .before .before .before .before in
+    let p = c .before .before .before .before .before .before in
     let s = entry p in
     let k = c .packed .ensures in
     (k .held, subst Sound (sym (k .is)) (stands-sound (state s) (s .pre) (not-false _ (p .if1 .left))))
@@ -35,14 +32,14 @@ retime-stage-times-requires c κs =
 install-requires : tie.Need-install-requires
 install-requires c κs =
     let e = c .before .before .before .before .before .retime-stage-times .ensures in
-    (c .before .before .before .before .before .before .before .before .before .before .before .before .before .before .before .before .before .before .before .before .pre, record { held = e .reply .held; sound = e .sound })
+    (c .before .before .before .before .before .before .before .before .before .before .before .before .before .before .before .before .before .before .before .pre, record { held = e .reply .held; sound = e .sound })
 
-returns-3 : tie.Need-returns-3
-returns-3 c =
+returns-2 : tie.Need-returns-2
+returns-2 c =
     let k = c .before .before .before .before .before .before .before .before .before .before .before .before .before .before .before .before .before in
-    let p = k .before .before .before .before .before .before .before in
+    let p = k .before .before .before .before .before .before in
     let s = entry p in
-    retimes (state s) (s .args .o) _ _ _ (not-false _ (p .if1 .left)) (k .before .before .before .before .before .before .if2 .left) (k .packed .ensures) (c .before .before .before .before .before .before .before .before .before .before .before .before .before .before .before .before .retime-stage-times .ensures) (c .before .before .before .before .before .before .before .before .before .before .install .ensures)
+    retimes (state s) (s .args .o) _ _ _ (not-false _ (p .if1 .left)) (k .packed .ensures) (c .before .before .before .before .before .before .before .before .before .before .before .before .before .before .before .before .retime-stage-times .ensures) (c .before .before .before .before .before .before .before .before .before .before .install .ensures)
 
 pub retime-spec : {M : Type 1} → statement M
-retime-spec = tie.close (tie.spec returns returns-2 packed-requires retime-stage-times-requires install-requires (λ c. search needs) (λ c. search needs) (λ c. search needs) (λ c. search needs) (λ c. search needs) returns-3)
+retime-spec = tie.close (tie.spec returns packed-requires retime-stage-times-requires install-requires (λ c. search needs) (λ c. search needs) (λ c. search needs) (λ c. search needs) (λ c. search needs) returns-2)

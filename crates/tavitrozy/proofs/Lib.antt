@@ -1,0 +1,2 @@
+-- A number that no call of the library replies.
+mod Numbers
