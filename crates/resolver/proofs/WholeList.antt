@@ -13,13 +13,13 @@ use Rattle.track.specs.declared.bake.Baked as track
 use Rattle.track.specs.Bakes.{bakeCode, bakedReply}
 use Rattle.track.proofs.Bakes.{code-read}
 use Rattle.definitions.proofs.WholeList as any
-use Rattle.definitions.proofs.WholeList.{whole-list}
+use Rattle.definitions.proofs.WholeList.{left-is, whole-list}
 use Rattle.definitions.proofs.TrackFacts.{whole-list-values}
 use Rattle.definitions.proofs.Retimings.{whole-list-retimed}
 use Rattle.resolver.specs.declared.Resolver.{Resolver}
 use Rattle.resolver.specs.State.{model, Made}
 use Rattle.resolver.specs.Promises.{Begins, BakesTrack}
-use Rattle.resolver.specs.WholeList.{Moves, Replies, Demand3, Demand3Values, Demand3Retimed}
+use Rattle.resolver.specs.WholeList.{Moves, Replies, LeadsOn, Demand3, Demand3Values, Demand3Retimed}
 
 -- the bake's number where the samples are accepted: 0 with room enough, else 22
 module _ (m : Model) (set : ClipSet) (e : m ≡ standing set) (s : Samples) (z : samplesNumber set s ≡ 0) (room count : ℕ) where
@@ -68,9 +68,14 @@ module _ (fresh : Resolver) (b : Begins fresh) where
   follows-fresh : Follows noSet fresh
   follows-fresh = record { is = b .empty; made = b .made }
 
+  bakes-due : (d : Resolver) (s : Samples) (o : Outputs) (r : Reply Baked) (p : Outputs) → Made d → Replies d s o r p → Due (model d) s o r p
+  bakes-due d s o r p m q = due (model d) s o r p (subst (λ (x : Reply Baked). Bakes (model d) s o x p) (q .2) (told d s o p (q .0) (q .1 m)))
+
+pub leads-on : LeadsOn
+leads-on fresh e b calls l = let f = left-is noSet step fresh Moves Replies Due model Made (follows-fresh fresh b) (moves-on fresh b) (bakes-due fresh b) calls e l in (f .made, f .is)
+
 pub demand-3 : Demand3
-demand-3 fresh b =
-    whole-list noSet step fresh Moves Replies Due model Made (follows-fresh fresh b) (moves-on fresh b) (λ d s o r p m q. due (model d) s o r p (subst (λ (x : Reply Baked). Bakes (model d) s o x p) (q .2) (told d s o p (q .0) (q .1 m))))
+demand-3 fresh b = whole-list noSet step fresh Moves Replies Due model Made (follows-fresh fresh b) (moves-on fresh b) (bakes-due fresh b)
 
 pub demand-3-values : Demand3Values
 demand-3-values fresh b = whole-list-values fresh Moves Replies (demand-3 fresh b)
