@@ -19,11 +19,25 @@ use crate::vt::Value;
 /// A set as the Rust holds it.
 struct Standing {
     resolved: ResolvedClipSet,
-    /// Block times as handed over: the manifest's own times, which the Rust moves at each look.
+    /// The manifest, which the Rust leaves where it was authored, moving its block times at each look by the one offset that
+    /// it knows. So that offset is the last accepted retiming's, and the block times here are those that stood before it,
+    /// moved by hand by all earlier ones.
     filling: Filling,
-    retimed: bool,
     /// The same set by the document.
     plain: plain::Set,
+}
+
+impl Standing {
+    /// The block times as they stand.
+    fn blocks(&self) -> Vec<f64> {
+        moved_blocks(&self.filling.blocks, self.resolved.active_offset)
+    }
+}
+
+/// Block times moved by hand. The identity changes nothing, though its formula would turn -0.0 round.
+fn moved_blocks(blocks: &[f64], moving: LayerOffset) -> Vec<f64> {
+    let moved = |&block: &f64| if moving.is_identity() { block } else { moving.apply(block) };
+    blocks.iter().map(moved).collect()
 }
 
 /// The lent samples as layers, the manifest first.
@@ -193,7 +207,7 @@ impl Desk {
         }
         let source = ClipAnchor { layer: LayerId(0), prim_path: Path::new("/a").unwrap(), stack: LayerStackId };
         let resolved = ResolvedClipSet { set, source, manifest_layer: None, active_offset: LayerOffset::IDENTITY };
-        self.set = Some(Standing { resolved, filling: filling.clone(), retimed: false, plain });
+        self.set = Some(Standing { resolved, filling: filling.clone(), plain });
         self.lent = None;
         out.word("ok");
     }
@@ -259,28 +273,26 @@ impl Desk {
         }
     }
 
+    /// Moves the set as the retiming before left it.
     fn retime(&mut self, offset: f64, scale: f64, out: &mut Line) -> Answered {
-        let check = self.check;
         let set = self.set.as_mut().ok_or(20u32)?;
-        if set.retimed {
-            return Err(21);
-        }
         numbers::retiming(offset, scale)?;
         let moving = LayerOffset::new(offset, scale);
         let mut moved = set.resolved.set.clone();
         moved.retime_stage_times(moving);
         let starts: Vec<f64> = moved.active.iter().map(|start| start.0).collect();
         let knots: Vec<f64> = moved.times.iter().map(|knot| knot.x).collect();
-        let blocks: Vec<f64> = set.filling.blocks.iter().map(|&block| moving.apply(block)).collect();
-        numbers::made(&starts, &knots, &blocks)?;
+        let before = set.blocks();
+        numbers::made(&starts, &knots, &moved_blocks(&before, moving))?;
         set.resolved.set = moved;
         set.resolved.active_offset = moving;
-        set.retimed = true;
+        set.filling.blocks = before;
         set.plain = plain::retime(&set.plain, offset, scale);
-        let text = plain_bits(&set.plain);
-        let rust = bits_of(&set.resolved.set.active, &set.resolved.set.times);
         self.lent = None;
-        if check {
+        if self.check {
+            let bits = |blocks: &[f64]| blocks.iter().map(|block| block.to_bits()).collect::<Vec<_>>();
+            let rust = (bits_of(&set.resolved.set.active, &set.resolved.set.times), bits(&set.blocks()));
+            let text = (plain_bits(&set.plain), bits(&set.plain.filling.blocks));
             self.compare("retimed set", rust, text);
         }
         out.word("ok");
@@ -299,11 +311,7 @@ impl Desk {
         for knot in &set.times {
             out.double(knot.x).double(knot.y);
         }
-        // The identity changes nothing, though its formula would turn -0.0 round.
-        let moving = standing.resolved.active_offset;
-        let moved = |&block: &f64| if moving.is_identity() { block } else { moving.apply(block) };
-        let blocks: Vec<f64> = standing.filling.blocks.iter().map(moved).collect();
-        out.word("bl").doubles(&blocks);
+        out.word("bl").doubles(&standing.blocks());
         Ok(())
     }
 
