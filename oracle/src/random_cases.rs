@@ -393,6 +393,7 @@ fn moved_numbers(set: &Set) -> Result<(), numbers::Refusal> {
     numbers::made(&starts, &knots, &set.filling.blocks)
 }
 
+/// An offset and a scale, some of which no set takes.
 fn retiming(random: &mut Random, set: &Set) -> (f64, f64) {
     // Zeros of both signs: the moved list is ascending as numbers and perhaps not in the total order.
     if random.chance(4) {
@@ -401,45 +402,95 @@ fn retiming(random: &mut Random, set: &Set) -> (f64, f64) {
     if random.chance(5) {
         return (random.pick(&[0.0, -0.0]), 1.0);
     }
-    let offset = match random.below(10) {
-        0..=3 => random.pick(&[0.0, -0.0, 1.0, -10.0, 0.1]),
-        4 => random.edge(),
-        5 => random.finite(),
-        6 if !set.starts.is_empty() => -set.starts[random.below(set.starts.len())].0,
-        7 => random.pick(&[1e12, f64::NAN, f64::INFINITY, -1e9]),
+    let offset = match random.below(20) {
+        0..=8 => random.pick(&[0.0, -0.0, 1.0, -10.0, 0.1]),
+        9..=10 => random.edge(),
+        11 => random.finite(),
+        12..=13 if !set.starts.is_empty() => -set.starts[random.below(set.starts.len())].0,
+        14 => random.pick(&[1e12, f64::NAN, f64::INFINITY, -1e9]),
         _ => (random.unit() - 0.5) * 100.0,
     };
-    let scale = match random.below(10) {
-        0..=1 => 1.0,
-        2 => random.pick(&[-1.0, -0.5, -3.0]),
-        3 => random.pick(&[0.0, -0.0]),
-        4 => random.pick(&[f64::NAN, f64::NEG_INFINITY, 1e300, 1e-300, -1e-320, 1e9]),
-        5 => random.finite(),
-        6 => random.near(1.0, 2),
+    let scale = match random.below(20) {
+        0..=2 => 1.0,
+        3..=5 => random.pick(&[-1.0, -0.5, -3.0]),
+        6 => random.pick(&[0.0, -0.0]),
+        7 => random.pick(&[f64::NAN, f64::NEG_INFINITY, 1e300]),
+        8..=9 => random.pick(&[1e-300, 5e-324, -1e-320, 1e9, -1e9]),
+        10 => random.finite(),
+        11..=12 => random.near(1.0, 2),
+        13..=14 => random.pick(&[3.0, 0.3333333333333333, 0.1, 24.0, 1.0 / 24.0]),
         _ => random.unit() * 4.0 - 1.0,
     };
     (offset, scale)
 }
 
-/// Retimes as often as not; hands back the set as it then stands.
-fn retimed(random: &mut Random, out: &mut Writer<'_>, mut set: Set) -> Set {
-    if !random.chance(35) {
-        return set;
+/// Two retimings, one after the other: most take each other back but for roundings.
+fn there_and_back(random: &mut Random, set: &Set) -> [(f64, f64); 2] {
+    let zero = random.zero();
+    match random.below(8) {
+        // What became a zero does not come back.
+        0 => {
+            let tiny = random.pick(&[1e-300, 5e-324, -1e-320, -1e-300, 1e-310]);
+            [(zero, tiny), (random.zero(), random.pick(&[1e300, -1e300, 1e9, 1e308]))]
+        }
+        1 => [(zero, 3.0), (random.zero(), 0.3333333333333333)],
+        2 => [(zero, -1.0), (random.zero(), -1.0)],
+        3 => {
+            let far = random.pick(&[1e12, -1e12, 1e9, 16777216.0, 1.0, 0.1]);
+            [(far, 1.0), (-far, 1.0)]
+        }
+        4 => {
+            let scale = random.pick(&[0.1, 7.0, -24.0, 1.1, 1e9, -1e-9]);
+            [(zero, scale), (random.zero(), 1.0 / scale)]
+        }
+        5 => {
+            let (offset, scale) = ((random.unit() - 0.5) * 100.0, random.unit() * 4.0 - 1.0);
+            [(offset, scale), (-offset / scale, 1.0 / scale)]
+        }
+        // Zeros with a sign, which the identity leaves.
+        6 => [(-0.0, random.pick(&[-1.0, 0.0, -0.0, 0.5, -1e-320, 5e-324])), (zero, 1.0)],
+        // A start brought to a zero, and turned round there.
+        _ => {
+            let start = set.starts.first().map_or(1.0, |start| start.0);
+            [(-start, 1.0), (-0.0, random.pick(&[-1.0, -3.0, 1.0]))]
+        }
     }
-    let mut done = false;
-    for _ in 0..random.between(1, 3) {
-        let (offset, scale) = retiming(random, &set);
-        out.call(&Call::Retime(offset, scale));
-        if !done && numbers::retiming(offset, scale).is_ok() {
-            let moved = plain::retime(&set, offset, scale);
-            if moved_numbers(&moved).is_ok() {
-                set = moved;
-                done = true;
-            }
+}
+
+/// Asks for one retiming, and moves the set where no number refuses it.
+fn retime(random: &mut Random, out: &mut Writer<'_>, set: &mut Set, (offset, scale): (f64, f64)) {
+    out.call(&Call::Retime(offset, scale));
+    if random.chance(15) {
+        out.call(&Call::Dump);
+    }
+    if numbers::retiming(offset, scale).is_ok() {
+        let moved = plain::retime(set, offset, scale);
+        if moved_numbers(&moved).is_ok() {
+            *set = moved;
+        }
+    }
+}
+
+/// Retimes one to five times, each time what the one before left, and asks between them where samples are lent.
+fn retimed(random: &mut Random, out: &mut Writer<'_>, set: &mut Set, lent: Option<&Samples>) {
+    let count = random.pick(&[1, 2, 2, 2, 3, 3, 4, 5]);
+    let mut next: Vec<(f64, f64)> = Vec::new();
+    for left in (0..count).rev() {
+        if next.is_empty() && left > 0 && random.chance(30) {
+            next.extend(there_and_back(random, set).iter().rev());
+        }
+        let moving = match next.pop() {
+            // Now and then another one stands between the two.
+            Some(moving) if !random.chance(10) => moving,
+            _ => retiming(random, set),
+        };
+        retime(random, out, set, moving);
+        if lent.is_some() && left > 0 && random.chance(40) {
+            let questions = random.between(1, 3);
+            ask(random, out, set, lent, questions);
         }
     }
     out.call(&Call::Dump);
-    set
 }
 
 /// Accepts the set, retimes it perhaps, lends samples and asks.
@@ -449,20 +500,23 @@ fn asked_set(random: &mut Random, out: &mut Writer<'_>, acceptance: Call) {
     if set.is_none() || random.chance(30) {
         out.call(&Call::Dump);
     }
-    let Some(set) = set else { return };
+    let Some(mut set) = set else { return };
     // Questions work on every sample and every segment of a window.
     let most = if set.knots.len() * set.starts.len() > 500 { 4 } else { random.pick(&[4, 8, 8, 30]) };
-    let set = retimed(random, out, set);
+    if random.chance(40) {
+        retimed(random, out, &mut set, None);
+    }
     for _ in 0..random.between(1, 2) {
         let lent = samples(random, &set, most);
         out.call(&Call::Samples(lent.clone()));
         let questions = random.between(12, 30);
         ask(random, out, &set, Some(&lent), questions);
-    }
-    if random.chance(10) {
-        let retiming = retiming(random, &set);
-        out.call(&Call::Retime(retiming.0, retiming.1));
-        out.call(&Call::Dump);
+        // The samples stay lent while the set moves under them.
+        if random.chance(15) {
+            retimed(random, out, &mut set, Some(&lent));
+            let questions = random.between(4, 10);
+            ask(random, out, &set, Some(&lent), questions);
+        }
     }
 }
 
@@ -635,6 +689,9 @@ fn damaged(random: &mut Random, out: &mut Writer<'_>) {
     let base = Call::Explicit(base);
     out.call(&base);
     let Some(mut set) = accepted(&base) else { return };
+    if random.chance(20) {
+        retimed(random, out, &mut set, None);
+    }
     for _ in 0..random.between(1, 3) {
         let mut call = match random.chance(65) {
             true => Call::Explicit(explicit_set(random, 4, 5)),
@@ -821,7 +878,10 @@ fn long_lists(random: &mut Random, out: &mut Writer<'_>) {
     let call = Call::Explicit(e);
     out.call(&call);
     out.call(&Call::Dump);
-    let Some(set) = accepted(&call) else { return };
+    let Some(mut set) = accepted(&call) else { return };
+    if random.chance(30) {
+        retimed(random, out, &mut set, None);
+    }
     let total = if over == 4 { 4097 } else { random.pick(&[0, 100, 4096]) };
     // Few of them in a clip that a long window would have to look through.
     let most = if set.knots.len() > 10 && set.starts.len() > 1 { 20 } else { 4096 };
@@ -877,8 +937,8 @@ fn out_of_order(random: &mut Random, out: &mut Writer<'_>) {
                 set = accepted(&call).unwrap_or(set);
             }
             1 => {
-                let (offset, scale) = retiming(random, &set);
-                out.call(&Call::Retime(offset, scale));
+                let moving = retiming(random, &set);
+                retime(random, out, &mut set, moving);
             }
             2 => {
                 let lent = samples(random, &set, 4);

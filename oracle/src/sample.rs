@@ -24,8 +24,8 @@ fn replies_to(text: &str) -> String {
     String::from_utf8(out).expect("replies are ASCII")
 }
 
-/// What a call and its reply show, coarsely.
-fn shows(call: &str, reply: &str) -> String {
+/// What a call and its reply show, coarsely, after that many accepted retimings of the set that stands.
+fn shows(call: &str, reply: &str, retimings: usize) -> String {
     let words: Vec<&str> = reply.split_whitespace().collect();
     let kind = match words[0] {
         "refused" | "untimed" => words[1].to_owned(),
@@ -37,7 +37,12 @@ fn shows(call: &str, reply: &str) -> String {
         "set" | "times" | "ssamples" | "normalize" | "cliptimes" => words[1].len().to_string(),
         _ => String::new(),
     };
-    format!("{} {} {} {kind}", word(call), call.split_whitespace().count().min(40) / 4, words[0])
+    let after = match word(call) {
+        "retime" => retimings.min(4),
+        "dump" | "value" | "times" | "track" | "trackhash" => retimings.min(2),
+        _ => 0,
+    };
+    format!("{} {} {} {kind} {after}", word(call), call.split_whitespace().count().min(40) / 4, words[0])
 }
 
 /// The text's cases, each from its `case` line on.
@@ -122,9 +127,14 @@ fn choose(text: &str, wanted: usize) -> String {
     for (i, case) in all.iter().enumerate() {
         let asked: Vec<&str> = case.lines().filter(|line| has_reply(line.as_bytes())).collect();
         let replies = replies_to(case);
-        let mut fresh = false;
+        let (mut fresh, mut retimings) = (false, 0);
         for (call, reply) in asked.iter().zip(replies.lines()) {
-            fresh |= seen.insert(shows(call, reply));
+            fresh |= seen.insert(shows(call, reply, retimings));
+            retimings = match (word(call), reply) {
+                ("retime", "ok") => retimings + 1,
+                ("explicit" | "template", "ok") => 0,
+                _ => retimings,
+            };
         }
         if fresh && total < wanted {
             chosen[i] = true;

@@ -6,7 +6,7 @@ use crate::writer::Writer;
 
 type Family = (&'static str, fn() -> usize, fn(usize, &mut Writer<'_>));
 
-const FAMILIES: [Family; 9] = [
+const FAMILIES: [Family; 10] = [
     ("mapping", mapping_size, mapping),
     ("missing", missing_size, missing),
     ("lists", lists_size, lists),
@@ -15,6 +15,7 @@ const FAMILIES: [Family; 9] = [
     ("normalise", normalise_size, normalise),
     ("lent", lent_size, lent),
     ("retime", retime_size, retime),
+    ("twice", twice_size, twice),
     ("zeros", zeros_size, zeros),
 ];
 
@@ -324,6 +325,49 @@ fn retime(index: usize, out: &mut Writer<'_>) {
     out.call(&Call::Times(ROOM));
     out.call(&Call::TrackHash);
     out.call(&Call::Retime(0.0, 1.0));
+    out.call(&Call::Dump);
+}
+
+// Two retimings in a row, of sets with zeros of either sign, a jump, and blocks at starts.
+
+const TWICE_OFFSETS: [f64; 7] = [0.0, -0.0, 1.0, -0.7, 1e12, -1e-300, f64::NAN];
+const TWICE_SCALES: [f64; 8] = [0.0, -0.0, 1.0, -1.0, 3.0, 0.3333333333333333, -1e-320, 1e300];
+
+fn twice_size() -> usize {
+    (TWICE_OFFSETS.len() * TWICE_SCALES.len()).pow(2) * 12
+}
+
+fn twice(index: usize, out: &mut Writer<'_>) {
+    let mut choices = Choices(index);
+    let moves: [(f64, f64); 2] = std::array::from_fn(|_| (choices.of(&TWICE_OFFSETS), choices.of(&TWICE_SCALES)));
+    let starts: [&[f64]; 3] = [&[-0.0], &[0.7], &[-0.0, 0.7]];
+    let start_times = choices.of(&starts).to_vec();
+    let knots: [(&[f64], &[f64]); 4] =
+        [(&[], &[]), (&[-1.0, 1.0], &[1.0, 2.0]), (&[-0.0, 0.0], &[1.0, 2.0]), (&[-1.0, 0.7, 0.7], &[0.0, 2.0, 1.0])];
+    let (x, y) = choices.of(&knots);
+    out.call(&Call::Explicit(Explicit {
+        clips: 2,
+        start_clips: (0..start_times.len()).map(|i| i as f64).collect(),
+        start_times,
+        knot_x: x.to_vec(),
+        knot_y: y.to_vec(),
+        filling: Filling { blocks: vec![0.0, 0.7000000000000001], flag: true, ..NO_FILLING },
+    }));
+    out.call(&Call::Samples(Samples {
+        ends: vec![2, 4],
+        times: vec![0.0, 2.0, 1.0, 1.5],
+        values: vec![1.0, 2.0, 3.0, 4.0],
+        marks: vec![0; 4],
+    }));
+    for (offset, scale) in moves {
+        out.call(&Call::Retime(offset, scale));
+        out.call(&Call::Dump);
+    }
+    for t in [-1.0, 0.0, 0.7, 2.0] {
+        out.call(&Call::Value(t));
+    }
+    out.call(&Call::Times(ROOM));
+    out.call(&Call::TrackHash);
 }
 
 // Zeros of either sign, 1.0 and blocks: the first clip has three such samples, the second one or none, the third none; the
