@@ -78,12 +78,15 @@ fn clip_path(clip: usize) -> AssetPath {
     AssetPath::new(format!("c{clip}"))
 }
 
-fn bits_of(starts: &[(f64, usize)], knots: &[Vec2d]) -> (Vec<(u64, usize)>, Vec<(u64, u64)>) {
+/// Starts and knots, each double by its bits.
+type Bits = (Vec<(u64, usize)>, Vec<(u64, u64)>);
+
+fn bits_of(starts: &[(f64, usize)], knots: &[Vec2d]) -> Bits {
     let knot = |k: &Vec2d| (k.x.to_bits(), k.y.to_bits());
     (starts.iter().map(|s| (s.0.to_bits(), s.1)).collect(), knots.iter().map(knot).collect())
 }
 
-fn plain_bits(set: &plain::Set) -> (Vec<(u64, usize)>, Vec<(u64, u64)>) {
+fn plain_bits(set: &plain::Set) -> Bits {
     let knots: Vec<Vec2d> = set.knots.iter().map(|k| vec2d(k.0, k.1)).collect();
     bits_of(&set.starts, &knots)
 }
@@ -229,7 +232,7 @@ impl Desk {
                 Err(0)
             }
             (Err(number), parsed) => {
-                if self.check && matches!(number, 3 | 4 | 5) && parsed.is_some() {
+                if self.check && matches!(number, 3..=5) && parsed.is_some() {
                     self.differs("explicit", "a set", number);
                 }
                 Err(number)

@@ -4,13 +4,16 @@ use super::*;
 
 pub(crate) type Map = HashMap<String, Value>;
 
+/// The number of clips, the starts and the knots.
+pub(crate) type Expanded = (usize, Vec<(f64, usize)>, Vec<gf::Vec2d>);
+
 /// `parse_set` on one set's dictionary.
 pub(crate) fn parse_set(set: &Map) -> Option<ClipSet> {
     ClipSet::parse_set("set", set)
 }
 
 /// `expand_template`: the starts and knots before `parse_set` looks for equal ones.
-pub(crate) fn expand(set: &Map) -> Option<(usize, Vec<(f64, usize)>, Vec<gf::Vec2d>)> {
+pub(crate) fn expand(set: &Map) -> Option<Expanded> {
     expand_template(set).map(|(paths, active, times)| (paths.len(), active, times))
 }
 

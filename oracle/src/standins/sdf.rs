@@ -1,5 +1,7 @@
 //! `crate::sdf`: the items of sdf/mod.rs that the kept functions use, as published, and stand-ins for the rest. A layer
 //! holds one attribute: its samples and its default, over the lent lists.
+// Of the published text, which stays as it is.
+#![allow(clippy::wrong_self_convention)]
 
 use std::borrow::Cow;
 use std::cmp::Ordering;

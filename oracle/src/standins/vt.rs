@@ -8,6 +8,8 @@ use crate::tf::Token;
 
 pub type Dictionary = HashMap<String, Value>;
 
+// The names are the Rust's.
+#[allow(clippy::enum_variant_names)]
 #[derive(Debug, Clone, PartialEq)]
 pub enum Value {
     Double(f64),
