@@ -58,6 +58,9 @@ pub struct Desk {
     pub tracks: [u64; 2],
     /// Where all is checked: tracks that write a value zero, and places at which a zero's sign alone changes.
     pub zeros: [u64; 2],
+    /// Accepted retimings of the set that stands, and how many sets had a second one and a third.
+    in_a_row: u64,
+    pub chains: [u64; 2],
     /// Whether each short track is held against the Rust's value near everything that can move it.
     pub probing: bool,
     pub probed: u64,
@@ -142,6 +145,8 @@ impl Desk {
             differences: Vec::new(),
             tracks: [0; 2],
             zeros: [0; 2],
+            in_a_row: 0,
+            chains: [0; 2],
         }
     }
 
@@ -151,8 +156,8 @@ impl Desk {
             Call::Case(name) => {
                 let differences = std::mem::take(&mut self.differences);
                 let (probing, probed) = (self.probing, self.probed);
-                let (tracks, zeros) = (self.tracks, self.zeros);
-                *self = Desk { differences, probing, probed, tracks, zeros, ..Desk::new(self.check) };
+                let (tracks, zeros, chains) = (self.tracks, self.zeros, self.chains);
+                *self = Desk { differences, probing, probed, tracks, zeros, chains, ..Desk::new(self.check) };
                 out.word("case").word(&name).end();
             }
             Call::Samples(samples) => {
@@ -212,6 +217,7 @@ impl Desk {
         let resolved = ResolvedClipSet { set, source, manifest_layer: None, active_offset: LayerOffset::IDENTITY };
         self.set = Some(Standing { resolved, filling: filling.clone(), plain });
         self.lent = None;
+        self.in_a_row = 0;
         out.word("ok");
     }
 
@@ -292,6 +298,9 @@ impl Desk {
         set.filling.blocks = before;
         set.plain = plain::retime(&set.plain, offset, scale);
         self.lent = None;
+        self.in_a_row += 1;
+        self.chains[0] += u64::from(self.in_a_row == 2);
+        self.chains[1] += u64::from(self.in_a_row == 3);
         if self.check {
             let bits = |blocks: &[f64]| blocks.iter().map(|block| block.to_bits()).collect::<Vec<_>>();
             let rust = (bits_of(&set.resolved.set.active, &set.resolved.set.times), bits(&set.blocks()));

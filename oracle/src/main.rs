@@ -34,11 +34,13 @@ use desk::Desk;
 use text::{Line, Words};
 use writer::Writer;
 
-/// What a run has to tell: differences between Rust and document, tracks by either's values, and zeros in them.
+/// What a run has to tell: differences between Rust and document, tracks by either's values, zeros in them, and sets that
+/// were retimed again.
 struct Told {
     differences: usize,
     tracks: [u64; 2],
     zeros: [u64; 2],
+    chains: [u64; 2],
     probed: u64,
 }
 
@@ -82,7 +84,7 @@ fn answer(
         line.clear();
     }
     output.flush()?;
-    Ok(Told { differences, tracks: desk.tracks, zeros: desk.zeros, probed: desk.probed })
+    Ok(Told { differences, tracks: desk.tracks, zeros: desk.zeros, chains: desk.chains, probed: desk.probed })
 }
 
 const USAGE: &str =
@@ -106,9 +108,10 @@ fn main() -> io::Result<()> {
         [] => answer(&mut input, &mut output, false, false, false).map(drop),
         ["timed"] => answer(&mut input, &mut output, false, true, false).map(drop),
         ["check"] => {
-            let Told { differences, tracks, zeros, .. } = answer(&mut input, &mut output, true, false, false)?;
+            let Told { differences, tracks, zeros, chains, .. } = answer(&mut input, &mut output, true, false, false)?;
             eprintln!("{} tracks by the Rust's values, {} by the document's", tracks[0], tracks[1]);
             eprintln!("{} of them write a value zero; {} times a zero's sign alone changes", zeros[0], zeros[1]);
+            eprintln!("{} sets retimed twice or more often, {} three times or more", chains[0], chains[1]);
             eprintln!("{differences} differences between Rust and document");
             std::process::exit((differences > 0).into());
         }

@@ -424,35 +424,38 @@ fn retiming(random: &mut Random, set: &Set) -> (f64, f64) {
     (offset, scale)
 }
 
-/// Two retimings, one after the other: most take each other back but for roundings.
-fn there_and_back(random: &mut Random, set: &Set) -> [(f64, f64); 2] {
+/// Retimings to follow each other: most take back the one before but for roundings.
+fn together(random: &mut Random, set: &Set) -> Vec<(f64, f64)> {
     let zero = random.zero();
-    match random.below(8) {
+    match random.below(10) {
         // What became a zero does not come back.
         0 => {
             let tiny = random.pick(&[1e-300, 5e-324, -1e-320, -1e-300, 1e-310]);
-            [(zero, tiny), (random.zero(), random.pick(&[1e300, -1e300, 1e9, 1e308]))]
+            vec![(zero, tiny), (random.zero(), random.pick(&[1e300, -1e300, 1e9, 1e308]))]
         }
-        1 => [(zero, 3.0), (random.zero(), 0.3333333333333333)],
-        2 => [(zero, -1.0), (random.zero(), -1.0)],
+        1 => vec![(zero, 3.0), (random.zero(), 0.3333333333333333)],
+        2 => vec![(zero, -1.0), (random.zero(), -1.0)],
         3 => {
             let far = random.pick(&[1e12, -1e12, 1e9, 16777216.0, 1.0, 0.1]);
-            [(far, 1.0), (-far, 1.0)]
+            vec![(far, 1.0), (-far, 1.0)]
         }
         4 => {
             let scale = random.pick(&[0.1, 7.0, -24.0, 1.1, 1e9, -1e-9]);
-            [(zero, scale), (random.zero(), 1.0 / scale)]
+            vec![(zero, scale), (random.zero(), 1.0 / scale)]
         }
         5 => {
             let (offset, scale) = ((random.unit() - 0.5) * 100.0, random.unit() * 4.0 - 1.0);
-            [(offset, scale), (-offset / scale, 1.0 / scale)]
+            vec![(offset, scale), (-offset / scale, 1.0 / scale)]
         }
         // Zeros with a sign, which the identity leaves.
-        6 => [(-0.0, random.pick(&[-1.0, 0.0, -0.0, 0.5, -1e-320, 5e-324])), (zero, 1.0)],
-        // A start brought to a zero, and turned round there.
+        6 => vec![(-0.0, random.pick(&[-1.0, 0.0, -0.0, 0.5, -1e-320, 5e-324])), (zero, 1.0)],
         _ => {
-            let start = set.starts.first().map_or(1.0, |start| start.0);
-            [(-start, 1.0), (-0.0, random.pick(&[-1.0, -3.0, 1.0]))]
+            let brought = match random.below(3) {
+                0 => set.knots.first().map(|knot| knot.0),
+                1 => set.filling.blocks.first().copied(),
+                _ => set.starts.first().map(|start| start.0),
+            };
+            vec![(-brought.unwrap_or(0.0), 1.0), (-0.0, random.pick(&[-1.0, -0.5, -3.0])), (zero, 1.0)]
         }
     }
 }
@@ -477,13 +480,12 @@ fn retimed(random: &mut Random, out: &mut Writer<'_>, set: &mut Set, lent: Optio
     let mut next: Vec<(f64, f64)> = Vec::new();
     for left in (0..count).rev() {
         if next.is_empty() && left > 0 && random.chance(30) {
-            next.extend(there_and_back(random, set).iter().rev());
+            next = together(random, set);
+            next.reverse();
         }
-        let moving = match next.pop() {
-            // Now and then another one stands between the two.
-            Some(moving) if !random.chance(10) => moving,
-            _ => retiming(random, set),
-        };
+        // Now and then another one comes between.
+        let following = if random.chance(10) { None } else { next.pop() };
+        let moving = following.unwrap_or_else(|| retiming(random, set));
         retime(random, out, set, moving);
         if lent.is_some() && left > 0 && random.chance(40) {
             let questions = random.between(1, 3);

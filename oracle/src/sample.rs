@@ -24,8 +24,8 @@ fn replies_to(text: &str) -> String {
     String::from_utf8(out).expect("replies are ASCII")
 }
 
-/// What a call and its reply show, coarsely, after that many accepted retimings of the set that stands.
-fn shows(call: &str, reply: &str, retimings: usize) -> String {
+/// What a call and its reply show, coarsely.
+fn shows(call: &str, reply: &str) -> String {
     let words: Vec<&str> = reply.split_whitespace().collect();
     let kind = match words[0] {
         "refused" | "untimed" => words[1].to_owned(),
@@ -37,12 +37,15 @@ fn shows(call: &str, reply: &str, retimings: usize) -> String {
         "set" | "times" | "ssamples" | "normalize" | "cliptimes" => words[1].len().to_string(),
         _ => String::new(),
     };
-    let after = match word(call) {
-        "retime" => retimings.min(4),
-        "dump" | "value" | "times" | "track" | "trackhash" => retimings.min(2),
-        _ => 0,
-    };
-    format!("{} {} {} {kind} {after}", word(call), call.split_whitespace().count().min(40) / 4, words[0])
+    format!("{} {} {} {kind}", word(call), call.split_whitespace().count().min(40) / 4, words[0])
+}
+
+/// What a call shows after that many accepted retimings of the set that stands.
+fn shows_after(call: &str, reply: &str, retimings: usize) -> String {
+    match word(call) {
+        "retime" => format!("{} {reply}", retimings.min(4)),
+        word => format!("{} {word}", retimings.min(2)),
+    }
 }
 
 /// The text's cases, each from its `case` line on.
@@ -118,28 +121,36 @@ fn limits(sets: bool) -> String {
     })
 }
 
-/// About that many calls: first the cases that show something new, then others in order.
+/// All that a case shows.
+fn all_shown(case: &str) -> BTreeSet<String> {
+    let mut shown = BTreeSet::new();
+    let mut retimings = 0;
+    let calls = case.lines().filter(|line| has_reply(line.as_bytes()));
+    for (call, reply) in calls.zip(replies_to(case).lines()) {
+        shown.extend([shows(call, reply), shows_after(call, reply, retimings)]);
+        retimings = match (word(call), reply) {
+            ("retime", "ok") => retimings + 1,
+            ("explicit" | "template", "ok") => 0,
+            _ => retimings,
+        };
+    }
+    shown
+}
+
+/// About that many calls: first the cases that show most that is new for their length, then others in order.
 fn choose(text: &str, wanted: usize) -> String {
     let all: Vec<String> = cases(text).into_iter().filter(|case| case.len() <= LONGEST).collect();
-    let mut seen = BTreeSet::new();
+    let mut new: Vec<BTreeSet<String>> = all.iter().map(|case| all_shown(case)).collect();
     let mut chosen = vec![false; all.len()];
     let mut total = 0;
-    for (i, case) in all.iter().enumerate() {
-        let asked: Vec<&str> = case.lines().filter(|line| has_reply(line.as_bytes())).collect();
-        let replies = replies_to(case);
-        let (mut fresh, mut retimings) = (false, 0);
-        for (call, reply) in asked.iter().zip(replies.lines()) {
-            fresh |= seen.insert(shows(call, reply, retimings));
-            retimings = match (word(call), reply) {
-                ("retime", "ok") => retimings + 1,
-                ("explicit" | "template", "ok") => 0,
-                _ => retimings,
-            };
-        }
-        if fresh && total < wanted {
-            chosen[i] = true;
-            total += asked.len();
-        }
+    let worth = |new: &BTreeSet<String>, i: usize| new.len() as f64 / count(&all[i]) as f64;
+    while total < wanted {
+        let best = (0..all.len()).max_by(|&i, &j| worth(&new[i], i).total_cmp(&worth(&new[j], j)).then(j.cmp(&i)));
+        let Some(best) = best.filter(|&best| !new[best].is_empty()) else { break };
+        chosen[best] = true;
+        total += count(&all[best]);
+        let shown = std::mem::take(&mut new[best]);
+        new.iter_mut().for_each(|new| new.retain(|kind| !shown.contains(kind)));
     }
     for (i, case) in all.iter().enumerate() {
         if !chosen[i] && total < wanted {
@@ -154,7 +165,7 @@ fn made(sets: bool) -> String {
     let (figures, _) = figures::calls_and_replies();
     let short = generated(|out| short_cases::write(5, 1201, out));
     let random = generated(|out| random_cases::write(2026, 40_000, out));
-    [kept(&figures, sets), limits(sets), choose(&kept(&short, sets), 500), choose(&kept(&random, sets), 1500)].concat()
+    [kept(&figures, sets), limits(sets), choose(&kept(&short, sets), 500), choose(&kept(&random, sets), 1400)].concat()
 }
 
 /// Writes the sample into a folder.
