@@ -1,4 +1,4 @@
-/* Tavitrozy: OpenUSD value clips resolved and baked, exactly. Version 0.2.0, for x86-64 Linux.
+/* Tavitrozy: OpenUSD value clips resolved and baked, exactly. Version 0.3.0, for x86-64 Linux.
  *
  * A resolver holds one clip set, or none. It answers what an attribute is at a stage time, and bakes the whole answer into a track: a head, and every
  * change at the very double where the value changes. docs/VALUE-CLIPS.md (share/doc/tavitrozy where installed) says what every call answers. Words used here:
@@ -47,9 +47,9 @@
 /* ---- version */
 
 #define TAVITROZY_VERSION_MAJOR 0
-#define TAVITROZY_VERSION_MINOR 2
+#define TAVITROZY_VERSION_MINOR 3
 #define TAVITROZY_VERSION_PATCH 0
-#define TAVITROZY_VERSION "0.2.0"
+#define TAVITROZY_VERSION "0.3.0"
 
 /* ---- refusals. Where several apply the first in the order given at the call is told. */
 
@@ -64,7 +64,7 @@
 #define TAVITROZY_REFUSED_BAD_SAMPLES 9         /* samples not strictly ascending within a clip, clip ends falling or not closing the list, a mark not allowed in its place */
 #define TAVITROZY_REFUSED_TIME_NOT_FINITE 10    /* a stage time asked about that is not finite */
 #define TAVITROZY_REFUSED_NO_SET 20             /* no set stands */
-#define TAVITROZY_REFUSED_ALREADY_RETIMED 21    /* the set is already retimed */
+#define TAVITROZY_REFUSED_ALREADY_RETIMED 21    /* no longer given; up to 0.2.0: the set is already retimed */
 #define TAVITROZY_REFUSED_NO_ROOM 22            /* the shortest of the output lists is shorter than the reply */
 
 /* ---- marks: what a value slot holds */
@@ -127,7 +127,6 @@ typedef struct { tavitrozy_default fallback; bool interpolate; } tavitrozy_manif
 /* Everything but the lists. Where no set stands nothing else here counts. */
 typedef struct {
   bool stands;
-  bool retimed;
   uint64_t clips;
   tavitrozy_counts counts;
   tavitrozy_manifest manifest;
@@ -273,7 +272,7 @@ static inline uint8_t tavitrozy_accept_template(tavitrozy_resolver *TAVITROZY_RE
     blocks, blocks_len, fallback, interpolate));
 }
 
-/* 20, 21, 2, 4, 5. Moves starts, knots and block times. Once for each set; (0, 1) changes nothing and counts. */
+/* 20, 2, 4, 5. Moves starts, knots and block times. May be repeated: each moves what the one before left, with its own roundings. (0, 1) changes nothing. */
 static inline uint8_t tavitrozy_retime(tavitrozy_resolver *TAVITROZY_RESTRICT resolver, tavitrozy_layer_offset offset) {
   return tavitrozy_settle(resolver, tavitrozy_lent_retime(TAVITROZY_LENT(resolver), offset));
 }

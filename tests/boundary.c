@@ -1,4 +1,5 @@
-/* The library as a C program meets it: the worked figures, zeros, every refusal number, NULL and the limits, what a refused call leaves, and the odd readings.
+/* The library as a C program meets it: the worked figures, zeros, retimings in a row, every refusal number that is given, NULL and the limits, what a refused
+ * call leaves, and the odd readings.
  * It is built as C11 and as C++17, so it keeps to what both have. Prints what is not so; status 1 if anything is not. */
 #include <fenv.h>
 #include <math.h>
@@ -209,7 +210,56 @@ static void zero_default(void) {
   CHECK(tavitrozy_change_count(&r, LENT(&s)).count == 0);
 }
 
-/* ---- every refusal number, and what it leaves: nothing is written */
+/* ---- retimings in a row */
+
+/* Each moves what the one before left, with its own roundings: joined, the two would be (0, 1). */
+static void retimed_again(void) {
+  const double times[] = {0.7}, numbers[] = {0}, ys[] = {5};
+  static samples s;
+  tavitrozy_resolver r;
+  tavitrozy_fresh(&r);
+  add(&s, 0, 1), end_clip(&s);
+  CHECK(tavitrozy_accept(&r, 1, times, 1, numbers, 1, times, 1, ys, 1, times, 1, none, true) == 0);
+  CHECK(tavitrozy_retime(&r, moving(0, 3)) == 0 && r.starts[0] == 2.0999999999999996);
+  CHECK(tavitrozy_retime(&r, moving(0, 0.3333333333333333)) == 0);
+  CHECK(r.starts[0] == 0.6999999999999998 && r.xs[0] == 0.6999999999999998 && r.ys[0] == 5 && r.blocks[0] == 0.6999999999999998);
+  /* the block lies at the start yet, by the very double */
+  CHECK(tavitrozy_value(&r, LENT(&s), at(1)).mark == TAVITROZY_BLOCK);
+  /* a set that is accepted begins from its own times */
+  CHECK(accept(&r, 1, times, numbers, 1, NULL, NULL, 0) == 0 && r.starts[0] == 0.7);
+  CHECK(tavitrozy_retime(&r, moving(1, 0)) == 0 && tavitrozy_retime(&r, moving(2, 0)) == 0 && r.starts[0] == 2);
+}
+
+/* The zero that a retiming turned round stays so. */
+static void identity_again(void) {
+  const double times[] = {0.0}, numbers[] = {0};
+  tavitrozy_resolver r;
+  tavitrozy_fresh(&r);
+  CHECK(accept(&r, 1, times, numbers, 1, times, times, 1) == 0);
+  CHECK(tavitrozy_retime(&r, moving(-0.0, -1)) == 0 && same_bits(r.starts[0], -0.0) && same_bits(r.xs[0], -0.0));
+  CHECK(tavitrozy_retime(&r, moving(0.0, 1)) == 0 && same_bits(r.starts[0], -0.0) && same_bits(r.xs[0], -0.0));
+  CHECK(tavitrozy_retime(&r, moving(-0.0, 1)) == 0 && same_bits(r.starts[0], -0.0) && same_bits(r.xs[0], -0.0));
+  CHECK(tavitrozy_retime(&r, moving(0.0, 2)) == 0 && same_bits(r.starts[0], 0.0) && same_bits(r.xs[0], 0.0));
+}
+
+/* The track is that of the set after both. */
+static void baked_after_two(void) {
+  const double starts[] = {0, 20}, numbers[] = {0, 1}, xs[] = {0, 20}, ys[] = {10, 0};
+  static samples s;
+  tavitrozy_resolver r;
+  track_lists t;
+  tavitrozy_fresh(&r);
+  add(&s, 0, 1), add(&s, 10, 2), end_clip(&s), add(&s, 0, 3), end_clip(&s);
+  CHECK(accept(&r, 2, starts, numbers, 2, xs, ys, 2) == 0);
+  CHECK(tavitrozy_retime(&r, moving(100, 0.5)) == 0);
+  tavitrozy_baked b = tavitrozy_bake(&r, LENT(&s), OUT(&t, 64));
+  CHECK(b.number == 0 && b.value == 2 && b.count == 1 && t.times[0] == 110 && t.values[0] == 3);
+  CHECK(tavitrozy_retime(&r, moving(0, -2)) == 0 && r.starts[0] == -220 && r.numbers[0] == 1 && r.starts[1] == -200 && r.numbers[1] == 0);
+  b = tavitrozy_bake(&r, LENT(&s), OUT(&t, 64));
+  CHECK(b.number == 0 && b.value == 3 && b.count == 1 && t.times[0] == -200 && t.values[0] == 2);
+}
+
+/* ---- every refusal number that is given, and what it leaves: nothing is written */
 
 /* A resolver and outputs whose bytes a refused call must leave. */
 typedef struct { tavitrozy_resolver resolver; track_lists track; uint8_t name[300]; } desk;
@@ -267,10 +317,14 @@ static void refused_retimings(void) {
   CHECK(refuses(2, tavitrozy_retime(r, moving(NAN, 1))));
   CHECK(refuses(2, tavitrozy_retime(r, moving(0, 1e12))));
   CHECK(refuses(4, tavitrozy_retime(r, moving(0, 0))));
-  CHECK(tavitrozy_retime(r, moving(5, -2)) == 0 && r->shape.retimed);
+  CHECK(tavitrozy_retime(r, moving(5, -2)) == 0);
   CHECK(r->starts[0] == -15 && r->starts[1] == 5 && r->numbers[0] == 1 && r->numbers[1] == 0);
+  /* a second one leaves what the first left */
   memcpy(&before, &here, sizeof here);
-  CHECK(refuses(21, tavitrozy_retime(r, moving(0, 1))));
+  CHECK(refuses(2, tavitrozy_retime(r, moving(0, NAN))));
+  CHECK(refuses(2, tavitrozy_retime(r, moving(0, 1e300))));
+  CHECK(refuses(4, tavitrozy_retime(r, moving(0, 0))));
+  CHECK(tavitrozy_retime(r, moving(-5, 1)) == 0 && r->starts[0] == -20 && r->starts[1] == 0);
 }
 
 static void refused_without_set(void) {
@@ -465,7 +519,7 @@ static void stands_as_sorted(void) {
   tavitrozy_fresh(&r);
   CHECK(!r.shape.stands);
   CHECK(tavitrozy_accept(&r, 2, starts, 2, numbers, 2, xs, 3, ys, 3, blocks, 3, value_default(4), true) == 0);
-  CHECK(r.shape.stands && !r.shape.retimed && r.shape.clips == 2 && r.shape.manifest.interpolate && r.shape.manifest.fallback.value == 4);
+  CHECK(r.shape.stands && r.shape.clips == 2 && r.shape.manifest.interpolate && r.shape.manifest.fallback.value == 4);
   CHECK(r.shape.counts.starts == 2 && r.starts[0] == 0 && r.starts[1] == 10 && r.numbers[0] == 0 && r.numbers[1] == 1);
   CHECK(r.shape.counts.knots == 3 && r.xs[0] == 0 && r.ys[0] == 8 && r.xs[2] == 20 && r.ys[2] == 7);
   CHECK(r.shape.counts.blocks == 3 && r.blocks[0] == 10 && r.blocks[1] == 0 && r.blocks[2] == 5);
@@ -545,6 +599,7 @@ static void version(void) {
 
 int main(void) {
   active_clips(), equal_entries(), clip_times(), templates(), held(), missing(), falling(), zero_head(), zero_changes(), zero_default();
+  retimed_again(), identity_again(), baked_after_two();
   refused_acceptances(), refused_retimings(), refused_without_set(), refused_samples(), refused_for_room_or_time(), refused_fields();
   nothing_lent(), limits_of_sets(), limits_of_templates(), limits_of_samples();
   outputs(), stands_as_sorted(), normal_form(), readings(), readings_out_of_order(), environment(), version();

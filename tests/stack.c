@@ -112,7 +112,7 @@ static size_t used_by(void (*call)(void)) {
   return m.used;
 }
 
-/* The greatest use over all kinds of sets. A retiming begins from a set that is not retimed. */
+/* The greatest use over all kinds of sets. What a call changes is a copy, so each begins from the set as it was accepted. */
 static size_t most_used(const row *r) {
   size_t most = 0;
   for (size_t i = 0; i < KINDS; i++) {

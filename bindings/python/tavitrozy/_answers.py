@@ -19,7 +19,7 @@ _WORDS = {
     9: "samples not strictly ascending within a clip, clip ends falling or not closing the list, a mark not allowed in its place",
     10: "a stage time asked about that is not finite",
     20: "no set stands",
-    21: "the set is already retimed",
+    21: "no longer given; up to 0.2.0: the set is already retimed",
     22: "the shortest of the output lists is shorter than the reply",
 }
 

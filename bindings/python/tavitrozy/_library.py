@@ -47,7 +47,7 @@ class Manifest(Structure):
 
 
 class Shape(Structure):
-    _fields_ = [("stands", c_bool), ("retimed", c_bool), ("clips", c_uint64), ("counts", Counts), ("manifest", Manifest)]
+    _fields_ = [("stands", c_bool), ("clips", c_uint64), ("counts", Counts), ("manifest", Manifest)]
 
 
 class Settled(Structure):

@@ -57,7 +57,7 @@ class StageSample(NamedTuple):
 
 
 class StandingSet(NamedTuple):
-    """The set that stands: sorted, expanded and retimed. A copy."""
+    """The set that stands: sorted, expanded, and moved by every retiming since it was accepted. A copy."""
 
     clips: int
     starts: Tuple[Tuple[float, int], ...]
@@ -65,7 +65,6 @@ class StandingSet(NamedTuple):
     blocks: Tuple[float, ...]
     default: Union[None, Value, Blocked]
     interpolate: bool
-    retimed: bool
 
 
 def _default(given: Default) -> _library.Default:
@@ -175,7 +174,10 @@ class Resolver:
         )
 
     def retime(self, offset: float = 0.0, scale: float = 1.0) -> None:
-        """Moves all stage times t of the set to offset + scale * t, once for each set. Refused with 20, 21, 2, 4 or 5."""
+        """Moves all stage times t of the set to offset + scale * t. Refused with 20, 2, 4 or 5.
+
+        It may be repeated: each retiming moves what the one before left, with its own roundings. (0, 1) changes nothing.
+        """
         self._settle(calls.tavitrozy_lent_retime, _library.LayerOffset(offset, scale))
 
     # ---- questions
@@ -195,7 +197,6 @@ class Resolver:
             tuple(blocks[: counts.blocks]),
             None if isinstance(default, Absent) else default,
             shape.manifest.interpolate,
-            shape.retimed,
         )
 
     def active_clip(self, stage_time: float) -> Optional[int]:

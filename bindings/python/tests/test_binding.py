@@ -176,7 +176,7 @@ class Copies(unittest.TestCase):
             other = how(r)
             self.assertEqual(other.standing, r.standing)
             r.retime(1, 1)
-            self.assertEqual((other.standing.starts, other.standing.retimed, r.standing.starts), (((0.0, 0),), False, ((1.0, 0),)))
+            self.assertEqual((other.standing.starts, r.standing.starts), (((0.0, 0),), ((1.0, 0),)))
         with self.assertRaises(TypeError):
             pickle.dumps(r)
         self.assertEqual(pickle.loads(pickle.dumps(Refused(5))).number, 5)

@@ -37,6 +37,19 @@ class Figures(unittest.TestCase):
         r = resolver(1, [(0, 0)], [(0, 0), (10, 10), (10, 0), (20, 10)])
         self.assertEqual([r.clip_time(t) for t in (-1, 5, 10, 15, 25)], [0, 5, 0, 5, 10])
 
+    def test_retimed_again(self):
+        """Each moves what the one before left, with its own roundings: joined, the two would be (0, 1)."""
+        r = resolver(1, [(0.7, 0)], [(0.7, 5)], blocks=[0.7])
+        r.retime(0, 3)
+        self.assertEqual(r.standing.starts, ((2.0999999999999996, 0),))
+        r.retime(0, 0.3333333333333333)
+        moved = 0.6999999999999998
+        self.assertEqual((r.standing.starts, r.standing.knots, r.standing.blocks), (((moved, 0),), ((moved, 5.0),), (moved,)))
+        r.accept(1, [(0.0, 0)])
+        r.retime(-0.0, -1)
+        r.retime()
+        self.assertEqual(math.copysign(1, r.standing.starts[0][0]), -1)
+
     def test_template(self):
         r = Resolver()
         r.accept_template("f.###.usd", 1, 3, 1)
@@ -152,9 +165,19 @@ class Refusals(unittest.TestCase):
         self.refused(2, r.retime, math.inf)
         self.assertEqual(r.standing, stood)
         r.retime(5, 2)
-        self.assertEqual((r.standing.starts, r.standing.default, r.standing.retimed), (((11.0, 0),), Value(2.5), True))
-        self.refused(21, r.retime)
+        self.assertEqual((r.standing.starts, r.standing.default), (((11.0, 0),), Value(2.5)))
         self.refused(10, r.clip_time, math.nan)
+
+    def test_of_a_second_retiming(self):
+        r = resolver(1, [(0, 0), (10, 0)])
+        r.retime(1, 2)
+        stood = r.standing
+        self.refused(2, r.retime, math.nan)
+        self.refused(2, r.retime, 0, 1e300)
+        self.refused(4, r.retime, 0, 0)
+        self.assertEqual(r.standing, stood)
+        r.retime(-1)
+        self.assertEqual(r.standing.starts, ((0.0, 0), (20.0, 0)))
 
     def test_of_samples(self):
         r = resolver(1, [(0, 0)])

@@ -29,7 +29,6 @@ pub struct Manifest {
 #[derive(Clone, Copy)]
 pub struct Shape {
     pub stands: bool,
-    pub retimed: bool,
     pub clips: u64,
     pub counts: Counts,
     pub manifest: Manifest,

@@ -44,7 +44,7 @@ pub enum Refusal {
     TimeNotFinite,
     /// 20: no set stands.
     NoSet,
-    /// 21: the set is already retimed.
+    /// 21: no longer given, since a set may be retimed again; up to 0.2.0: the set is already retimed.
     AlreadyRetimed,
     /// 22: the shortest of the output lists is shorter than the reply.
     NoRoom,
@@ -117,7 +117,7 @@ impl Refusal {
             }
             Refusal::TimeNotFinite => "a stage time asked about that is not finite",
             Refusal::NoSet => "no set stands",
-            Refusal::AlreadyRetimed => "the set is already retimed",
+            Refusal::AlreadyRetimed => "no longer given; up to 0.2.0: the set is already retimed",
             Refusal::NoRoom => "the shortest of the output lists is shorter than the reply",
         }
     }

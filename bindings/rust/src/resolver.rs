@@ -184,11 +184,14 @@ impl Resolver {
         )
     }
 
-    /// Moves the starts, knots and block times of the standing set; once for each set.
+    /// Moves the starts, knots and block times of the standing set.
+    ///
+    /// It may be repeated, as where one layer is referenced through another: each retiming moves what the one before left,
+    /// with its own roundings. [`LayerOffset::IDENTITY`] changes nothing.
     ///
     /// # Errors
     ///
-    /// 20, 21, 2, 4, 5.
+    /// 20, 2, 4, 5. What earlier retimings left stays.
     pub fn retime(&mut self, offset: LayerOffset) -> Result<(), Refusal> {
         let LayerOffset { offset, scale } = offset;
         settled!(tavitrozy_lent_retime, self, ffi::LayerOffset { offset, scale })

@@ -210,7 +210,7 @@ pub struct LayerOffset {
 }
 
 impl LayerOffset {
-    /// Moves nothing, and counts as a set's one retiming.
+    /// Moves nothing, and leaves a -0.0 as it is.
     pub const IDENTITY: LayerOffset = LayerOffset::new(0.0, 1.0);
 
     /// The retiming of an offset and a scale.
@@ -220,7 +220,7 @@ impl LayerOffset {
     }
 }
 
-/// The set that stands, as a resolver holds it: sorted, and moved if it was retimed.
+/// The set that stands, as a resolver holds it: sorted, and moved by every retiming since it was accepted.
 #[derive(Clone, Copy, Debug)]
 pub struct StandingSet<'a> {
     /// How many clips there are.
@@ -239,8 +239,6 @@ pub struct StandingSet<'a> {
     pub fallback: Fallback,
     /// `interpolateMissingClipValues`.
     pub interpolate: bool,
-    /// Whether the set was retimed; it can be once.
-    pub retimed: bool,
 }
 
 impl<'a> StandingSet<'a> {
@@ -255,7 +253,6 @@ impl<'a> StandingSet<'a> {
             blocks: &lists.blocks[..blocks],
             fallback: Fallback::of_marked(shape.manifest.fallback),
             interpolate: shape.manifest.interpolate,
-            retimed: shape.retimed,
         }
     }
 

@@ -128,12 +128,17 @@ fn twenty_no_set() {
 }
 
 #[test]
-fn twenty_one_a_second_retiming() {
-    let mut resolver = standing();
-    assert_eq!(resolver.retime(LayerOffset::IDENTITY), Ok(()));
-    assert_eq!(resolver.retime(LayerOffset::new(f64::NAN, 1.0)), Err(Refusal::AlreadyRetimed));
-    resolver.accept(&ONE_START).unwrap();
-    assert_eq!(resolver.retime(LayerOffset::new(5.0, -1.0)), Ok(()));
+fn a_refused_retiming_leaves_what_earlier_ones_left() {
+    let mut resolver = Resolver::new();
+    resolver.accept(&Explicit::new(1).starts(&[0.0, 10.0], &[0.0, 0.0]).knots(&[0.0, 10.0], &[0.0, 10.0])).unwrap();
+    resolver.retime(LayerOffset::new(1.0, 2.0)).unwrap();
+    let before = format!("{resolver:?}");
+    for (offset, scale, refused) in [(f64::NAN, 1.0, 2), (0.0, f64::INFINITY, 2), (0.0, 1e300, 2), (0.0, 0.0, 4)] {
+        assert_eq!(number(resolver.retime(LayerOffset::new(offset, scale))), refused);
+        assert_eq!(format!("{resolver:?}"), before);
+    }
+    assert_eq!(resolver.retime(LayerOffset::new(-1.0, 1.0)), Ok(()));
+    assert_eq!(resolver.standing().unwrap().start_times, [0.0, 20.0]);
 }
 
 #[test]

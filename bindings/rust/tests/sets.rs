@@ -21,7 +21,7 @@ fn the_standing_set_is_sorted_and_moved() {
     assert_eq!((standing.start_times, standing.start_clips), (&[0.0, 10.0][..], &[1, 2][..]));
     assert_eq!((standing.knot_xs, standing.knot_ys), (&[0.0, 20.0][..], &[6.0, 5.0][..]));
     assert_eq!(standing.blocks, [10.0, 0.0]);
-    assert_eq!((standing.fallback, standing.interpolate, standing.retimed), (Fallback::Block, true, false));
+    assert_eq!((standing.fallback, standing.interpolate), (Fallback::Block, true));
     assert_eq!(standing.starts().collect::<Vec<_>>(), [(StageTime(0.0), 1), (StageTime(10.0), 2)]);
     assert_eq!(standing.knots().len(), 2);
 
@@ -31,7 +31,51 @@ fn the_standing_set_is_sorted_and_moved() {
     let knots = [(StageTime(80.0), ClipTime(5.0)), (StageTime(100.0), ClipTime(6.0))];
     assert_eq!(moved.knots().collect::<Vec<_>>(), knots);
     assert_eq!(moved.blocks, [90.0, 100.0]);
-    assert!(moved.retimed);
+}
+
+#[test]
+fn each_retiming_moves_what_the_one_before_left() {
+    let set = Explicit::new(1).starts(&[0.7], &[0.0]).knots(&[0.7], &[5.0]).blocks(&[0.7]);
+    let mut resolver = accepted(&set);
+    resolver.retime(LayerOffset::new(0.0, 3.0)).unwrap();
+    assert_eq!(resolver.standing().unwrap().start_times, [2.099_999_999_999_999_6]);
+    // With its own roundings: joined, the two would be the identity.
+    resolver.retime(LayerOffset::new(0.0, 0.333_333_333_333_333_3)).unwrap();
+    let (moved, time) = (resolver.standing().unwrap(), [0.699_999_999_999_999_8]);
+    assert_eq!((moved.start_times, moved.knot_xs, moved.blocks), (&time[..], &time[..], &time[..]));
+    assert_eq!(moved.knot_ys, [5.0]);
+
+    resolver.accept(&set).unwrap();
+    assert_eq!(resolver.standing().unwrap().start_times, [0.7]);
+}
+
+#[test]
+fn the_identity_leaves_a_zero_as_it_is() {
+    let mut resolver = accepted(&Explicit::new(1).starts(&[0.0], &[0.0]));
+    let is_negative = |resolver: &Resolver| resolver.standing().unwrap().start_times[0].is_sign_negative();
+    resolver.retime(LayerOffset::new(-0.0, -1.0)).unwrap();
+    assert!(is_negative(&resolver));
+    resolver.retime(LayerOffset::IDENTITY).unwrap();
+    resolver.retime(LayerOffset::new(-0.0, 1.0)).unwrap();
+    assert!(is_negative(&resolver));
+    resolver.retime(LayerOffset::new(0.0, 2.0)).unwrap();
+    assert!(!is_negative(&resolver));
+}
+
+#[test]
+fn a_track_follows_all_retimings() {
+    let set = Explicit::new(2).starts(&[0.0, 20.0], &[0.0, 1.0]).knots(&[0.0, 20.0], &[10.0, 0.0]);
+    let mut resolver = accepted(&set);
+    let mut lists = SampleLists::new();
+    lists.push_clip([(0.0, Some(1.0)), (10.0, Some(2.0))]);
+    lists.push_clip([(0.0, Some(3.0))]);
+    for (offset, scale) in [(100.0, 0.5), (0.0, -2.0)] {
+        resolver.retime(LayerOffset::new(offset, scale)).unwrap();
+    }
+    let track = resolver.bake(&lists.lent()).unwrap();
+    assert_eq!(track.len(), 1);
+    assert_eq!(track.read(StageTime(-200.000_000_000_000_03)), Answer::Value(3.0));
+    assert_eq!(track.read(StageTime(-200.0)), Answer::Value(2.0));
 }
 
 #[test]
