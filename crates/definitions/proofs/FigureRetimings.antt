@@ -6,7 +6,6 @@ use mathlib.Core.Bool.{Bool, true, false}
 use mathlib.Core.List.{List, [], _∷_, map}
 use lib.Dec.{eqb}
 use lib.Ieee.{Float, nan, round, neg, add, sub, mul, div, lt, le, eq, toBits, ofBits, isNan}
-use lib.Ieee.Scale.{finite}
 use Rattle.gf.specs.Doubles.{_⊗_, within, key, ofKey, isWhole, truncated, isClipNumber, signBit, totalKey}
 use Rattle.definitions.specs.declared.Knot.{Knot}
 use Rattle.definitions.specs.declared.LayerOffset.{LayerOffset}
@@ -14,10 +13,10 @@ use Rattle.definitions.specs.ClipSet.{ClipSet, Model, noSet, standing, n
 use Rattle.definitions.specs.Explicit.{ExplicitFields, explicitSet, explicitNumber, explicit1, explicit2, explicit3}
 use Rattle.definitions.specs.Retime.{movedNumber, apply, isIdentity, moved, sorted, retimeStageTimes, retimeNumber}
 use Rattle.definitions.specs.Value.{valueInSet}
-use Rattle.definitions.specs.Track.{Track, TrackOf, Outputs}
+use Rattle.definitions.specs.Track.{TrackOf, Outputs}
 use Rattle.definitions.specs.WholeList.{runFrom}
 use Rattle.definitions.specs.Calls.{Call, explicit, retime, bake, step, after}
-use Rattle.definitions.specs.Retimings.{History, installed, inTurn, remember, history}
+use Rattle.definitions.specs.Retimings.{installed, inTurn, remember, history}
 use Rattle.definitions.specs.Numbers.{GivenByNone}
 use Rattle.definitions.proofs.FigureTracks.{falling-track}
 use Rattle.definitions.proofs.Sets.{n, frac, -n, holds, fails, sameTimes, fields, missing, two, falling, falling-samples}

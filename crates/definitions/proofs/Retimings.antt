@@ -1,6 +1,6 @@
 -- What stands on the plain desk is the set that was installed last, after all retimings of it accepted since; and so for demand 3. Assumes nothing.
 use Prim.Native.Nat.{ℕ, zero, suc}
-use mathlib.Core.Path.{_≡_, refl, sym, ap, _∙_}
+use mathlib.Core.Path.{_≡_, refl, ap, _∙_}
 use mathlib.Core.List.{List, [], _∷_}
 use Rattle.definitions.specs.declared.LayerOffset.{LayerOffset}
 use Rattle.definitions.specs.ClipSet.{Model, noSet, standing}
@@ -12,7 +12,7 @@ use Rattle.definitions.specs.Questions.{Reply}
 use Rattle.definitions.specs.Track.{Outputs}
 use Rattle.definitions.specs.WholeList.{runFrom, LeftBy, begin, next}
 use Rattle.definitions.specs.Calls.{Call, explicit, template, retime, bake, accepted, step, Baked, WholeList}
-use Rattle.definitions.specs.Retimings.{History, nothing, installed, inTurn, remember, history, standsBy, FollowsRetimings, WholeListRetimed}
+use Rattle.definitions.specs.Retimings.{History, nothing, installed, inTurn, remember, standsBy, FollowsRetimings, WholeListRetimed}
 
 -- a choice by the number, seen through a function
 accepted-through : {A B : Type 0} (f : A → B) (n : ℕ) (before after : A) → accepted n (f before) (f after) ≡ f (accepted n before after)
