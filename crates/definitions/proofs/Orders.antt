@@ -3,7 +3,6 @@
 -- (argued in docs/DECISIONS.md, "Acceptance and numbers"). Assumes nothing.
 use mathlib.Core.Path.{_≡_, refl}
 use Prim.Native.Nat.{ℕ, zero, suc, _+_}
-use Prim.Native.String.{String}
 use mathlib.Core.Bool.{Bool, true, false, not, _&&_}
 use mathlib.Core.List.{List, [], _∷_}
 use mathlib.Core.Option.{none}
@@ -13,8 +12,7 @@ use lib.Ieee.{Float, nan, round, neg, add, sub, mul, div, lt, le, eq, toBits, of
 use lib.Ieee.Scale.{finite}
 use Rattle.gf.specs.Doubles.{within, key, ofKey, lerp, share, abs, isWhole, truncated, isClipNumber, signBit, totalKey, storable}
 use Rattle.definitions.specs.declared.LayerOffset.{LayerOffset}
-use Rattle.definitions.specs.Doubles.{lowest, nextLower}
-use Rattle.definitions.specs.ClipSet.{ClipSet, Model, noSet, standing, stage, clip, nanDefault, beyondLimits, equalStarts, equalKnots, badDefaultMark}
+use Rattle.definitions.specs.ClipSet.{Model, noSet, standing, stage, clip, nanDefault, beyondLimits, equalStarts, equalKnots, badDefaultMark}
 use Rattle.definitions.specs.Explicit.{ExplicitFields, explicitSet, explicitNumber, explicit1, explicit2, explicit3}
 use Rattle.definitions.specs.Names.{beforeHash, hashRun, withFraction, split, readable, digits, placesBy, places, padded, wholeBody, decimals, fractionBody, format, name, nameNumber}
 use Rattle.definitions.specs.Template.{TemplateFields, timesUnstorable, timesDisordered, repeated, promoted, activations, templateSet, templateNumber, template1, template2, template6, template7, template8}
@@ -26,7 +24,7 @@ use Rattle.definitions.specs.StageSamples.{dropEqual, dedup, stageSample
 use Rattle.definitions.specs.Normalize.{timeSamples, merge, mergeEqual, normalizeTimeSamples, normalizeNumber}
 use Rattle.definitions.specs.Track.{bakeNumber}
 use Rattle.definitions.specs.Questions.{numberOf, askActiveClip, askClipTime, askValue, askStageSampleTimes, askStageSamples, askStageSampleCount, askUntimed, clipTimesNumber}
-use Rattle.definitions.proofs.Sets.{n, frac, bytes, holds, fields, templated, noDefault, two, one}
+use Rattle.definitions.proofs.Sets.{n, frac, bytes, holds, fields, templated, two}
 
 -- ---- how a row is written: both tests hold of the call, and it gets this number
 
