@@ -1,30 +1,25 @@
--- Retimings in turn, computed by the definitions: each moves what the one before left, the identity moves nothing, a refused one leaves what stood. `wrong`: false
+-- Retimings, one and several in turn, computed by the definitions: each moves what the one before left, the identity moves nothing, a refused one leaves what stood. `wrong`: false
 -- figures, each found false. Assumes nothing.
 use mathlib.Core.Path.{_≡_, refl, sym, subst}
 use Prim.Native.Nat.{ℕ}
 use mathlib.Core.Bool.{Bool, true, false}
-use mathlib.Core.List.{List, [], _∷_, map}
+use mathlib.Core.List.{List, [], _∷_}
 use lib.Dec.{eqb}
 use lib.Ieee.{Float, nan, round, neg, add, sub, mul, div, lt, le, eq, toBits, ofBits, isNan}
 use Rattle.gf.specs.Doubles.{_⊗_, within, key, ofKey, isWhole, truncated, isClipNumber, signBit, totalKey}
-use Rattle.definitions.specs.declared.Knot.{Knot}
 use Rattle.definitions.specs.declared.LayerOffset.{LayerOffset}
-use Rattle.definitions.specs.ClipSet.{ClipSet, Model, noSet, standing, nanDefault, beyondLimits, equalStarts, equalKnots, badDefaultMark, activeTimes, knotTimes}
+use Rattle.definitions.specs.ClipSet.{ClipSet, Model, noSet, standing, nanDefault, beyondLimits, equalStarts, equalKnots, badDefaultMark, activeTimes}
 use Rattle.definitions.specs.Explicit.{ExplicitFields, explicitSet, explicitNumber, explicit1, explicit2, explicit3}
 use Rattle.definitions.specs.Retime.{movedNumber, apply, isIdentity, moved, sorted, retimeStageTimes, retimeNumber}
 use Rattle.definitions.specs.Value.{valueInSet}
-use Rattle.definitions.specs.Track.{TrackOf, Outputs}
+use Rattle.definitions.specs.Track.{TrackOf}
 use Rattle.definitions.specs.WholeList.{runFrom}
 use Rattle.definitions.specs.Calls.{Call, explicit, retime, bake, step, after}
 use Rattle.definitions.specs.Retimings.{installed, inTurn, remember, history}
-use Rattle.definitions.specs.Numbers.{GivenByNone}
 use Rattle.definitions.proofs.FigureTracks.{falling-track}
-use Rattle.definitions.proofs.Sets.{n, frac, -n, holds, fails, sameTimes, fields, missing, two, falling, falling-samples}
+use Rattle.definitions.proofs.Sets.{n, frac, -n, holds, fails, sameTimes, fields, missing, two, one, jumping, falling, falling-samples, by, xs, ys, noRoom}
 
 -- ---- how a figure is written
-
-abbrev by : Float → Float → LayerOffset
-by offset scale = record { offset = offset; scale = scale }
 
 abbrev noClips : ClipSet
 noClips = record { clips = 0; active = []; knots = []; blocks = []; default = record { mark = 2; value = n 0 }; interpolateMissing = false }
@@ -43,12 +38,6 @@ moving f os = setOf (after (explicit f ∷ retimings os))
 
 abbrev starts : ClipSet → List Float
 starts set = activeTimes (set .active)
-
-abbrev xs : ClipSet → List Float
-xs set = knotTimes (set .knots)
-
-abbrev ys : ClipSet → List Float
-ys set = map (λ (k : Knot). k .y) (set .knots)
 
 -- the number of a retiming after the others
 abbrev refusal : ExplicitFields → List LayerOffset → LayerOffset → ℕ
@@ -82,17 +71,25 @@ minus-zero = fields 1 (-n 0 ∷ []) (n 0 ∷ []) [] []
 abbrev identity : LayerOffset
 identity = by (n 0) (n 1)
 
-abbrev noRoom : Outputs
-noRoom = record { times = []; values = []; marks = [] }
-
 -- two retimings as one, which rounds otherwise
 abbrev joined : LayerOffset → LayerOffset → LayerOffset
 joined first second = by (apply second (first .offset)) (second .scale ⊗ first .scale)
 
 table : List Bool
 table =
-    -- each with its own roundings
-    sameTimes (starts (moving single (thrice ∷ third ∷ []))) (frac 6999999999999998 10000000000000000 ∷ [])
+    -- one: the identity keeps -0.0; rounding makes starts equal; scale 0; a block beyond 2^40; a falling scale keeps a pair's order; no set
+    sameTimes (starts (moving minus-zero (identity ∷ []))) (-n 0 ∷ [])
+    ∷ eqb (refusal (fields 2 (n 0 ∷ frac 1 100000 ∷ []) (n 0 ∷ n 1 ∷ []) [] []) [] (by (n 1000000000000) (n 1))) 4
+    ∷ eqb (refusal two [] (by (n 5) (n 0))) 4
+    ∷ eqb (refusal jumping [] (by (n 5) (n 0))) 5
+    ∷ eqb (refusal one [] (by (n 5) (n 0))) 0
+    ∷ eqb (refusal (missing (n 1099511627776 ∷ []) false one) [] (by (n 1000000) (n 1))) 2
+    ∷ eqb (refusal jumping [] (by (n 0) (-n 1))) 0
+    ∷ sameTimes (xs (moving jumping (by (n 0) (-n 1) ∷ []))) (-n 20 ∷ -n 10 ∷ -n 10 ∷ n 0 ∷ [])
+    ∷ sameTimes (ys (moving jumping (by (n 0) (-n 1) ∷ []))) (n 10 ∷ n 10 ∷ n 0 ∷ n 0 ∷ [])
+    ∷ eqb (retimeNumber (after []) identity) 20
+    -- several, each with its own roundings
+    ∷ sameTimes (starts (moving single (thrice ∷ third ∷ []))) (frac 6999999999999998 10000000000000000 ∷ [])
     ∷ sameTimes (starts (moving single (joined thrice third ∷ []))) (frac 7 10 ∷ [])
     -- a list that a scale of -0.0 left out of the total order, and then a scale of -1: sorted as it is
     ∷ sameTimes (xs (moving around (to-zero ∷ []))) (n 0 ∷ -n 0 ∷ [])
@@ -147,8 +144,3 @@ computed = record { figures = refl; wrong = refl; remembered = refl; turned-twic
 
 turned-track : TrackOf (valueInSet (inTurn (by (n 0) (-n 1) ∷ by (n 0) (-n 1) ∷ []) (explicitSet falling)) falling-samples) (record { initial = record { value = n 2; mark = 0 }; changes = record { time = n 20; value = n 3; mark = 0 } ∷ [] })
 turned-track = subst (λ (set : ClipSet). TrackOf (valueInSet set falling-samples) (record { initial = record { value = n 2; mark = 0 }; changes = record { time = n 20; value = n 3; mark = 0 } ∷ [] })) (sym (computed .turned-twice)) falling-track
-
--- that a number is given by no call can be false: 20 is given
-given : GivenByNone 20 → ⊥
-unfolding retimeNumber
-given g = g .retiming noSet identity refl

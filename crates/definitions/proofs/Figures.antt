@@ -9,11 +9,9 @@ use mathlib.Core.List.{List, [], _∷_, map}
 use lib.Dec.{eqb}
 use lib.Ieee.{Float, nan, round, neg, add, sub, mul, div, lt, le, eq, toBits, ofBits, isNan}
 use Rattle.gf.specs.Doubles.{within, key, ofKey, lerp, share, abs, isWhole, truncated, isClipNumber, signBit, totalKey}
-use Rattle.definitions.specs.declared.Knot.{Knot}
-use Rattle.definitions.specs.declared.LayerOffset.{LayerOffset}
 use Rattle.definitions.specs.declared.Answer.the-variants.{Value, Blocked, Absent}
 use Rattle.definitions.specs.Doubles.{lowest, nextLower}
-use Rattle.definitions.specs.ClipSet.{ClipSet, noSet, standing, stage, clip, nanDefault, beyondLimits, equalStarts, equalKnots, badDefaultMark, activeTimes}
+use Rattle.definitions.specs.ClipSet.{noSet, standing, stage, clip, nanDefault, beyondLimits, equalStarts, equalKnots, badDefaultMark, activeTimes}
 use Rattle.definitions.specs.Explicit.{ExplicitFields, explicitSet, explicitNumber, explicit1, explicit2, explicit3}
 use Rattle.definitions.specs.Names.{beforeHash, hashRun, withFraction, split, readable, digits, placesBy, places, padded, wholeBody, decimals, fractionBody, format, name, nameNumber}
 use Rattle.definitions.specs.Template.{TemplateFields, timesUnstorable, timesDisordered, repeated, promoted, activations, templateSet, templateNumber, template1, template2, template6, template7, template8}
@@ -23,13 +21,13 @@ use Rattle.definitions.specs.Samples.{Samples, clipBegin, clipEnd, clipT
 use Rattle.definitions.specs.Value.{says, blockedAt, contributes, readClip, firstReading, interpolateMissingValue, directSource, window, stageTimesForClipTime, windowSampleTimes, gathered, lowerNeighbour, upperNeighbour, jump, readingTime, valueSource, valueInSet}
 use Rattle.definitions.specs.StageSamples.{dropEqual, dedup, stageSampleTimes, suppliedAt, anySamples, untimedAnswer}
 use Rattle.definitions.specs.Normalize.{TimeSample, timeSamples, merge, mergeEqual, normalizeTimeSamples, normalizeNumber}
-use Rattle.definitions.specs.Track.{entryOf, alike, differs, TrackOf, Outputs}
+use Rattle.definitions.specs.Track.{entryOf, alike, differs, TrackOf}
 use Rattle.definitions.specs.Questions.{Reply, refused, replied, askValue}
 use Rattle.definitions.specs.WholeList.{runFrom}
 use Rattle.definitions.specs.Calls.{explicit, retime, bake, step, after}
 use Rattle.definitions.specs.declared.ValueState.{ValueState}
 use Rattle.definitions.specs.declared.ValueState.the-variants.{Present as present, Blocked as blocked, Absent as absent}
-use Rattle.definitions.proofs.Sets.{n, frac, -n, greatest, nextHigher, bytes, holds, fails, same, sameTimes, sameBytes, sameNames, isClip, is, fields, missing, templated, numbers, clipTimeAt, valueAt, names, two, jumping, falling, falling-samples, gap, gap-samples, one, one-samples, zeros, zeros-falling}
+use Rattle.definitions.proofs.Sets.{n, frac, -n, greatest, nextHigher, bytes, holds, fails, same, sameTimes, sameBytes, sameNames, isClip, is, fields, missing, templated, numbers, clipTimeAt, valueAt, names, two, jumping, falling, falling-samples, gap, gap-samples, one, one-samples, zeros, zeros-falling, by, xs, noRoom}
 use Rattle.definitions.proofs.FigureTracks.{set as gap-set, fall, gap-track, falling-track, zero-set, falling-zero-set, zeros-track, zeros-falling-track}
 
 -- ---- the table
@@ -198,15 +196,6 @@ defaulted = record {
   interpolateMissing = false;
 }
 
-abbrev offset : Float → Float → LayerOffset
-offset by scale = record { offset = by; scale = scale }
-
-abbrev retimedBy : Float → Float → ExplicitFields → ClipSet
-retimedBy by scale f = retimeStageTimes (offset by scale) (explicitSet f)
-
-abbrev retimingOf : Float → Float → ExplicitFields → ℕ
-retimingOf by scale f = retimeNumber (standing (explicitSet f)) (offset by scale)
-
 abbrev clipsOf : TemplateFields → ℕ
 clipsOf f = templateSet f .clips
 
@@ -215,12 +204,6 @@ named t x r = sameBytes (name (bytes t) (clip x)) (bytes r)
 
 abbrev unreadable : String → Bool
 unreadable t = eqb (nameNumber (bytes t) (clip (n 1)) 300) 6
-
-abbrev xs : ClipSet → List Float
-xs set = map (λ (k : Knot). k .x) (set .knots)
-
-abbrev ys : ClipSet → List Float
-ys set = map (λ (k : Knot). k .y) (set .knots)
 
 abbrev isRefused : {A : Type 0} → Reply A → ℕ → Bool
 isRefused (refused m) k = eqb m k
@@ -235,9 +218,6 @@ abbrev isAbsent : ValueState → Bool
 isAbsent present = false
 isAbsent blocked = false
 isAbsent absent = true
-
-abbrev noRoom : Outputs
-noRoom = record { times = []; values = []; marks = [] }
 
 examples-table : List Bool
 examples-table =
@@ -278,17 +258,6 @@ examples-table =
     ∷ is (valueAt jumping (numbers [] [] []) (n 5)) Absent
     ∷ isAbsent (untimedAnswer (explicitSet jumping) (numbers [] [] []))
     ∷ isPresent (untimedAnswer (explicitSet (gap [] false)) blocking)
-    -- retiming: the identity keeps -0.0; rounding makes starts equal; scale 0; a block beyond 2^40; a falling scale keeps a pair's order
-    ∷ sameTimes (activeTimes (retimedBy (n 0) (n 1) (fields 1 (-n 0 ∷ []) (n 0 ∷ []) [] []) .active)) (-n 0 ∷ [])
-    ∷ eqb (retimingOf (n 1000000000000) (n 1) (fields 2 (n 0 ∷ frac 1 100000 ∷ []) (n 0 ∷ n 1 ∷ []) [] [])) 4
-    ∷ eqb (retimingOf (n 5) (n 0) two) 4
-    ∷ eqb (retimingOf (n 5) (n 0) jumping) 5
-    ∷ eqb (retimingOf (n 5) (n 0) one) 0
-    ∷ eqb (retimingOf (n 1000000) (n 1) (missing (n 1099511627776 ∷ []) false one)) 2
-    ∷ eqb (retimingOf (n 0) (neg (n 1)) jumping) 0
-    ∷ sameTimes (xs (retimedBy (n 0) (neg (n 1)) jumping)) (-n 20 ∷ -n 10 ∷ -n 10 ∷ n 0 ∷ [])
-    ∷ sameTimes (ys (retimedBy (n 0) (neg (n 1)) jumping)) (n 10 ∷ n 10 ∷ n 0 ∷ n 0 ∷ [])
-    ∷ eqb (retimeNumber (after []) (offset (n 0) (n 1))) 20
     -- templates: the order 1, 2, 7, 6, 8, 2, 4, 5, 9; the slack of 0.5; an absent offset's slot; a stride that does not move t, and a huge one
     ∷ eqb (templateNumber (templated "f.usd" (n 1) (n 3) (n 0) false (n 0))) 7
     ∷ eqb (templateNumber (templated "f.usd" (n 1) (n 3) (n 1) false nan)) 6
@@ -360,7 +329,7 @@ record Figures : Type 0 where
   wrong : fails wrong-table ≡ true
   examples : holds examples-table ≡ true
   -- demand 3's premises can be met: a list of calls, refused ones among them, after which a set stands; its samples are accepted by a row of the table
-  stands-after : after (retime (offset (n 0) (n 1)) ∷ explicit falling ∷ explicit (fields 2 (n 0 ∷ -n 0 ∷ []) (n 0 ∷ n 1 ∷ []) [] []) ∷ bake falling-samples noRoom ∷ []) ≡ standing (explicitSet falling)
+  stands-after : after (retime (by (n 0) (n 1)) ∷ explicit falling ∷ explicit (fields 2 (n 0 ∷ -n 0 ∷ []) (n 0 ∷ n 1 ∷ []) [] []) ∷ bake falling-samples noRoom ∷ []) ≡ standing (explicitSet falling)
 
 computed : Figures
 unfolding

@@ -10,17 +10,18 @@ use lib.IntN.{pos}
 use lib.Ieee.{Float, nan, fin, binary64, round, neg, toBits}
 use Rattle.gf.specs.Doubles.{key, ofKey, most}
 use Rattle.definitions.specs.declared.Knot.{Knot}
+use Rattle.definitions.specs.declared.LayerOffset.{LayerOffset}
 use Rattle.definitions.specs.declared.Answer.{Answer}
 use Rattle.definitions.specs.Lists.{all}
 use Rattle.definitions.specs.declared.Default.{Default}
-use Rattle.definitions.specs.ClipSet.{stage, clip, markNone}
+use Rattle.definitions.specs.ClipSet.{ClipSet, stage, clip, markNone, knotTimes}
 use Rattle.definitions.specs.Explicit.{ExplicitFields, explicitSet}
 use Rattle.definitions.specs.Names.{name}
 use Rattle.definitions.specs.Template.{TemplateFields, templateSet}
 use Rattle.definitions.specs.Timing.{mapStageToClip}
 use Rattle.definitions.specs.Samples.{Samples}
 use Rattle.definitions.specs.Value.{valueInSet}
-use Rattle.definitions.specs.Track.{markOf, slotOf}
+use Rattle.definitions.specs.Track.{markOf, slotOf, Outputs}
 
 -- ---- how a figure is written
 
@@ -162,6 +163,22 @@ one = fields 1 (n 0 ∷ []) (n 0 ∷ []) (n 0 ∷ n 10 ∷ []) (n 10 ∷ n 0 ∷
 
 abbrev pub one-samples : Samples
 one-samples = numbers (n 0 ∷ n 5 ∷ n 10 ∷ []) (n 1 ∷ n 2 ∷ n 3 ∷ []) (3 ∷ [])
+
+-- ---- retimings, and what is told of a set
+
+abbrev pub by : Float → Float → LayerOffset
+by offset scale = record { offset = offset; scale = scale }
+
+abbrev pub xs : ClipSet → List Float
+xs set = knotTimes (set .knots)
+
+abbrev pub ys : ClipSet → List Float
+ys set = map (λ (k : Knot). k .y) (set .knots)
+
+-- ---- a bake's lists without a slot
+
+abbrev pub noRoom : Outputs
+noRoom = record { times = []; values = []; marks = [] }
 
 -- ---- zeros of both signs
 

@@ -7,7 +7,7 @@ use Rattle.definitions.specs.Questions.{Reply, refused, replied, reply, numberO
 use Rattle.definitions.specs.Track.{slots, bakeNumber}
 use Rattle.definitions.specs.Calls.{Baked as Told, bakedOf}
 use Rattle.definitions.specs.Numbers.{GivenByNone}
-use Rattle.definitions.proofs.Numbers.{twenty-one-is-gone}
+use Rattle.definitions.proofs.Orders.{twenty-one-is-gone}
 use Rattle.names.specs.declared.Named.{Named}
 use Rattle.names.specs.declared.Named.the-variants as named
 use Rattle.names.specs.Named as names
