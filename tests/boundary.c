@@ -108,14 +108,19 @@ static void templates(void) {
   CHECK(named("f.##.##.usd", 0.125, "f.00.12.usd") && named("f.##.##.usd", 0.375, "f.00.38.usd"));
 }
 
-static void held(void) {
+/* The first clip runs backwards from 0 to 20, then comes the second. */
+static void accept_backwards(tavitrozy_resolver *r, samples *s) {
   const double starts[] = {0, 20}, numbers[] = {0, 1}, xs[] = {0, 20}, ys[] = {10, 0};
+  tavitrozy_fresh(r);
+  add(s, 0, 1), add(s, 10, 2), end_clip(s), add(s, 0, 3), end_clip(s);
+  CHECK(accept(r, 2, starts, numbers, 2, xs, ys, 2) == 0);
+}
+
+static void held(void) {
   static samples s;
   track_lists t;
   tavitrozy_resolver r;
-  tavitrozy_fresh(&r);
-  add(&s, 0, 1), add(&s, 10, 2), end_clip(&s), add(&s, 0, 3), end_clip(&s);
-  CHECK(accept(&r, 2, starts, numbers, 2, xs, ys, 2) == 0);
+  accept_backwards(&r, &s);
   tavitrozy_value_reply v = tavitrozy_value(&r, LENT(&s), at(5));
   CHECK(v.number == 0 && v.mark == TAVITROZY_VALUE && v.value == 2);
   tavitrozy_baked b = tavitrozy_bake(&r, LENT(&s), OUT(&t, 64));
@@ -244,13 +249,10 @@ static void identity_again(void) {
 
 /* The track is that of the set after both. */
 static void baked_after_two(void) {
-  const double starts[] = {0, 20}, numbers[] = {0, 1}, xs[] = {0, 20}, ys[] = {10, 0};
   static samples s;
   tavitrozy_resolver r;
   track_lists t;
-  tavitrozy_fresh(&r);
-  add(&s, 0, 1), add(&s, 10, 2), end_clip(&s), add(&s, 0, 3), end_clip(&s);
-  CHECK(accept(&r, 2, starts, numbers, 2, xs, ys, 2) == 0);
+  accept_backwards(&r, &s);
   CHECK(tavitrozy_retime(&r, moving(100, 0.5)) == 0);
   tavitrozy_baked b = tavitrozy_bake(&r, LENT(&s), OUT(&t, 64));
   CHECK(b.number == 0 && b.value == 2 && b.count == 1 && t.times[0] == 110 && t.values[0] == 3);

@@ -283,6 +283,27 @@ fn lent(index: usize, out: &mut Writer<'_>) {
     out.call(&Call::Track(1));
 }
 
+/// A set to be retimed: the i-th start is of clip i, and blocks are heeded.
+fn accept(clips: u64, start_times: &[f64], (x, y): (&[f64], &[f64]), blocks: &[f64], out: &mut Writer<'_>) {
+    out.call(&Call::Explicit(Explicit {
+        clips,
+        start_clips: (0..start_times.len()).map(|i| i as f64).collect(),
+        start_times: start_times.to_vec(),
+        knot_x: x.to_vec(),
+        knot_y: y.to_vec(),
+        filling: Filling { blocks: blocks.to_vec(), flag: true, ..NO_FILLING },
+    }));
+}
+
+/// The values at some times, the stage sample times, the track.
+fn ask_all(times: [f64; 4], out: &mut Writer<'_>) {
+    for t in times {
+        out.call(&Call::Value(t));
+    }
+    out.call(&Call::Times(ROOM));
+    out.call(&Call::TrackHash);
+}
+
 const MOVES: [f64; 14] =
     [0.0, -0.0, 1.0, -1.0, 0.1, -3.0, 1e12, 1e300, -1e-300, 5e-324, f64::NAN, f64::INFINITY, FAR, 1.0000000000000002];
 
@@ -295,22 +316,14 @@ fn retime(index: usize, out: &mut Writer<'_>) {
     let offset = choices.of(&MOVES);
     let scale = choices.of(&MOVES);
     let starts: [&[f64]; 3] = [&[-0.0], &[0.0, 1e-5], &[-2.0, 1.0, 3.0]];
-    let start_times = choices.of(&starts).to_vec();
+    let start_times = choices.of(&starts);
     let knots: [(&[f64], &[f64]); 4] = [
         (&[], &[]),
         (&[-0.0, 0.0, 1.0], &[1.0, 2.0, 3.0]),
         (&[0.0, 10.0, 10.0, 20.0], &[0.0, 10.0, 0.0, 10.0]),
         (&[-1.0, 1.0], &[5.0, -5.0]),
     ];
-    let (x, y) = choices.of(&knots);
-    out.call(&Call::Explicit(Explicit {
-        clips: 3,
-        start_clips: (0..start_times.len()).map(|i| i as f64).collect(),
-        start_times,
-        knot_x: x.to_vec(),
-        knot_y: y.to_vec(),
-        filling: Filling { blocks: vec![-0.0, 1.0], flag: true, ..NO_FILLING },
-    }));
+    accept(3, start_times, choices.of(&knots), &[-0.0, 1.0], out);
     out.call(&Call::Samples(Samples {
         ends: vec![2, 3, 4],
         times: vec![0.0, 2.0, 1.0, 3.0],
@@ -319,11 +332,7 @@ fn retime(index: usize, out: &mut Writer<'_>) {
     }));
     out.call(&Call::Retime(offset, scale));
     out.call(&Call::Dump);
-    for t in [-1.0, 0.0, 0.5, 2.0] {
-        out.call(&Call::Value(t));
-    }
-    out.call(&Call::Times(ROOM));
-    out.call(&Call::TrackHash);
+    ask_all([-1.0, 0.0, 0.5, 2.0], out);
     out.call(&Call::Retime(0.0, 1.0));
     out.call(&Call::Dump);
 }
@@ -341,18 +350,10 @@ fn twice(index: usize, out: &mut Writer<'_>) {
     let mut choices = Choices(index);
     let moves: [(f64, f64); 2] = std::array::from_fn(|_| (choices.of(&TWICE_OFFSETS), choices.of(&TWICE_SCALES)));
     let starts: [&[f64]; 3] = [&[-0.0], &[0.7], &[-0.0, 0.7]];
-    let start_times = choices.of(&starts).to_vec();
+    let start_times = choices.of(&starts);
     let knots: [(&[f64], &[f64]); 4] =
         [(&[], &[]), (&[-1.0, 1.0], &[1.0, 2.0]), (&[-0.0, 0.0], &[1.0, 2.0]), (&[-1.0, 0.7, 0.7], &[0.0, 2.0, 1.0])];
-    let (x, y) = choices.of(&knots);
-    out.call(&Call::Explicit(Explicit {
-        clips: 2,
-        start_clips: (0..start_times.len()).map(|i| i as f64).collect(),
-        start_times,
-        knot_x: x.to_vec(),
-        knot_y: y.to_vec(),
-        filling: Filling { blocks: vec![0.0, 0.7000000000000001], flag: true, ..NO_FILLING },
-    }));
+    accept(2, start_times, choices.of(&knots), &[0.0, 0.7000000000000001], out);
     out.call(&Call::Samples(Samples {
         ends: vec![2, 4],
         times: vec![0.0, 2.0, 1.0, 1.5],
@@ -363,11 +364,7 @@ fn twice(index: usize, out: &mut Writer<'_>) {
         out.call(&Call::Retime(offset, scale));
         out.call(&Call::Dump);
     }
-    for t in [-1.0, 0.0, 0.7, 2.0] {
-        out.call(&Call::Value(t));
-    }
-    out.call(&Call::Times(ROOM));
-    out.call(&Call::TrackHash);
+    ask_all([-1.0, 0.0, 0.7, 2.0], out);
 }
 
 // Zeros of either sign, 1.0 and blocks: the first clip has three such samples, the second one or none, the third none; the

@@ -15,7 +15,7 @@ use Rattle.definitions.specs.ClipSet.{noSet, standing, stage, clip, nanD
 use Rattle.definitions.specs.Explicit.{ExplicitFields, explicitSet, explicitNumber, explicit1, explicit2, explicit3}
 use Rattle.definitions.specs.Names.{beforeHash, hashRun, withFraction, split, readable, digits, placesBy, places, padded, wholeBody, decimals, fractionBody, format, name, nameNumber}
 use Rattle.definitions.specs.Template.{TemplateFields, timesUnstorable, timesDisordered, repeated, promoted, activations, templateSet, templateNumber, template1, template2, template6, template7, template8}
-use Rattle.definitions.specs.Retime.{movedNumber, apply, isIdentity, moved, sorted, retimeStageTimes, retimeNumber}
+use Rattle.definitions.specs.Retime.{retimeNumber}
 use Rattle.definitions.specs.Timing.{lastAtMost, activePosition, activeEntry, activeClip, onSegment, mapTime, mapStageToClip}
 use Rattle.definitions.specs.Samples.{Samples, clipBegin, clipEnd, clipTimes, heldPlace, unlikeLengths, samples1, samples2, badMarks, closes, samples9, samplesNumber}
 use Rattle.definitions.specs.Value.{says, blockedAt, contributes, readClip, firstReading, interpolateMissingValue, directSource, window, stageTimesForClipTime, windowSampleTimes, gathered, lowerNeighbour, upperNeighbour, jump, readingTime, valueSource, valueInSet}
@@ -339,7 +339,7 @@ unfolding
     timesUnstorable timesDisordered templateSet templateNumber template1 template2 template6 template7 template8 lastAtMost activePosition activeEntry activeClip onSegment mapTime
     mapStageToClip clipBegin clipEnd clipTimes heldPlace unlikeLengths samples1 samples2 badMarks closes samples9 samplesNumber says blockedAt
     contributes readClip firstReading interpolateMissingValue directSource window stageTimesForClipTime windowSampleTimes gathered lowerNeighbour
-    upperNeighbour jump readingTime valueSource valueInSet entryOf alike differs unmarked-table wrong-table examples-table nameNumber apply isIdentity movedNumber
-    moved sorted retimeStageTimes retimeNumber dropEqual dedup stageSampleTimes suppliedAt anySamples untimedAnswer timeSamples merge mergeEqual
+    upperNeighbour jump readingTime valueSource valueInSet entryOf alike differs unmarked-table wrong-table examples-table nameNumber
+    retimeNumber dropEqual dedup stageSampleTimes suppliedAt anySamples untimedAnswer timeSamples merge mergeEqual
     normalizeTimeSamples normalizeNumber step runFrom askValue
 computed = record { figures = refl; head-and-change = falling-track; head-alone = gap-track; unmarked = refl; zeros-alone = zeros-track; zeros-falling-alone = zeros-falling-track; wrong = refl; examples = refl; stands-after = refl }
