@@ -1,3 +1,4 @@
 -- What contracts cite.
+pub mod Digits
 pub mod Placed
 pub mod Segments

@@ -1,5 +1,4 @@
 -- What the promises of this crate cite. Each module uses only those above it.
 pub mod Placed
-pub mod Merging
 pub mod Runs
 pub mod Normalizes
