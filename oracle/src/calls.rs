@@ -58,6 +58,8 @@ pub enum Call {
     Normalize(Samples, u64),
     /// A template's numbers; its pattern is `#`, which no number refuses.
     ClipTimes(Template, u64),
+    /// Two bit patterns, NaNs of every payload among them, so no doubles.
+    KeyCompare(u64, u64),
 }
 
 /// The room of each lent output list where a call names none.
@@ -167,6 +169,11 @@ pub fn read(first: &[u8], mut words: Words<'_>) -> Option<Call> {
             let numbers = template_numbers(&mut words)?;
             Call::ClipTimes(Template { bytes: b"#".to_vec(), ..numbers }, words.slots(ROOM)?)
         }
+        b"keycmp" => {
+            let (first, second) = (words.pattern()?, words.pattern()?);
+            words.end()?;
+            Call::KeyCompare(first, second)
+        }
         _ => return None,
     })
 }
@@ -248,6 +255,9 @@ pub fn write(line: &mut Line, call: &Call) {
         Call::ClipTimes(t, slots) => {
             write_template_numbers(line.word("cliptimes"), t);
             write_slots(line, *slots, ROOM);
+        }
+        Call::KeyCompare(first, second) => {
+            line.word("keycmp").bits(*first).bits(*second);
         }
     }
     line.end();

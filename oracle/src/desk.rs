@@ -190,6 +190,7 @@ impl Desk {
             Call::Name(bytes, time, slots) => self.name(&bytes, time, slots, out),
             Call::Normalize(samples, slots) => self.normalize(&samples, slots, out),
             Call::ClipTimes(template, slots) => self.clip_times(&template, slots, out),
+            Call::KeyCompare(first, second) => self.key_compare(first, second, out),
             Call::Case(_) | Call::Samples(_) => unreachable!("answered above"),
         }
     }
@@ -582,6 +583,15 @@ impl Desk {
         }
         numbers::room(slots, rust.len())?;
         out.word("cliptimes").doubles(&rust);
+        Ok(())
+    }
+
+    fn key_compare(&mut self, first: u64, second: u64, out: &mut Line) -> Answered {
+        let rust = f64::from_bits(first).total_cmp(&f64::from_bits(second));
+        if self.check {
+            self.compare("keycmp", rust, plain::total_order(first, second));
+        }
+        out.word("keycmp").order(rust);
         Ok(())
     }
 

@@ -1,5 +1,7 @@
 //! Reading and writing the case text: words, doubles as 16 hex digits or decimals, counted lists, bytes as hex pairs.
 
+use std::cmp::Ordering;
+
 /// The words of one line.
 pub struct Words<'a>(&'a [u8]);
 
@@ -47,6 +49,11 @@ impl<'a> Words<'a> {
         read_double(self.word()?)
     }
 
+    /// A double's bits as they are written, a NaN's too.
+    pub fn pattern(&mut self) -> Option<u64> {
+        read_pattern(self.word()?)
+    }
+
     pub fn doubles(&mut self) -> Option<Vec<f64>> {
         let count = self.number()?;
         (0..count).map(|_| self.double()).collect()
@@ -85,9 +92,13 @@ impl<'a> Words<'a> {
     }
 }
 
-/// A double: its bits, or a decimal. No word is both, since a decimal has fewer digits.
 pub fn read_double(word: &[u8]) -> Option<f64> {
-    read_bits(word).map(f64::from_bits).or_else(|| read_decimal(word))
+    read_pattern(word).map(f64::from_bits)
+}
+
+/// A double's bits: themselves, or a decimal's. No word is both, since a decimal has fewer digits.
+fn read_pattern(word: &[u8]) -> Option<u64> {
+    read_bits(word).or_else(|| read_decimal(word).map(f64::to_bits))
 }
 
 fn read_bits(word: &[u8]) -> Option<u64> {
@@ -139,6 +150,15 @@ impl Line {
 
     pub fn double(&mut self, d: f64) -> &mut Self {
         self.bits(d.to_bits())
+    }
+
+    /// Where the first of two comes.
+    pub fn order(&mut self, order: Ordering) -> &mut Self {
+        self.word(match order {
+            Ordering::Less => "before",
+            Ordering::Equal => "same",
+            Ordering::Greater => "after",
+        })
     }
 
     pub fn doubles(&mut self, list: &[f64]) -> &mut Self {
