@@ -19,6 +19,7 @@ mod desk;
 mod doubles;
 mod figures;
 mod numbers;
+mod patterns;
 mod plain;
 mod random;
 mod random_cases;

@@ -1,9 +1,10 @@
 //! Cases from a seed: sets of every shape with questions at special times, damaged copies of good calls, lists around
-//! each limit, names and lists to normalise.
+//! each limit, names and lists to normalise, bit patterns in the total order.
 
 use crate::calls::{Call, Explicit, Filling, NAME_ROOM, ROOM, Samples, Template};
 use crate::doubles::{FAR, at, listed, place};
 use crate::numbers;
+use crate::patterns;
 use crate::plain::{self, Read, Set};
 use crate::random::{Random, Scale};
 use crate::track;
@@ -14,6 +15,7 @@ pub fn write(seed: u64, replies: u64, out: &mut Writer<'_>) {
     let mut random = Random::new(seed);
     // Drawn apart, so that a seed's other calls are the same where these are left out.
     let (mut apart, mut spelled) = (Random::new(!seed), Random::new(!seed >> 1));
+    let mut placed = Random::new(seed.reverse_bits());
     let with_decimals = writer::wanted("DECIMALS");
     let mut number = 0;
     while out.replies < replies {
@@ -22,6 +24,9 @@ pub fn write(seed: u64, replies: u64, out: &mut Writer<'_>) {
         case(&mut random, out);
         if apart.chance(10) {
             clip_times(&mut apart, out);
+        }
+        if placed.chance(10) {
+            key_pairs(&mut placed, out);
         }
         if with_decimals && spelled.chance(10) {
             decimals(&mut spelled, out);
@@ -828,6 +833,7 @@ fn decimals(random: &mut Random, out: &mut Writer<'_>) {
         "value ?",
         "cliptime ?",
         "name 232e232323232323 ?",
+        "keycmp ? ?",
     ];
     for _ in 0..random.between(2, 8) {
         let mut line = random.pick(&lines).to_owned();
@@ -850,6 +856,14 @@ fn clip_times(random: &mut Random, out: &mut Writer<'_>) {
         let count = if numbers::template(&template).is_ok() { plain::clip_times(&template).len() } else { 0 };
         let slots = slots(random, count);
         out.call(&Call::ClipTimes(template, slots));
+    }
+}
+
+/// Bit patterns, compared two by two.
+fn key_pairs(random: &mut Random, out: &mut Writer<'_>) {
+    for _ in 0..random.between(5, 20) {
+        let (first, second) = patterns::pair(random);
+        out.call(&Call::KeyCompare(first, second));
     }
 }
 

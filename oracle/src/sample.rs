@@ -11,8 +11,19 @@ use crate::{figures, random_cases, short_cases};
 /// Cases longer than this are left out of the generated ones.
 const LONGEST: usize = 3000;
 
-const SETS: [&str; 10] =
-    ["case", "explicit", "template", "retime", "dump", "active", "cliptime", "cliptimes", "name", "normalize"];
+const SETS: [&str; 11] = [
+    "case",
+    "explicit",
+    "template",
+    "retime",
+    "dump",
+    "active",
+    "cliptime",
+    "cliptimes",
+    "name",
+    "normalize",
+    "keycmp",
+];
 
 fn word(line: &str) -> &str {
     line.split_whitespace().next().unwrap_or("")
@@ -28,7 +39,7 @@ fn replies_to(text: &str) -> String {
 fn shows(call: &str, reply: &str) -> String {
     let words: Vec<&str> = reply.split_whitespace().collect();
     let kind = match words[0] {
-        "refused" | "untimed" => words[1].to_owned(),
+        "refused" | "untimed" | "keycmp" => words[1].to_owned(),
         "value" => format!("{} {}", words[1], words[2] == "8000000000000000"),
         // A zero of mark 0 stands in the head or in a change.
         "track" => format!("{} {} {}", words[1], words[3].len().min(2), reply.contains(" 0 0000000000000000")),

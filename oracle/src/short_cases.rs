@@ -2,11 +2,12 @@
 
 use crate::calls::{Call, Explicit, Filling, NAME_ROOM, ROOM, Samples, Template};
 use crate::doubles::{FAR, at, place};
+use crate::patterns::telling;
 use crate::writer::Writer;
 
 type Family = (&'static str, fn() -> usize, fn(usize, &mut Writer<'_>));
 
-const FAMILIES: [Family; 10] = [
+const FAMILIES: [Family; 11] = [
     ("mapping", mapping_size, mapping),
     ("missing", missing_size, missing),
     ("lists", lists_size, lists),
@@ -17,6 +18,7 @@ const FAMILIES: [Family; 10] = [
     ("retime", retime_size, retime),
     ("twice", twice_size, twice),
     ("zeros", zeros_size, zeros),
+    ("keys", keys_size, keys),
 ];
 
 /// Writes every `of`-th case, beginning with `part`.
@@ -413,4 +415,16 @@ fn zeros(index: usize, out: &mut Writer<'_>) {
         out.call(&Call::Track(slots));
     }
     out.call(&Call::TrackHash);
+}
+
+// A telling bit pattern against each of them.
+
+fn keys_size() -> usize {
+    telling().len()
+}
+
+fn keys(index: usize, out: &mut Writer<'_>) {
+    for other in telling() {
+        out.call(&Call::KeyCompare(telling()[index], other));
+    }
 }
