@@ -35,7 +35,7 @@
  *   fresh 256   accept 56320   accept_template 60416   retime 60928   active_clip 256
  *   clip_time 256   value 1792   untimed 512   stage_sample_count 9472   stage_sample_times 9728
  *   stage_samples 9728   change_count 15104   bake 15616   read 256   name 256
- *   template_clip_times 4352   normalize 59392
+ *   template_clip_times 4352   normalize 59392   total_key 256
  */
 #ifndef TAVITROZY_H
 #define TAVITROZY_H
@@ -183,6 +183,11 @@ tavitrozy_counted tavitrozy_template_clip_times(tavitrozy_template_times times, 
 tavitrozy_counted tavitrozy_normalize(const double *TAVITROZY_RESTRICT times, size_t times_len, const double *TAVITROZY_RESTRICT values, size_t values_len,
   const uint8_t *TAVITROZY_RESTRICT marks, size_t marks_len, double *TAVITROZY_RESTRICT out_times, size_t out_times_len,
   double *TAVITROZY_RESTRICT out_values, size_t out_values_len, uint8_t *TAVITROZY_RESTRICT out_marks, size_t out_marks_len);
+
+/* The key of a double's bit pattern: key(a) < key(b) exactly if the total order places a before b, and equal keys only for equal patterns. The order has a place
+ * for all 2^64 patterns: negative NaNs (larger payload first), -infinity, .., -0.0, 0.0, .., infinity, NaNs. It is IEEE 754's totalOrder and Rust's total_cmp.
+ * The key is 2^63 + bits where the sign is clear, and 2^64 - 1 - bits where it is set. Never refused. A double's bits are had by memcpy. */
+uint64_t tavitrozy_total_key(uint64_t bits);
 
 /* Whether the calling thread computes as the library needs it: round to nearest, no FTZ, no DAZ. To be asked where a program or a thread begins. */
 static inline bool tavitrozy_environment_is_exact(void) {

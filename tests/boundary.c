@@ -1,5 +1,5 @@
 /* The library as a C program meets it: the worked figures, zeros, retimings in a row, every refusal number that is given, NULL and the limits, what a refused
- * call leaves, and the odd readings.
+ * call leaves, the odd readings, and the keys of the total order.
  * It is built as C11 and as C++17, so it keeps to what both have. Prints what is not so; status 1 if anything is not. */
 #include <fenv.h>
 #include <math.h>
@@ -569,6 +569,26 @@ static void readings_out_of_order(void) {
   }
 }
 
+/* ---- the keys of the total order */
+
+static void total_keys(void) {
+  /* from before to after: NaNs by their payload, -infinity, .., -0.0, 0.0, .., infinity, NaNs */
+  const uint64_t ascending[] = {
+    UINT64_C(0xffffffffffffffff), UINT64_C(0xfff8000000000001), UINT64_C(0xfff8000000000000), UINT64_C(0xfff0000000000001), UINT64_C(0xfff0000000000000),
+    UINT64_C(0xffefffffffffffff), UINT64_C(0xc000000000000000), UINT64_C(0xbff0000000000000), UINT64_C(0x8000000000000001), UINT64_C(0x8000000000000000),
+    UINT64_C(0x0000000000000000), UINT64_C(0x0000000000000001), UINT64_C(0x3ff0000000000000), UINT64_C(0x4000000000000000), UINT64_C(0x7fefffffffffffff),
+    UINT64_C(0x7ff0000000000000), UINT64_C(0x7ff0000000000001), UINT64_C(0x7ff8000000000000), UINT64_C(0x7ff8000000000001), UINT64_C(0x7fffffffffffffff),
+  };
+  const size_t last = sizeof ascending / sizeof *ascending - 1;
+  for (size_t i = 0; i < last; i++) CHECK(tavitrozy_total_key(ascending[i]) < tavitrozy_total_key(ascending[i + 1]));
+  CHECK(tavitrozy_total_key(ascending[0]) == 0 && tavitrozy_total_key(ascending[last]) == UINT64_MAX);
+  CHECK(tavitrozy_total_key(UINT64_C(1) << 63) == UINT64_MAX >> 1 && tavitrozy_total_key(0) == UINT64_C(1) << 63);
+  const double minus_two = -2.0;
+  uint64_t bits;
+  memcpy(&bits, &minus_two, sizeof bits);
+  CHECK(tavitrozy_total_key(bits) == UINT64_C(0x3fffffffffffffff));
+}
+
 /* ---- the floating-point environment */
 
 static void environment(void) {
@@ -604,7 +624,7 @@ int main(void) {
   retimed_again(), identity_again(), baked_after_two();
   refused_acceptances(), refused_retimings(), refused_without_set(), refused_samples(), refused_for_room_or_time(), refused_fields();
   nothing_lent(), limits_of_sets(), limits_of_templates(), limits_of_samples();
-  outputs(), stands_as_sorted(), normal_form(), readings(), readings_out_of_order(), environment(), version();
+  outputs(), stands_as_sorted(), normal_form(), readings(), readings_out_of_order(), total_keys(), environment(), version();
   printf("boundary: %d checks, %d not so\n", checks, failures);
   return failures != 0;
 }

@@ -77,12 +77,14 @@ CALL call_template_clip_times(void) { refused = tavitrozy_template_clip_times(st
 CALL call_normalize(void) {
   refused = tavitrozy_normalize(shuffled, 4096, values, 4096, marks, 4096, out_times, 4096, out_values, 4096, out_marks, 4096).number;
 }
+CALL call_total_key(void) { refused = tavitrozy_total_key(0) == 0; }
 
 typedef struct { const char *name; void (*call)(void); } row;
 #define ROW(N) {#N, call_##N}
 static const row rows[] = {
   ROW(fresh), ROW(accept), ROW(accept_template), ROW(retime), ROW(active_clip), ROW(clip_time), ROW(value), ROW(untimed), ROW(stage_sample_count),
   ROW(stage_sample_times), ROW(stage_samples), ROW(change_count), ROW(bake), ROW(read), ROW(name), ROW(template_clip_times), ROW(normalize),
+  ROW(total_key),
 };
 
 /* ---- the measure */

@@ -216,4 +216,5 @@ unsafe extern "C" {
     pub fn tavitrozy_template_clip_times(
         template: TemplateTimes, has_offset: bool, out_times: *mut f64, out_times_len: usize,
     ) -> Counted;
+    pub fn tavitrozy_total_key(bits: u64) -> u64;
 }

@@ -8,6 +8,7 @@ mod resolver;
 mod samples;
 mod set;
 mod times;
+mod total_order;
 mod track;
 
 pub use environment::environment_is_exact;
@@ -17,6 +18,7 @@ pub use resolver::{Resolver, State, Supplied};
 pub use samples::{SampleLists, Samples, normalize, normalize_into};
 pub use set::{Explicit, Fallback, LayerOffset, StandingSet, Template, TemplateTimes};
 pub use times::{ClipTime, StageTime};
+pub use total_order::total_key;
 pub use track::{Answer, Change, Track};
 
 /// The marks that stand beside values in lent lists.
