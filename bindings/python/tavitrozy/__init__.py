@@ -32,7 +32,7 @@ from ._library import (
 )
 from ._resolver import Resolver, Samples, StageSample, StandingSet
 from ._track import Track
-from ._without_set import environment_is_exact, name, normalize, template_clip_times
+from ._without_set import environment_is_exact, name, normalize, template_clip_times, total_key
 
 __version__ = "0.3.0"
 
@@ -60,4 +60,5 @@ __all__ = [
     "name",
     "normalize",
     "template_clip_times",
+    "total_key",
 ]

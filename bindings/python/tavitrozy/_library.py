@@ -107,6 +107,7 @@ _CALLS = {
     "tavitrozy_name": (Counted, [*_BYTES, ClipTime, *_BYTES]),
     "tavitrozy_template_clip_times": (Counted, [TemplateTimes, c_bool, *_DOUBLES]),
     "tavitrozy_normalize": (Counted, [*_DOUBLES, *_DOUBLES, *_BYTES, *_DOUBLES, *_DOUBLES, *_BYTES]),
+    "tavitrozy_total_key": (c_uint64, [c_uint64]),
 }
 
 

@@ -1,4 +1,4 @@
-"""What needs no set: names and clip times of a template, samples in any order, the floating-point environment."""
+"""What needs no set: names and clip times of a template, samples in any order, the total order, the floating-point environment."""
 
 from array import array
 from typing import Any, Optional, Tuple, Union
@@ -41,6 +41,21 @@ def normalize(times: Any, values: Any, marks: Any) -> Tuple[array, array, array]
     reply = calls.tavitrozy_normalize(*_lists.lent(*given, first, second, third))
     accepted(reply.number)
     return first[: reply.count], second[: reply.count], third[: reply.count]
+
+
+def total_key(bits: int) -> int:
+    """The key of a double's bit pattern: keys are in the total order of the patterns, and only equal patterns have equal keys.
+
+    The order has a place for every pattern: negative NaNs (the larger payload first), -infinity, .., -0.0, 0.0, .., infinity, NaNs. Bits and key are whole
+    numbers from 0 to 2**64 - 1; others raise an OverflowError.
+
+        >>> import struct
+        >>> def key(number):
+        ...     return total_key(int.from_bytes(struct.pack(">d", number), "big"))
+        >>> sorted([float("nan"), 0.0, 1.5, -0.0, -2.0], key=key)
+        [-2.0, -0.0, 0.0, 1.5, nan]
+    """
+    return calls.tavitrozy_total_key(*_lists.numbers("Q", [bits]))
 
 
 # Names and no literals, so that Python does not compute with them beforehand.

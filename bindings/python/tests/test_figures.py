@@ -140,8 +140,19 @@ class Figures(unittest.TestCase):
         times, values, marks = tavitrozy.normalize([2, 1, 2], [5, 6, 7], [0, 0, 1])
         self.assertEqual((list(times), list(values), list(marks)), ([1, 2], [6, 7], [0, 1]))
 
+    def test_total_key(self):
+        ascending = [2**64 - 1, 0xFFF8000000000001, 0xFFF8000000000000, 0xFFF0000000000001, 0xFFF0000000000000, 0xC000000000000000, 0xBFF0000000000000]
+        ascending += [2**63 + 1, 2**63, 0, 1, 0x3FF0000000000000, 0x4000000000000000, 0x7FF0000000000000, 0x7FF0000000000001, 0x7FF8000000000000, 2**63 - 1]
+        keys = [tavitrozy.total_key(bits) for bits in ascending]
+        self.assertEqual(keys, sorted(set(keys)))
+        self.assertEqual((keys[0], keys[8], keys[9], keys[-1]), (0, 2**63 - 1, 2**63, 2**64 - 1))
+        for bits, error in [(-1, OverflowError), (2**64, OverflowError), (1.0, TypeError), ("0", TypeError)]:
+            with self.subTest(bits=bits), self.assertRaises(error):
+                tavitrozy.total_key(bits)
+
     def test_docstrings(self):
-        self.assertEqual(doctest.testmod(tavitrozy).failed, 0)
+        for module in (tavitrozy, tavitrozy._without_set):
+            self.assertEqual(doctest.testmod(module).failed, 0)
         for name in tavitrozy.__all__:
             self.assertTrue(name.isupper() or name == "Answer" or getattr(tavitrozy, name).__doc__, name)
 
