@@ -143,6 +143,9 @@ impl Desk {
             Call::Name(pattern, t, slots) => name(pattern, ClipTime(*t), *slots as usize, out)?,
             Call::Normalize(n, slots) => normalize(n, *slots as usize, out)?,
             Call::ClipTimes(t, slots) => clip_times(template_times(t), *slots as usize, out)?,
+            Call::KeyCompare(first, second) => {
+                out.word("keycmp").order(tavitrozy::total_key(*first).cmp(&tavitrozy::total_key(*second)));
+            }
         }
         Ok(())
     }
