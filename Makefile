@@ -1,6 +1,6 @@
 # Builds, installs and tests the library.
 #
-#   make                                target/lib: libtavitrozy.a, libtavitrozy.so.0.3.0 with its links, tavitrozy.pc
+#   make                                target/lib: libtavitrozy.a, libtavitrozy.so.0.4.0 with its links, tavitrozy.pc
 #   make install PREFIX=.. [DESTDIR=..] header, libraries, pkg-config file, licence and documents
 #   make uninstall PREFIX=.. [DESTDIR=..]
 #   make examples                       target/examples: the C and C++ programs of examples/
@@ -8,7 +8,7 @@
 #
 # The first build proves the library (needs rt, the Rattle toolchain). With TAVITROZY_ARCHIVE=path that archive is taken instead.
 
-VERSION = 0.3.0
+VERSION = 0.4.0
 SOVERSION = 0
 PREFIX ?= /usr/local
 LIBDIR ?= $(PREFIX)/lib

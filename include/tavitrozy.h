@@ -1,4 +1,4 @@
-/* Tavitrozy: OpenUSD value clips resolved and baked, exactly. Version 0.3.0, for x86-64 Linux.
+/* Tavitrozy: OpenUSD value clips resolved and baked, exactly. Version 0.4.0, for x86-64 Linux.
  *
  * A resolver holds one clip set, or none. It answers what an attribute is at a stage time, and bakes the whole answer into a track: a head, and every
  * change at the very double where the value changes. docs/VALUE-CLIPS.md (share/doc/tavitrozy where installed) says what every call answers. Words used here:
@@ -47,9 +47,9 @@
 /* ---- version */
 
 #define TAVITROZY_VERSION_MAJOR 0
-#define TAVITROZY_VERSION_MINOR 3
+#define TAVITROZY_VERSION_MINOR 4
 #define TAVITROZY_VERSION_PATCH 0
-#define TAVITROZY_VERSION "0.3.0"
+#define TAVITROZY_VERSION "0.4.0"
 
 /* ---- refusals. Where several apply the first in the order given at the call is told. */
 

@@ -34,7 +34,7 @@ from ._resolver import Resolver, Samples, StageSample, StandingSet
 from ._track import Track
 from ._without_set import environment_is_exact, name, normalize, template_clip_times, total_key
 
-__version__ = "0.3.0"
+__version__ = "0.4.0"
 
 __all__ = [
     "Absent",
