@@ -1,6 +1,6 @@
 -- The fields of a double: how the code cuts them out of the bits, and what they say of the bits. Assumes nothing.
 use mathlib.Core.Path.{_≡_, sym, ap, _∙_}
-use Prim.Native.Nat.{ℕ, _+_, _*_, _/_, _%_, _^_, _≤_, _<_}
+use Prim.Native.Nat.{ℕ, _+_, _*_, _/_, _%_, _^_, _<_}
 use native.Mathlib.Omega.{arith}
 use lib.Bits.{bitAnd, and-mask}
 use lib.Pow.{field}
@@ -19,9 +19,6 @@ fraction-cut b = and-mask b 52
 -- ---- the fields of `x`
 
 module _ (x : Float) (f : Fields) (h : f ≡ fieldsOf x) where
-  sign-is : f .sign ≡ toBits binary64 x / 0x8000_0000_0000_0000
-  sign-is = ap (λ (g : Fields). g .sign) h
-
   exponent-is : f .exponent ≡ toBits binary64 x % 0x8000_0000_0000_0000 / 0x10_0000_0000_0000
   exponent-is = ap (λ (g : Fields). g .exponent) h
 
@@ -31,12 +28,6 @@ module _ (x : Float) (f : Fields) (h : f ≡ fieldsOf x) where
   pub few-digits : (f .exponent < 0x800) × (f .fraction < 0x10_0000_0000_0000)
   few-digits = (omega (arith, exponent-is), omega (arith, fraction-is))
 
-  -- the sign, and the others together: the bits without the sign
-  pub clear-sign : f .sign ≡ 0 → toBits binary64 x < 0x8000_0000_0000_0000
-  clear-sign z = omega (arith, sign-is)
-
-  pub set-sign : (f .sign ≡ 0 → ⊥) → 0x8000_0000_0000_0000 ≤ toBits binary64 x
-  set-sign z = omega (arith, sign-is)
-
+  -- exponent and fraction together: the bits without the sign
   pub rank-is : f .exponent * 0x10_0000_0000_0000 + f .fraction ≡ toBits binary64 x % 0x8000_0000_0000_0000
   rank-is = omega (arith, exponent-is, fraction-is)

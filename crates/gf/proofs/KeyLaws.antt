@@ -22,7 +22,7 @@ use Rattle.gf.specs.Doubles.{keyBits, key, least, most, bitsKey, ofKey}
 
 -- ---- a sign and a rank as one number, with t for zero
 
-abbrev spot : ℕ → Bool → ℕ → ℕ
+abbrev pub spot : ℕ → Bool → ℕ → ℕ
 spot t true r = t - r
 spot t false r = t + r
 
@@ -136,7 +136,7 @@ module _ (f : Format) where
 
 -- ---- of two values that are no NaN, one is less or they are equal
 
-nat-three : (a b : ℕ) → (a < b) ⊎ ((a ≡ b) ⊎ (b < a))
+pub nat-three : (a b : ℕ) → (a < b) ⊎ ((a ≡ b) ⊎ (b < a))
 nat-three a b = elim (decLe (suc a) b) [
   | yes l ↦ inl l
   | no n ↦ elim (decLe (suc b) a) [ yes k ↦ inr (inr k) | no k ↦ inr (inl (omega arith)) ]
@@ -194,7 +194,7 @@ key-spot false r h =
 
 -- ---- the comparisons are those of the keys
 
-key-at : (x : Float) → T (fits binary64 x) → T (not (isNan x)) → key x ≡ at binary64 x
+pub key-at : (x : Float) → T (fits binary64 x) → T (not (isNan x)) → key x ≡ at binary64 x
 unfolding key isNan
 key-at nan p q = absurd q
 key-at (inf s) p q = ap keyBits (toBits-rank binary64 (inf s) tt) ∙ key-spot s (ones binary64 * hid binary64) (inf-lt-top binary64)
@@ -206,15 +206,15 @@ same-test true false p q = absurd (p tt)
 same-test false true p q = absurd (q tt)
 same-test false false p q = refl
 
-or-l : (a b : Bool) → T a → T (a || b)
+pub or-l : (a b : Bool) → T a → T (a || b)
 or-l true b t = tt
 or-l false b t = absurd t
 
-or-r : (a b : Bool) → T b → T (a || b)
+pub or-r : (a b : Bool) → T b → T (a || b)
 or-r true b t = tt
 or-r false b t = t
 
-or-split : (a b : Bool) → T (a || b) → T a ⊎ T b
+pub or-split : (a b : Bool) → T (a || b) → T a ⊎ T b
 or-split true b t = inl tt
 or-split false b t = inr t
 

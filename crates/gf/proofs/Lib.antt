@@ -10,6 +10,8 @@ pub mod Units
 pub mod Ops
 pub mod Rank
 pub mod KeyLaws
+pub mod TotalOrderLaws
+pub mod NumbersInOrder
 pub mod Exactly
 pub mod LerpLaws
 pub mod ClipNumbers

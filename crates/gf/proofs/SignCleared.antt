@@ -32,7 +32,7 @@ abs-no-nan nan q = q
 abs-no-nan (inf s) q = tt
 abs-no-nan (fin s m e) q = tt
 
-rank-small : (x : Float) → T (fits binary64 x) → rank binary64 x < 0x8000_0000_0000_0000
+pub rank-small : (x : Float) → T (fits binary64 x) → rank binary64 x < 0x8000_0000_0000_0000
 rank-small nan p = omega arith
 rank-small (inf s) p = omega arith
 rank-small (fin s m e) p = let k = rank-fin binary64 s m e p in omega arith

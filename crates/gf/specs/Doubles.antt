@@ -1,11 +1,13 @@
 -- docs/VALUE-CLIPS.md, "Doubles": arithmetic, and what is asked of a double. All times and values are doubles.
 -- Numeric order and equality are `le`, `lt` and `eq` of `lib.Ieee`: "-0.0 and 0.0 are one time" for them, and no test holds of a NaN.
 -- Assumes nothing.
+use mathlib.Core.Path.{_≡_}
 use Prim.Native.Nat.{ℕ, _+_, _-_, _*_, _/_, _%_}
-use mathlib.Core.Bool.{Bool, true, false, _&&_, _||_, cond}
+use mathlib.Core.Bool.{Bool, true, false, not, _&&_, _||_, cond}
 use lib.IntN.{pos, negsuc}
-use lib.Dec.{eqb, ltb}
-use lib.Ieee.{Float, nan, inf, fin, binary64, hid, top, up, down, add, sub, mul, div, lt, le, toBits, ofBits}
+use lib.Dec.{T, eqb, ltb}
+use lib.Ieee.{Float, nan, inf, fin, binary64, up, down, add, sub, mul, div, lt, le, eq, isNan, fits, toBits, ofBits}
+use Rattle.gf.specs.TotalOrder.{signOf, exponentOf, fractionOf, before, keyOf}
 use Rattle.gf.specs.declared.pattern.Fields.{Fields}
 use Rattle.gf.specs.declared.class.Class.{Class}
 use Rattle.gf.specs.declared.class.Class.the-variants.{Zero, Fraction, Whole, NotFinite}
@@ -101,7 +103,7 @@ signBit (fin s m e) = s
 -- ---- "sign, exponent and fraction", and the class that they decide
 
 abbrev pub fieldsOf : Float → Fields
-fieldsOf x = let b = toBits binary64 x in record { sign = b / top binary64; exponent = b % top binary64 / hid binary64; fraction = b % hid binary64 }
+fieldsOf x = let b = toBits binary64 x in record { sign = signOf b; exponent = exponentOf b; fraction = fractionOf b }
 
 -- zero, fraction, whole number or not finite, from what each of them means
 unfoldable pub classOf : Float → Class
@@ -111,10 +113,15 @@ classOf (fin s m e) = cond (eqb m 0) Zero (cond (isWhole (fin s m e)) Whole Frac
 
 -- ---- two orders, for two purposes
 
--- The order of `total_cmp`, which "places -0.0 before 0.0", as a number: by it the lists of a set are sorted. From the pattern b: 2^63 + b for a clear sign,
--- 2^64 - 1 - b for a set one. (The same on numbers that are no NaN: x before y if x < y, or they are equal and only x's sign is set.)
+-- The order of `total_cmp`, which "places -0.0 before 0.0", as a number: by it the lists of a set are sorted. It is the key of the pattern.
 unfoldable pub totalKey : Float → ℕ
-totalKey x = let b = toBits binary64 x in cond (ltb b 0x8000_0000_0000_0000) (0x8000_0000_0000_0000 + b) (0xffff_ffff_ffff_ffff - b)
+totalKey x = keyOf (toBits binary64 x)
+
+-- on doubles that are no NaN it is the numeric order, and of the two zeros, which are equal there, that with the sign set comes first
+abbrev pub OrderOfNumbers : Type 0
+OrderOfNumbers =
+    (x y : Float) → T (fits binary64 x) → T (fits binary64 y) → T (not (isNan x)) → T (not (isNan y))
+    → before (toBits binary64 x) (toBits binary64 y) ≡ (lt x y || (eq x y && signBit x && not (signBit y)))
 
 -- The second order is numeric: one place for both zeros ("zero is one double among the neighbours"), and `ofKey` of that place is 0.0. The key is 2 ^ 63 with the
 -- pattern of the size added, or taken off where the sign is set; each key from `least` to `most` is one finite double's, or both zeros'.

@@ -6,11 +6,11 @@ pub mod interval;
 pub mod magnitude;
 pub mod pattern;
 pub mod segment;
+pub mod total_order;
 
 use crate::class::Class;
 use crate::class::classify;
 use crate::magnitude::without_sign;
-use crate::pattern::fields_of;
 ghost use mathlib.Core.Path.{_≡_};
 ghost use mathlib.Core.Bool.{not};
 ghost use Prim.Native.Nat.{_≤_};
@@ -87,13 +87,9 @@ pub fn is_finite(x: f64) -> bool
 pub fn total_key(x: f64) -> u64
     ensures { λ r. ⌜ r ≡ Doubles.totalKey x ⌝ }
 {
+    // the key of the pattern 7ff8_0000_0000_0000, which stands for every NaN
     if x != x {
         return 0xfff8_0000_0000_0000;
     }
-    // the rank is asked for where the sign is known, which spares the sorts a mask for each comparison
-    let f = fields_of(x);
-    if f.sign == 0 {
-        return 0x8000_0000_0000_0000 + f.rank();
-    }
-    0x7fff_ffff_ffff_ffff - f.rank()
+    total_order::key(f64::to_bits(x))
 }
