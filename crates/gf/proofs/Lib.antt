@@ -5,6 +5,7 @@ pub mod SignCleared
 pub mod Fields
 pub mod ClassArms
 pub mod ClassFigures
+pub mod TotalFigures
 pub mod Fraction
 pub mod Units
 pub mod Ops

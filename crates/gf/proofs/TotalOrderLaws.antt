@@ -38,12 +38,12 @@ module _ (e p f q x y : ℕ) (hx : x ≡ e * 0x10_0000_0000_0000 + p) (hy : y �
       too-high : f < e → ⊥
       too-high g = omega arith
 
+  by-fields : (ltb e f || (eqb e f && ltb p q)) ≡ ltb x y
+  by-fields = same-test (ltb e f || (eqb e f && ltb p q)) (ltb x y) (λ h. lt→ltb x y (fields→lt h)) (λ h. lt→fields (ltb→lt x y h))
+
 smaller-is : (a b : ℕ) → smaller a b ≡ ltb (sizeOf a) (sizeOf b)
 unfolding smaller
-smaller-is a b =
-    let to = fields→lt (exponentOf a) (fractionOf a) (exponentOf b) (fractionOf b) (sizeOf a) (sizeOf b) (omega arith) (omega arith) (omega arith) (omega arith) in
-    let back = lt→fields (exponentOf a) (fractionOf a) (exponentOf b) (fractionOf b) (sizeOf a) (sizeOf b) (omega arith) (omega arith) (omega arith) (omega arith) in
-    same-test (smaller a b) (ltb (sizeOf a) (sizeOf b)) (λ h. lt→ltb (sizeOf a) (sizeOf b) (to h)) (λ h. back (ltb→lt (sizeOf a) (sizeOf b) h))
+smaller-is a b = by-fields (exponentOf a) (fractionOf a) (exponentOf b) (fractionOf b) (sizeOf a) (sizeOf b) (omega arith) (omega arith) (omega arith) (omega arith)
 
 -- ---- the key by the sign
 
