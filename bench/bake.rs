@@ -163,7 +163,7 @@ struct Facts<'a> {
 impl<'a> Facts<'a> {
     fn new(set: &'a Set, samples: &'a Samples) -> Self {
         let filling = &set.filling;
-        let blocked = |t: f64| filling.flag && filling.blocks.iter().any(|&block| block == t);
+        let blocked = |t: f64| filling.flag && filling.blocks.contains(&t);
         let greatest = |i: usize| set.knots[i].0 + (set.knots[i + 1].0 - set.knots[i].0);
         let segments = 0..set.knots.len().saturating_sub(1);
         Facts {

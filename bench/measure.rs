@@ -23,7 +23,7 @@ pub fn take_turns(questions: usize, sides: &mut [&mut dyn FnMut(usize)]) -> Vec<
     while rounds[0].len() < if rounds[0].first().is_some_and(|round| round * questions as f64 > 0.5) { 3 } else { 5 } {
         for (i, side) in sides.iter_mut().enumerate() {
             let asked = (0..passes[i]).flat_map(|_| 0..questions);
-            let taken = seconds(|| asked.for_each(|question| side(question)));
+            let taken = seconds(|| asked.for_each(side));
             rounds[i].push(taken / (passes[i] * questions) as f64);
         }
     }
