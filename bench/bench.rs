@@ -31,6 +31,7 @@ mod limits;
 mod measure;
 mod rust;
 mod sets;
+mod sorts;
 
 use std::hint::black_box;
 use std::io::Write;
@@ -272,6 +273,10 @@ fn main() {
         ["check", cases, replies] => check::by_replies(cases, replies),
         ["limits"] => std::io::stdout().write_all(&limits::text()).expect("written"),
         ["read"] => read_table(&limits::cases()),
+        ["sorts"] => {
+            sorts::sort_table();
+            sorts::call_table();
+        }
         _ => {
             machine();
             let cases: Vec<Case> = limits::cases().into_iter().chain(sets::everyday()).collect();
@@ -280,6 +285,8 @@ fn main() {
             growth_tables(limit);
             normalize_table();
             read_table(&cases);
+            sorts::sort_table();
+            sorts::call_table();
         }
     }
 }

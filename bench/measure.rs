@@ -1,5 +1,6 @@
 //! Time taken: medians of rounds, the sides taking turns; and bakes in processes of their own, with a limit on their time.
 
+use std::hint::black_box;
 use std::io::Read;
 use std::process::{Command, Stdio};
 use std::time::{Duration, Instant};
@@ -30,6 +31,32 @@ pub fn take_turns(questions: usize, sides: &mut [&mut dyn FnMut(usize)]) -> Vec<
     rounds.into_iter().map(median).collect()
 }
 
+/// As `take_turns` for jobs that eat what they are lent: each side takes a batch of `jobs` and gives its time, as `batch`
+/// does. A first round warms up.
+pub fn take_batches(jobs: usize, sides: &mut [&mut dyn FnMut() -> f64]) -> Vec<f64> {
+    let mut rounds = vec![Vec::new(); sides.len()];
+    for _ in 0..6 {
+        for (side, rounds) in sides.iter_mut().zip(&mut rounds) {
+            let (mut taken, mut done) = (0.0, 0);
+            while taken < 0.05 {
+                taken += side();
+                done += jobs;
+            }
+            rounds.push(taken / done as f64);
+        }
+    }
+    rounds.into_iter().map(|side| median(side[1..].to_vec())).collect()
+}
+
+/// The time of a job for each of a batch. Each gets a copy; the clock runs neither while these are made nor while they are
+/// dropped.
+pub fn batch<T: Clone>(lent: &[T], job: impl FnMut(&mut T)) -> f64 {
+    let mut copies = black_box(lent.to_vec());
+    let taken = seconds(|| copies.iter_mut().for_each(job));
+    drop(black_box(copies));
+    taken
+}
+
 pub fn median(mut list: Vec<f64>) -> f64 {
     list.sort_by(f64::total_cmp);
     list[list.len() / 2]
@@ -49,7 +76,7 @@ pub fn bake<T>(mut bake: impl FnMut() -> T, look: impl FnOnce(&T) -> (usize, u64
     let mut taken = seconds(|| track = Some(bake()));
     let (count, hash) = look(&track.expect("baked"));
     if taken < 1.0 {
-        taken = take_turns(1, &mut [&mut |_| drop(std::hint::black_box(bake()))])[0];
+        taken = take_turns(1, &mut [&mut |_| drop(black_box(bake()))])[0];
     }
     Baked { seconds: taken, count, hash }
 }

@@ -38,7 +38,7 @@ impl Rust {
 }
 
 /// The set as a layer would author it.
-fn dictionary(e: &Explicit) -> Map {
+pub fn dictionary(e: &Explicit) -> Map {
     let pairs = |x: &[f64], y: &[f64]| Value::Vec2dVec(x.iter().zip(y).map(|(&x, &y)| vec2d(x, y)).collect());
     let paths = (0..e.clips).map(|clip| AssetPath::new(format!("c{clip}"))).collect();
     Map::from([
@@ -71,6 +71,16 @@ fn layers(filling: &Filling, s: &Samples) -> Vec<Layer> {
     layers
 }
 
+/// The set as the library is lent it.
+pub fn explicit(e: &Explicit) -> tavitrozy::Explicit<'_> {
+    assert_eq!(e.filling.mark, 2, "no set here has a default");
+    tavitrozy::Explicit::new(e.clips)
+        .starts(&e.start_times, &e.start_clips)
+        .knots(&e.knot_x, &e.knot_y)
+        .blocks(&e.filling.blocks)
+        .interpolate(e.filling.flag)
+}
+
 /// The library, through its Rust crate.
 pub struct Library<'a> {
     resolver: tavitrozy::Resolver,
@@ -79,14 +89,8 @@ pub struct Library<'a> {
 
 impl<'a> Library<'a> {
     pub fn new(e: &Explicit, s: &'a Samples) -> Self {
-        assert_eq!(e.filling.mark, 2, "no set here has a default");
-        let set = tavitrozy::Explicit::new(e.clips)
-            .starts(&e.start_times, &e.start_clips)
-            .knots(&e.knot_x, &e.knot_y)
-            .blocks(&e.filling.blocks)
-            .interpolate(e.filling.flag);
         let mut resolver = tavitrozy::Resolver::new();
-        resolver.accept(&set).expect("a set that the library takes");
+        resolver.accept(&explicit(e)).expect("a set that the library takes");
         Library { resolver, samples: tavitrozy::Samples::new(&s.times, &s.values, &s.marks, &s.ends) }
     }
 

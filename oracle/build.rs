@@ -1,6 +1,6 @@
 //! Fetches the Rust that is compared with, from the folder that OPENUSD_SRC names, into the build folder: whole files
-//! byte for byte, single items cut out byte for byte. Nothing of it is kept in this repository. The benchmark is built by
-//! this script too.
+//! byte for byte, single items cut out byte for byte. Nothing of it is kept in this repository. The benchmark's build
+//! script runs this one.
 
 use std::path::{Path, PathBuf};
 use std::{env, fs};
@@ -37,7 +37,7 @@ fn line(text: &str, start: &str) -> String {
     cut(text, start, ";\n")
 }
 
-fn main() {
+pub fn main() {
     println!("cargo:rerun-if-env-changed=OPENUSD_SRC");
     let oracle = PathBuf::from(env::var("CARGO_MANIFEST_DIR").unwrap()).join("../oracle");
     println!("cargo:rerun-if-changed={}", oracle.join("build.rs").display());
