@@ -19,6 +19,7 @@ use resolver::lent;
 use sdf::Counted;
 use track::bake::Baked;
 ghost use mathlib.Core.Path.{_≡_};
+ghost use Rattle.gf.specs.TotalOrder.{keyOf, PlacedBy};
 ghost use Rattle.definitions.specs.Reading.{trackOfLists, readByHalves};
 ghost use Rattle.definitions.specs.Moments.{was, after, outsWere, outsLeft};
 ghost use Rattle.laws.specs.cell.Lent.{samplesWere};
@@ -565,4 +566,12 @@ pub extern "C" fn tavitrozy_normalize(
     ensures { λ r. ⌜ Normalizes (was times) (was values) (was marks) (outsWere outtimes outvalues outmarks) (outsLeft outtimes outvalues outmarks) r ⌝ }
 {
     normal_form::normalize_time_samples(times, values, marks, outtimes, outvalues, outmarks)
+}
+
+// Of a double's bit pattern, a NaN's included.
+#[no_mangle]
+pub extern "C" fn tavitrozy_total_key(bits: u64) -> u64
+    ensures { λ r. ⌜ (r ≡ keyOf bits) × PlacedBy bits r ⌝ }
+{
+    gf::total_order::key(bits)
 }
