@@ -21,6 +21,7 @@ Answers the case text of standard input on standard output: one line a call, one
   name BYTES T [SLOTS]
   normalize t L v L m N m.. [SLOTS]
   cliptimes START END STRIDE OFFSET [SLOTS]         a template's clip times
+  keycmp BITS BITS                                  before, same or after in the total order
 ",
     );
 }
@@ -30,6 +31,7 @@ fn words() {
         STDOUT_FILENO,
         b"
 A double (VALUE, START, T, ..) is its bits, 16 hex digits (3ff0000000000000 is 1), or a decimal of at most 15 digits (-2.5).
+BITS are a double too, a NaN with the sign and the payload that are written.
 L is a list of doubles: their count, and that many. CLIPS, N, MARK, e, m and SLOTS are whole numbers in decimal.
 BYTES are hex pairs, - for none. A template's OFFSET may be none. A ; begins a comment. Replies give doubles by their bits.
 

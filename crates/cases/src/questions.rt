@@ -63,6 +63,7 @@ fn answer(
         Question::Name => crate::setless::name(line, at, out, full),
         Question::Normalize => crate::setless::normalize(line, at, out, full),
         Question::ClipTimes => crate::setless::clip_times(line, at, out, full),
+        Question::CompareKeys => crate::setless::compare_keys(line, at, out, full),
         Question::Value => {
             sampled::value(line, at, resolver, ends, times, values, marks, out, full)
         }

@@ -13,6 +13,7 @@ use crate::text::first_doubles;
 use crate::text::first_numbers;
 use definitions::ClipTime;
 use definitions::TemplateTimes;
+use gf::total_order::Order;
 use names::Named;
 
 // The name at a clip time, in the first `count` bytes of `written`.
@@ -172,4 +173,18 @@ pub(crate) fn clip_times(line: &[u8], at: usize, out: &mut [u8], full: usize) ->
     }
     let times = numbers.times;
     clip_times_in(times, numbers.offset, s.count, &mut outtimes, out, full)
+}
+
+// How the first of two bit patterns stands to the second. They are no doubles here, which would lose a NaN's sign and payload.
+pub(crate) fn compare_keys(line: &[u8], at: usize, out: &mut [u8], full: usize) -> usize {
+    let first = crate::text::read_pattern(line, at);
+    let second = crate::text::read_pattern(line, first.at);
+    if !crate::text::is_end(line, second.at) {
+        return crate::text::NOWHERE;
+    }
+    match gf::total_order::compare(first.value, second.value) {
+        Order::Before => crate::text::put(out, full, b"keycmp before\n"),
+        Order::Same => crate::text::put(out, full, b"keycmp same\n"),
+        Order::After => crate::text::put(out, full, b"keycmp after\n"),
+    }
 }

@@ -26,6 +26,7 @@ pub(crate) use numbers::double_of;
 pub(crate) use numbers::read_byte;
 pub(crate) use numbers::read_decimal;
 pub(crate) use numbers::read_double;
+pub(crate) use numbers::read_pattern;
 pub(crate) use output::flush;
 pub(crate) use output::put;
 pub(crate) use output::put_bits;

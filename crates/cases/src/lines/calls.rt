@@ -19,6 +19,7 @@ pub(crate) enum Question {
     Name,
     Normalize,
     ClipTimes,
+    CompareKeys,
 }
 
 pub(crate) enum Call {
@@ -62,6 +63,10 @@ fn question_of(line: &[u8]) -> Call {
     let at = crate::text::after(line, 0, b"cliptimes");
     if at != crate::text::NOWHERE {
         return Call::Asking(Question::ClipTimes, at);
+    }
+    let at = crate::text::after(line, 0, b"keycmp");
+    if at != crate::text::NOWHERE {
+        return Call::Asking(Question::CompareKeys, at);
     }
     let at = crate::text::after(line, 0, b"dump");
     if at != crate::text::NOWHERE {

@@ -200,14 +200,16 @@ fn template(line: &[u8], at: usize) -> Walk {
     filling(line, w)
 }
 
+fn two_doubles(line: &[u8], at: usize) -> Walk {
+    let w = step(line, begun(at), Kind::Double);
+    step(line, w, Kind::Double)
+}
+
 fn changing(kind: Change, line: &[u8], at: usize) -> Walk {
     match kind {
         Change::Explicit => explicit(line, at),
         Change::Template => template(line, at),
-        Change::Retime => {
-            let w = step(line, begun(at), Kind::Double);
-            step(line, w, Kind::Double)
-        }
+        Change::Retime => two_doubles(line, at),
     }
 }
 
@@ -244,6 +246,7 @@ fn asking(kind: Question, line: &[u8], at: usize) -> Walk {
         Question::Name => name(line, at),
         Question::Normalize => normalize(line, at),
         Question::ClipTimes => clip_times(line, at),
+        Question::CompareKeys => two_doubles(line, at),
         Question::Times => slots(line, begun(at), SLOTS),
         Question::StageSamples => slots(line, begun(at), SLOTS),
         Question::Track => slots(line, begun(at), SLOTS),
