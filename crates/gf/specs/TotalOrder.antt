@@ -1,5 +1,5 @@
--- docs/VALUE-CLIPS.md, "Doubles": the "total order .. worked out from sign, exponent and fraction", over all 2^64 patterns of a double, and the key, a number
--- that is in this order. A pattern is a number below 2^64: sign and payload of a NaN are in it, and cannot be had from a double.
+-- docs/VALUE-CLIPS.md, "Doubles": "The total order is one of bit patterns, NaNs included", and the key, a number that is in this order. A pattern is a number
+-- below 2^64: sign and payload of a NaN are in it, and cannot be had from a double.
 -- Assumes nothing.
 use mathlib.Core.Path.{_≡_}
 use Prim.Native.Nat.{ℕ, _+_, _-_, _/_, _%_, _<_}
@@ -23,13 +23,13 @@ fractionOf b = b % 0x10_0000_0000_0000
 
 -- ---- the total order
 
--- Whichever the signs are: the smaller exponent first, and of equal exponents the smaller fraction. An infinity has the greatest exponent and the fraction 0, a NaN
--- the same exponent and another fraction, so it is above the infinity.
+-- Whichever the signs are, "the smaller exponent comes first, and of equal exponents the smaller fraction". An infinity has the greatest exponent and the
+-- fraction 0, a NaN the same exponent and another fraction, so it is above the infinity.
 unfoldable pub smaller : ℕ → ℕ → Bool
 smaller a b = ltb (exponentOf a) (exponentOf b) || (eqb (exponentOf a) (exponentOf b) && ltb (fractionOf a) (fractionOf b))
 
--- A set sign comes before a clear one, so that -0.0 is before 0.0; where both are set the order is turned. From the first to the last: the NaNs with a set sign,
--- the larger payload first, -∞, the negative numbers, -0.0, 0.0, the positive numbers, ∞, the NaNs with a clear sign, the smaller payload first.
+-- "A set sign comes before a clear one", so that -0.0 is before 0.0; "among set signs it is the other way round". From the first to the last: the NaNs with a
+-- set sign, the larger payload first, -∞, the negative numbers, -0.0, 0.0, the positive numbers, ∞, the NaNs with a clear sign, the smaller payload first.
 unfoldable pub before : ℕ → ℕ → Bool
 before a b = ltb (signOf b) (signOf a) || (eqb (signOf a) (signOf b) && cond (eqb (signOf a) 0) (smaller a b) (smaller b a))
 
@@ -39,15 +39,15 @@ orderOf a b = cond (before a b) Before (cond (before b a) After Same)
 
 -- ---- the key
 
--- 2^63 + b for a clear sign, 2^64 - 1 - b for a set one
+-- "2^63 + bits if its sign is clear, and 2^64 − 1 − bits if it is set"
 abbrev pub keyOf : ℕ → ℕ
 keyOf b = cond (ltb b 0x8000_0000_0000_0000) (0x8000_0000_0000_0000 + b) (0xffff_ffff_ffff_ffff - b)
 
--- the key of one pattern is below that of another exactly if the pattern is before it, for all 2^64
+-- "The key of a is below the key of b exactly if the total order places a before b", for all 2^64
 abbrev pub KeysInOrder : Type 0
 KeysInOrder = (a b : ℕ) → a < 0x1_0000_0000_0000_0000 → b < 0x1_0000_0000_0000_0000 → ltb (keyOf a) (keyOf b) ≡ before a b
 
--- no two patterns have one key
+-- "equal keys are those of equal patterns"
 abbrev pub KeysApart : Type 0
 KeysApart = (a b : ℕ) → a < 0x1_0000_0000_0000_0000 → b < 0x1_0000_0000_0000_0000 → keyOf a ≡ keyOf b → a ≡ b
 

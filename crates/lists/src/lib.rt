@@ -1,6 +1,7 @@
 // Lists of times as they are lent: tests over the whole list, and the search in an ascending one.
 pub mod insertion;
 pub mod near;
+pub mod places;
 pub mod radix;
 pub mod segment;
 pub mod sorting;

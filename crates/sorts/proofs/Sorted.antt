@@ -1,10 +1,10 @@
 -- What a passed test tells, and the second of two lists by the pairs that they make. Assumes nothing.
-use mathlib.Core.Path.{_≡_, sym, subst, refl, ap}
+use mathlib.Core.Path.{_≡_, refl, ap}
 use mathlib.Core.Bool.{true}
 use mathlib.Core.List.{List, [], _∷_, map}
 use Prim.Native.Nat.{ℕ, _≤_}
 use native.Mathlib.Omega.{arith}
-use lib.Dec.{T, leb, eqb, leb→le, eqb→eq}
+use lib.Dec.{leb, eqb, leb→le, eqb→eq}
 use lib.ListN.{length}
 use Rattle.definitions.specs.Lists.{zipWith}
 use Rattle.laws.proofs.list.Tests.{holds, both-l, both-r}
