@@ -7,7 +7,7 @@ use mathlib.Core.Bool.{Bool, true, false, not, _&&_, _||_, cond}
 use lib.IntN.{pos, negsuc}
 use lib.Dec.{T, eqb, ltb}
 use lib.Ieee.{Float, nan, inf, fin, binary64, up, down, add, sub, mul, div, lt, le, eq, isNan, fits, toBits, ofBits}
-use Rattle.gf.specs.TotalOrder.{signOf, exponentOf, fractionOf, before, keyOf}
+use Rattle.gf.specs.TotalOrder.{exponentOf, fractionOf, before, keyOf}
 use Rattle.gf.specs.declared.pattern.Fields.{Fields}
 use Rattle.gf.specs.declared.class.Class.{Class}
 use Rattle.gf.specs.declared.class.Class.the-variants.{Zero, Fraction, Whole, NotFinite}
@@ -100,10 +100,10 @@ signBit nan = false
 signBit (inf s) = s
 signBit (fin s m e) = s
 
--- ---- "sign, exponent and fraction", and the class that they decide
+-- ---- "exponent and fraction", and the class that they decide
 
 abbrev pub fieldsOf : Float → Fields
-fieldsOf x = let b = toBits binary64 x in record { sign = signOf b; exponent = exponentOf b; fraction = fractionOf b }
+fieldsOf x = let b = toBits binary64 x in record { exponent = exponentOf b; fraction = fractionOf b }
 
 -- zero, fraction, whole number or not finite, from what each of them means
 unfoldable pub classOf : Float → Class

@@ -1,4 +1,4 @@
-// A double taken apart into the fields of its bit pattern.
+// A double taken apart into the fields of its bit pattern that stand behind the sign.
 
 ghost use mathlib.Core.Path.{_≡_};
 ghost use mathlib.Core.Bool.{not};
@@ -15,7 +15,6 @@ const EXPONENT_MASK: u64 = 0x7ff;
 const FRACTION_MASK: u64 = 0xf_ffff_ffff_ffff;
 
 pub struct Fields {
-    pub sign: u64,
     pub exponent: u64,
     pub fraction: u64,
 }
@@ -37,7 +36,6 @@ pub fn fields_of(x: f64) -> Fields
 {
     let bits = f64::to_bits(x);
     Fields {
-        sign: bits >> 63,
         exponent: (bits >> EXPONENT_AT) & EXPONENT_MASK,
         fraction: bits & FRACTION_MASK,
     }
