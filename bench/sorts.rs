@@ -12,9 +12,6 @@ use crate::time;
 const STARTS: usize = 256;
 const KNOTS: usize = 512;
 
-/// How many lists are sorted in turn: too many for a branch predictor to learn their order.
-const BATCH: usize = 64;
-
 #[derive(Clone, Copy)]
 enum Order {
     Random,
@@ -25,6 +22,15 @@ enum Order {
 impl Order {
     const ALL: [(Order, &str); 3] =
         [(Order::Random, "random"), (Order::Sorted, "sorted"), (Order::Reversed, "reversed")];
+
+    /// How many lists are sorted in turn: in random order more than a branch predictor learns by heart (it does learn 64 lists
+    /// of 256), otherwise as many as the cache holds.
+    fn batch(self) -> u64 {
+        match self {
+            Order::Random => 1024,
+            Order::Sorted | Order::Reversed => 64,
+        }
+    }
 
     /// So many times of both signs, no two equal.
     fn times(self, count: usize, random: &mut Random) -> Vec<f64> {
@@ -41,8 +47,8 @@ impl Order {
 }
 
 /// A batch of what different seeds give.
-fn lists<T>(make: impl FnMut(Random) -> T) -> Vec<T> {
-    (1..=BATCH as u64).map(Random).map(make).collect()
+fn lists<T>(order: Order, mut make: impl FnMut(Order, &mut Random) -> T) -> Vec<T> {
+    (1..=order.batch()).map(|seed| make(order, &mut Random(seed))).collect()
 }
 
 /// 0, 1, ..: as the second of each pair, so that a wrong pairing is found out.
@@ -71,7 +77,7 @@ pub fn sort_table() {
 /// The sorts alone, which only the archive of crates/sorts exports.
 #[cfg(sorts)]
 mod alone {
-    use super::{BATCH, KNOTS, Order, STARTS, batch, lists, places, take_batches, time};
+    use super::{KNOTS, Order, STARTS, batch, lists, places, take_batches, time};
     use crate::gf::{Vec2d, vec2d};
     use crate::verdict;
 
@@ -94,7 +100,7 @@ mod alone {
     }
 
     pub fn knots(order: Order) -> Sides<Vec2d, f64> {
-        let library = lists(|mut random| (order.times(KNOTS, &mut random), places(KNOTS)));
+        let library = lists(order, |order, random| (order.times(KNOTS, random), places(KNOTS)));
         Sides {
             rust: library.iter().map(|lists| paired(lists, vec2d)).collect(),
             library,
@@ -109,7 +115,7 @@ mod alone {
 
     pub fn starts(order: Order) -> Sides<(f64, usize), u64> {
         let pair = |time, clip| (time, clip as usize);
-        let library = lists(|mut random| (order.times(STARTS, &mut random), (0..STARTS as u64).collect()));
+        let library = lists(order, |order, random| (order.times(STARTS, random), (0..STARTS as u64).collect()));
         Sides {
             rust: library.iter().map(|lists| paired(lists, pair)).collect(),
             library,
@@ -131,7 +137,7 @@ mod alone {
         }
         let rust = &mut || batch(&sides.rust, |pairs| (sides.sort_rust)(pairs));
         let library = &mut || batch(&sides.library, |(times, seconds)| _ = (sides.sort_library)(times, seconds));
-        let taken = take_batches(BATCH, &mut [rust, library]);
+        let taken = take_batches(sides.rust.len(), &mut [rust, library]);
         let ratio = taken[1] / taken[0];
         let met = verdict(ratio <= 1.0);
         println!("| {name} | {} | {} | {ratio:.2} | 1 | {met} |", time(taken[0]), time(taken[1]));
@@ -139,10 +145,10 @@ mod alone {
 }
 
 /// A set at the limits, all its lists in this order.
-fn full_set(order: Order, mut random: Random) -> Explicit {
-    let start_times = order.times(STARTS, &mut random);
+fn full_set(order: Order, random: &mut Random) -> Explicit {
+    let start_times = order.times(STARTS, random);
     let filling = Filling { blocks: start_times.clone(), mark: 2, value: 0.0, flag: false };
-    let (start_clips, knot_x, knot_y) = (places(STARTS), order.times(KNOTS, &mut random), places(KNOTS));
+    let (start_clips, knot_x, knot_y) = (places(STARTS), order.times(KNOTS, random), places(KNOTS));
     Explicit { clips: STARTS as u64, start_times, start_clips, knot_x, knot_y, filling }
 }
 
@@ -177,16 +183,16 @@ pub fn call_table() {
         println!("| {name} | {} | {} | {:.2} |", time(taken[0]), time(taken[1]), taken[1] / taken[0]);
     };
     for (order, name) in Order::ALL {
-        let sets = lists(|random| full_set(order, random));
+        let sets = lists(order, full_set);
         let dictionaries: Vec<Map> = sets.iter().map(dictionary).collect();
         assert!(dictionaries.iter().zip(&sets).all(|(map, set)| same(&parsed(map), &accepted(set))), "equal sets");
         let asked: Vec<_> = dictionaries.iter().map(|set| (set, None)).collect();
         let lent: Vec<_> = sets.iter().map(|set| (explicit(set), tavitrozy::Resolver::new())).collect();
         let rust = &mut || batch(&asked, |(set, answer)| *answer = Some(parsed(set)));
         let library = &mut || batch(&lent, |(set, resolver)| resolver.accept(set).expect("no refusal"));
-        row(&format!("accept, lists {name}"), take_batches(BATCH, &mut [rust, library]));
+        row(&format!("accept, lists {name}"), take_batches(sets.len(), &mut [rust, library]));
     }
-    let sets = lists(|random| full_set(Order::Random, random));
+    let sets = lists(Order::Sorted, full_set);
     let stored: Vec<ClipSet> = sets.iter().map(dictionary).map(|set| parsed(&set)).collect();
     let standing: Vec<_> = sets.iter().map(accepted).collect();
     for scale in [1.5, -1.0] {
@@ -199,6 +205,6 @@ pub fn call_table() {
         }
         let rust = &mut || batch(&stored, |set| set.retime_stage_times(moving));
         let library = &mut || batch(&standing, |resolver| retime(resolver, scale));
-        row(&format!("retime by {scale}"), take_batches(BATCH, &mut [rust, library]));
+        row(&format!("retime by {scale}"), take_batches(sets.len(), &mut [rust, library]));
     }
 }
