@@ -1,6 +1,6 @@
 //! The plain Rust bake's tracks against the Rust's own values, and against the oracle's replies.
 
-use crate::calls::{self, Call, Samples};
+use crate::calls::{self, Call, Fields, Samples};
 use crate::doubles::{at, place};
 use crate::plain::{self, Answer, Set};
 use crate::rust::Rust;
@@ -71,6 +71,7 @@ pub fn by_replies(cases: &str, replies: &str) {
     let (cases, replies) = (std::fs::read(cases).expect(cases), std::fs::read(replies).expect(replies));
     let mut replies = replies.split(|&byte| byte == b'\n');
     let (mut set, mut samples): (Option<Set>, _) = (None, Samples::default());
+    let mut slots: [Option<Set>; calls::PREPARED] = Default::default();
     let (mut count, mut differing) = (0, 0);
     for line in cases.split(|&byte| byte == b'\n') {
         let mut words = Words::new(line);
@@ -82,9 +83,12 @@ pub fn by_replies(cases: &str, replies: &str) {
         }
         let told = replies.next().expect("a reply");
         match (call, told == b"ok") {
-            (Some(Call::Case(_)), _) => (set, samples) = (None, Samples::default()),
+            (Some(Call::Case(_)), _) => (set, samples, slots) = (None, Samples::default(), Default::default()),
             (Some(Call::Explicit(e)), true) => set = Some(plain::explicit(&e)),
             (Some(Call::Template(t)), true) => set = Some(plain::template(&t)),
+            (Some(Call::Examine(slot, Fields::Explicit(e))), true) => slots[slot] = Some(plain::explicit(&e)),
+            (Some(Call::Examine(slot, Fields::Template(t))), true) => slots[slot] = Some(plain::template(&t)),
+            (Some(Call::Install(slot)), true) => set = slots[slot].clone(),
             (Some(Call::Retime(offset, scale)), true) => set = set.map(|set| plain::retime(&set, offset, scale)),
             (Some(Call::Track(slots)), _) => compare(&set, &samples, Some(slots), told, &mut count, &mut differing),
             (Some(Call::TrackHash), _) => compare(&set, &samples, None, told, &mut count, &mut differing),

@@ -174,9 +174,9 @@ fn same(set: &ClipSet, resolver: &tavitrozy::Resolver) -> bool {
     set.active.iter().copied().eq(starts) && set.times.iter().map(|knot| (knot.x, knot.y)).eq(knots)
 }
 
-/// The calls that sort. The Rust takes no blocks here, tests for no number, and copies the names of its clips instead.
+/// The calls that sort, and what is done with the sets. The Rust takes no blocks here, tests for no number, and copies the names of its clips instead.
 pub fn call_table() {
-    println!("\n## Accepting and retiming a set at the limits\n");
+    println!("\n## Accepting, examining, installing and retiming a set at the limits\n");
     println!("{STARTS} starts and blocks, {KNOTS} knots; the Rust's `parse_set` and `retime_stage_times`.\n");
     println!("| call | the Rust | library | library / Rust |\n|---|---|---|---|");
     let row = |name: &str, taken: Vec<f64>| {
@@ -193,7 +193,19 @@ pub fn call_table() {
         row(&format!("accept, lists {name}"), take_batches(sets.len(), &mut [rust, library]));
     }
     let sets = lists(Order::Sorted, full_set);
-    let stored: Vec<ClipSet> = sets.iter().map(dictionary).map(|set| parsed(&set)).collect();
+    let dictionaries: Vec<Map> = sets.iter().map(dictionary).collect();
+    let stored: Vec<ClipSet> = dictionaries.iter().map(parsed).collect();
+    let asked: Vec<_> = dictionaries.iter().map(|set| (set, None)).collect();
+    let looked: Vec<_> = sets.iter().map(|set| (explicit(set), None)).collect();
+    let rust = &mut || batch(&asked, |(set, answer)| *answer = Some(parsed(set)));
+    let library = &mut || batch(&looked, |(set, answer)| *answer = Some(tavitrozy::examine(set).expect("no refusal")));
+    row("examine, lists sorted", take_batches(sets.len(), &mut [rust, library]));
+    let copied: Vec<_> = stored.iter().map(|set| (set, None)).collect();
+    let prepared: Vec<_> = sets.iter().map(|set| tavitrozy::examine(&explicit(set)).expect("no refusal")).collect();
+    let fresh: Vec<_> = prepared.iter().map(|set| (set, tavitrozy::Resolver::new())).collect();
+    let rust = &mut || batch(&copied, |(set, answer)| *answer = Some(ClipSet::clone(set)));
+    let library = &mut || batch(&fresh, |(set, resolver)| resolver.install(set));
+    row("install (the Rust: a copy of the set)", take_batches(sets.len(), &mut [rust, library]));
     let standing: Vec<_> = sets.iter().map(accepted).collect();
     for scale in [1.5, -1.0] {
         let moving = LayerOffset::new(0.0, scale);

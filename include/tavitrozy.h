@@ -1,4 +1,4 @@
-/* Tavitrozy: OpenUSD value clips resolved and baked, exactly. Version 0.4.0, for x86-64 Linux.
+/* Tavitrozy: OpenUSD value clips resolved and baked, exactly. Version 0.5.0, for x86-64 Linux.
  *
  * A resolver holds one clip set, or none. It answers what an attribute is at a stage time, and bakes the whole answer into a track: a head, and every
  * change at the very double where the value changes. docs/VALUE-CLIPS.md (share/doc/tavitrozy where installed) says what every call answers. Words used here:
@@ -13,9 +13,12 @@
  *   count  = tavitrozy_change_count(&resolver, ..).count;        ask for the count,
  *   track  = tavitrozy_bake(&resolver, .., slots);               then lend that many slots, and bake
  *   entry  = tavitrozy_read(head, .., stage time);               the track alone is enough to draw from
+ * To look at a set before it takes the place of the one that stands:
+ *   examined = tavitrozy_examine(..);                            examined.number: 0, or why it is refused; examined.set: the prepared set
+ *   tavitrozy_install(&preview, &examined.set);                  first in a resolver of its own, to be asked about there; then in the one that counts
  *
  * REFUSALS. A call is accepted (number 0) or refused with one of the numbers below. A refused call writes to no list and the set that stood still stands;
- * the other fields of its reply are 0, false and 0.0, and mean nothing: look at the number first.
+ * the other fields of its reply are 0, false and 0.0, and mean nothing: look at the number first. (A refused examining hands back the empty set instead.)
  *
  * LISTS. Nothing is allocated and nothing is kept: every list is the caller's, lent as a pointer and a length for the length of the call.
  *   - NULL is fine where the length is 0.
@@ -24,7 +27,7 @@
  *     samples reads what it has just written and may write behind its lists, and normalising in place loses a sample. Lists that are only read may overlap.
  *   - A list's length may be any, and its numbers too: what is wrong is refused, NaNs and infinities included. A pointer must be good for its length.
  *
- * THE RESOLVER may be read and copied (it is one plain struct), but its fields are written by these calls alone: every call rests on that.
+ * THE RESOLVER and A PREPARED SET may be read and copied (each is one plain struct), but their fields are written by these calls alone: all rests on that.
  *
  * THREADS. There is no global state. Any threads may call at once, as long as none writes a resolver or a list that another is using.
  *
@@ -32,10 +35,11 @@
  * Animation hosts and -ffast-math often set FTZ and DAZ; many tracks are then wrong. tavitrozy_environment_is_exact() tells, for the calling thread.
  *
  * STACK. Bytes of stack that a call needs at most, as tests/stack.c measures it with sets at the limits (make test holds the two together):
- *   fresh 256   accept 56320   accept_template 60416   retime 60928   active_clip 256
- *   clip_time 256   value 1792   untimed 512   stage_sample_count 9472   stage_sample_times 9728
- *   stage_samples 9728   change_count 15104   bake 15616   read 256   name 256
- *   template_clip_times 4352   normalize 59392   total_key 256
+ *   fresh 256   accept 93440   accept_template 97536   examine 99328   examine_template 103424
+ *   install 23040   retime 59904   active_clip 256   clip_time 256   value 1792
+ *   untimed 512   stage_sample_count 9472   stage_sample_times 9728   stage_samples 9728   change_count 15104
+ *   bake 15616   read 256   name 256   template_clip_times 4352   normalize 58368
+ *   total_key 256
  */
 #ifndef TAVITROZY_H
 #define TAVITROZY_H
@@ -47,9 +51,9 @@
 /* ---- version */
 
 #define TAVITROZY_VERSION_MAJOR 0
-#define TAVITROZY_VERSION_MINOR 4
+#define TAVITROZY_VERSION_MINOR 5
 #define TAVITROZY_VERSION_PATCH 0
-#define TAVITROZY_VERSION "0.4.0"
+#define TAVITROZY_VERSION "0.5.0"
 
 /* ---- refusals. Where several apply the first in the order given at the call is told. */
 
@@ -141,6 +145,25 @@ typedef struct {
   double blocks[TAVITROZY_MAX_BLOCKS];    /* manifest block times, in the order they were lent */
 } tavitrozy_resolver;
 
+/* ---- the prepared set: what examining hands back. A value: to be read, copied and kept, and written by examining alone: tavitrozy_install rests on that */
+
+/* From this stage time on that clip is active; at stage time x the clip time is y. */
+typedef struct { double time; uint64_t clip; } tavitrozy_start;
+typedef struct { double x, y; } tavitrozy_knot;
+/* As many items count as count says; what lies behind them means nothing. Ascending by time and by x; block times in the order they were lent. */
+typedef struct { tavitrozy_start items[TAVITROZY_MAX_STARTS]; size_t count; } tavitrozy_starts;
+typedef struct { tavitrozy_knot items[TAVITROZY_MAX_KNOTS]; size_t count; } tavitrozy_knots;
+typedef struct { double items[TAVITROZY_MAX_BLOCKS]; size_t count; } tavitrozy_blocks;
+/* It has 14,392 bytes, and goes by value through the library's symbols. */
+typedef struct {
+  uint64_t clips;
+  tavitrozy_starts active;
+  tavitrozy_knots knots;
+  tavitrozy_blocks blocks;
+  tavitrozy_default fallback;
+  bool interpolate;
+} tavitrozy_prepared;
+
 /* ---- replies. number: 0, or what refused the call; the rest then is 0. */
 
 /* found: whether a clip is active (none is where the set has no starts). */
@@ -156,6 +179,8 @@ typedef struct { uint8_t number; uint8_t mark; double value; size_t count; } tav
 /* An entry of a track: TAVITROZY_VALUE and a value, or TAVITROZY_BLOCK or TAVITROZY_NONE and 0.0. */
 typedef struct { double value; uint8_t mark; } tavitrozy_entry;
 typedef struct { uint8_t number; tavitrozy_shape shape; } tavitrozy_settled;
+/* The set is prepared, or beside a number the empty one: no clip, start, knot and block, no default, interpolate off. */
+typedef struct { uint8_t number; tavitrozy_prepared set; } tavitrozy_examined;
 
 #if defined(__clang__)
 #pragma clang diagnostic pop
@@ -221,6 +246,7 @@ tavitrozy_settled tavitrozy_lent_accept(TAVITROZY_CHANGED_SET, uint64_t clips,
 tavitrozy_settled tavitrozy_lent_accept_template(TAVITROZY_CHANGED_SET, const uint8_t *TAVITROZY_RESTRICT pattern, size_t pattern_len,
   tavitrozy_template_times times, bool has_offset,
   const double *TAVITROZY_RESTRICT block_times, size_t block_times_len, tavitrozy_default fallback, bool interpolate);
+tavitrozy_shape tavitrozy_lent_install(TAVITROZY_CHANGED_SET, tavitrozy_prepared set);
 tavitrozy_settled tavitrozy_lent_retime(TAVITROZY_CHANGED_SET, tavitrozy_layer_offset offset);
 tavitrozy_clip_reply tavitrozy_lent_active_clip(TAVITROZY_ASKED_SET, tavitrozy_at_stage time);
 tavitrozy_time_reply tavitrozy_lent_clip_time(TAVITROZY_ASKED_SET, tavitrozy_at_stage time);
@@ -280,6 +306,26 @@ static inline uint8_t tavitrozy_accept_template(tavitrozy_resolver *TAVITROZY_RE
 /* 20, 2, 4, 5. Moves starts, knots and block times. May be repeated: each moves what the one before left, with its own roundings. (0, 1) changes nothing. */
 static inline uint8_t tavitrozy_retime(tavitrozy_resolver *TAVITROZY_RESTRICT resolver, tavitrozy_layer_offset offset) {
   return tavitrozy_settle(resolver, tavitrozy_lent_retime(TAVITROZY_LENT(resolver), offset));
+}
+
+/* ---- look first, then install: an acceptance in two steps. Between them the set can be shown, in a resolver of its own.
+ * The two in a row are the acceptance: tavitrozy_accept is tavitrozy_examine and, where it is not refused, tavitrozy_install. */
+
+/* 1, 2, 3, 4, 5, 9. Examines an explicit set, its fields as for tavitrozy_accept, and hands back the very set that would then stand. No resolver is touched. */
+tavitrozy_examined tavitrozy_examine(uint64_t clips,
+  const double *TAVITROZY_RESTRICT starts, size_t starts_len, const double *TAVITROZY_RESTRICT numbers, size_t numbers_len,
+  const double *TAVITROZY_RESTRICT xs, size_t xs_len, const double *TAVITROZY_RESTRICT ys, size_t ys_len,
+  const double *TAVITROZY_RESTRICT blocks, size_t blocks_len, tavitrozy_default fallback, bool interpolate);
+
+/* 1, 2, 7, 6, 8, 2, 4, 5, 9. The same for a template set, its fields as for tavitrozy_accept_template. */
+tavitrozy_examined tavitrozy_examine_template(const uint8_t *TAVITROZY_RESTRICT pattern, size_t pattern_len,
+  tavitrozy_template_times times, bool has_offset,
+  const double *TAVITROZY_RESTRICT blocks, size_t blocks_len, tavitrozy_default fallback, bool interpolate);
+
+/* Puts a prepared set in place of the one that stood, at any later time, as often as wanted and in as many resolvers. Never refused; the empty set stands too.
+ * The prepared set stays as it is: retiming moves the resolver's own lists, and installing again brings the set back as it was prepared. */
+static inline void tavitrozy_install(tavitrozy_resolver *TAVITROZY_RESTRICT resolver, const tavitrozy_prepared *TAVITROZY_RESTRICT set) {
+  resolver->shape = tavitrozy_lent_install(TAVITROZY_LENT(resolver), *set);
 }
 
 /* ---- questions: they change nothing

@@ -1,5 +1,6 @@
 //! The case text answered through the library and its Rust crate, for the comparison with the Rust: the C boundary is
-//! tested too. Where the crate has a call that makes its lists itself, that one must say the same.
+//! tested too. Where the crate has a call that makes its lists itself, that one must say the same. What is
+//! accepted is examined too: the two must have one number, and the prepared set must be the one that stands.
 #![allow(dead_code)]
 
 #[path = "src/calls.rs"]
@@ -9,10 +10,10 @@ mod text;
 
 use std::io::{self, BufRead, Write};
 
-use calls::Call;
+use calls::{Call, Fields, PREPARED};
 use tavitrozy::{
-    Answer, ClipTime, Explicit, Fallback, LayerOffset, Refusal, Resolver, Samples, StageTime, State, Supplied,
-    Template, TemplateTimes, Track,
+    Answer, ClipTime, Explicit, Fallback, LayerOffset, Prepared, Refusal, Resolver, Samples, StageTime, StandingSet,
+    State, Supplied, Template, TemplateTimes, Track,
 };
 use text::{Line, Words};
 
@@ -20,6 +21,7 @@ type Answered = Result<(), Refusal>;
 
 struct Desk {
     resolver: Resolver,
+    slots: [Option<Prepared>; PREPARED],
     samples: calls::Samples,
 }
 
@@ -36,6 +38,14 @@ fn template_times(t: &calls::Template) -> TemplateTimes {
 fn template(t: &calls::Template) -> Template<'_> {
     let (set, filling) = (Template::new(&t.bytes, template_times(t)), &t.filling);
     set.blocks(&filling.blocks).fallback(Fallback::Value(filling.value)).interpolate(filling.flag)
+}
+
+fn examine_explicit(e: &calls::Explicit) -> Result<Prepared, Refusal> {
+    tavitrozy::examine_marked(&explicit(e), e.filling.mark)
+}
+
+fn examine_template(t: &calls::Template) -> Result<Prepared, Refusal> {
+    tavitrozy::examine_template_marked(&template(t), t.filling.mark)
 }
 
 /// A call with lent lists, against the one that makes its own: they differ only where the lent ones are too short.
@@ -57,6 +67,27 @@ fn write_answer(out: &mut Line, answer: Answer) {
 /// For comparison to the bit: of doubles the two zeros are equal, and a NaN, which a block's slot may be, to nothing.
 fn bits(list: &[f64]) -> Vec<u64> {
     list.iter().map(|d| d.to_bits()).collect()
+}
+
+fn write_set(out: &mut Line, set: &StandingSet<'_>) {
+    out.word("set").number(set.clips).word("starts").number(set.starts().len() as u64);
+    for (StageTime(time), clip) in set.starts() {
+        out.double(time).number(clip);
+    }
+    out.word("knots").number(set.knots().len() as u64);
+    for (StageTime(x), ClipTime(y)) in set.knots() {
+        out.double(x).double(y);
+    }
+    out.word("bl").doubles(set.blocks);
+}
+
+/// All of a set, to the bit.
+fn same_set(one: &StandingSet<'_>, other: &StandingSet<'_>) -> bool {
+    let manifest = |set: &StandingSet<'_>| format!("{:?} {}", set.fallback, set.interpolate);
+    let lists = |set: &StandingSet<'_>| [set.start_times, set.knot_xs, set.knot_ys, set.blocks].map(bits);
+    (one.clips, one.start_clips) == (other.clips, other.start_clips)
+        && manifest(one) == manifest(other)
+        && lists(one) == lists(other)
 }
 
 /// A track to the bit: the head's mark and value, the times, values and marks of the changes.
@@ -86,7 +117,7 @@ fn write_hash(out: &mut Line, track: &Track) {
 
 impl Desk {
     fn new() -> Self {
-        Desk { resolver: Resolver::new(), samples: calls::Samples::default() }
+        Desk { resolver: Resolver::new(), slots: [const { None }; PREPARED], samples: calls::Samples::default() }
     }
 
     fn samples(&self) -> Samples<'_> {
@@ -99,18 +130,30 @@ impl Desk {
         match call {
             Call::Case(_) | Call::Samples(_) => {}
             Call::Explicit(e) => {
-                self.resolver.accept_marked(&explicit(e), e.filling.mark)?;
-                out.word("ok");
+                let accepted = self.resolver.accept_marked(&explicit(e), e.filling.mark);
+                self.accepted(accepted, &examine_explicit(e), out)?;
             }
             Call::Template(t) => {
-                self.resolver.accept_template_marked(&template(t), t.filling.mark)?;
+                let accepted = self.resolver.accept_template_marked(&template(t), t.filling.mark);
+                self.accepted(accepted, &examine_template(t), out)?;
+            }
+            Call::Examine(slot, fields) => {
+                self.slots[*slot] = Some(match fields {
+                    Fields::Explicit(e) => examine_explicit(e)?,
+                    Fields::Template(t) => examine_template(t)?,
+                });
                 out.word("ok");
             }
+            Call::Prepared(slot) => match &self.slots[*slot] {
+                Some(set) => write_set(out, &set.set()),
+                None => _ = out.word("empty"),
+            },
+            Call::Install(slot) => self.install(*slot, out),
             Call::Retime(offset, scale) => {
                 self.resolver.retime(LayerOffset::new(*offset, *scale))?;
                 out.word("ok");
             }
-            Call::Dump => self.dump(out)?,
+            Call::Dump => write_set(out, &self.resolver.standing().ok_or(Refusal::NoSet)?),
             Call::Active(t) => {
                 match self.resolver.active_clip(StageTime(*t))? {
                     Some(clip) => out.word("active").number(clip),
@@ -150,18 +193,30 @@ impl Desk {
         Ok(())
     }
 
-    fn dump(&self, out: &mut Line) -> Answered {
-        let set = self.resolver.standing().ok_or(Refusal::NoSet)?;
-        out.word("set").number(set.clips).word("starts").number(set.starts().len() as u64);
-        for (StageTime(time), clip) in set.starts() {
-            out.double(time).number(clip);
+    /// An acceptance's reply. The same fields, examined, have the same number or are the very set that now stands.
+    fn accepted(&self, accepted: Answered, examined: &Result<Prepared, Refusal>, out: &mut Line) -> Answered {
+        assert_eq!(accepted.err(), examined.as_ref().err().copied(), "accepted and examined");
+        if let Ok(set) = examined {
+            self.stands_as(set);
         }
-        out.word("knots").number(set.knots().len() as u64);
-        for (StageTime(x), ClipTime(y)) in set.knots() {
-            out.double(x).double(y);
+        out.word("ok");
+        accepted
+    }
+
+    fn stands_as(&self, set: &Prepared) {
+        let standing = self.resolver.standing().expect("it was accepted or installed");
+        assert!(same_set(&standing, &set.set()), "what stands is the prepared set, to the bit");
+    }
+
+    fn install(&mut self, slot: usize, out: &mut Line) {
+        match &self.slots[slot] {
+            Some(set) => {
+                self.resolver.install(set);
+                self.stands_as(set);
+                out.word("ok");
+            }
+            None => _ = out.word("empty"),
         }
-        out.word("bl").doubles(set.blocks);
-        Ok(())
     }
 
     fn times(&self, slots: usize, out: &mut Line) -> Answered {

@@ -1,5 +1,5 @@
 /* The library as a C program meets it: the worked figures, zeros, retimings in a row, every refusal number that is given, NULL and the limits, what a refused
- * call leaves, the odd readings, and the keys of the total order.
+ * call leaves, sets that are examined and installed, the odd readings, and the keys of the total order.
  * It is built as C11 and as C++17, so it keeps to what both have. Prints what is not so; status 1 if anything is not. */
 #include <fenv.h>
 #include <math.h>
@@ -443,11 +443,13 @@ static void nothing_lent(void) {
 /* ---- the limits, and one over */
 
 static double many[600], many_numbers[600], many_ys[600];
+static void fill_many(void) {
+  for (size_t i = 0; i < 600; i++) many[i] = (double)i, many_numbers[i] = (double)(i % 256), many_ys[i] = (double)(i % 7);
+}
 
 static void limits_of_sets(void) {
   tavitrozy_resolver r;
-  tavitrozy_fresh(&r);
-  for (size_t i = 0; i < 600; i++) many[i] = (double)i, many_numbers[i] = (double)(i % 256), many_ys[i] = (double)(i % 7);
+  tavitrozy_fresh(&r), fill_many();
   CHECK(tavitrozy_accept(&r, 256, many, 256, many_numbers, 256, many, 512, many_ys, 512, many, 256, none, true) == 0);
   CHECK(r.shape.counts.starts == 256 && r.shape.counts.knots == 512 && r.shape.counts.blocks == 256 && r.shape.clips == 256);
   CHECK(r.starts[255] == 255 && r.numbers[255] == 255 && r.xs[511] == 511 && r.ys[511] == (double)(511 % 7) && r.blocks[255] == 255);
@@ -539,6 +541,244 @@ static void normal_form(void) {
   CHECK(c.number == 0 && c.count == 2 && t.times[0] == 1 && t.values[0] == 6 && t.times[1] == 2 && t.values[1] == 7 && t.marks[1] == TAVITROZY_BLOCK);
 }
 
+/* ---- look first, then install */
+
+/* A set's fields, so that an acceptance and an examining are asked with the same. */
+typedef struct {
+  uint64_t clips;
+  const double *starts, *numbers, *xs, *ys, *blocks;
+  size_t starts_len, numbers_len, knots_len, blocks_len;
+  tavitrozy_default fallback;
+  bool interpolate;
+} explicit_fields;
+#define EXPLICIT(F) (F)->clips, (F)->starts, (F)->starts_len, (F)->numbers, (F)->numbers_len, (F)->xs, (F)->knots_len, (F)->ys, (F)->knots_len, \
+  (F)->blocks, (F)->blocks_len, (F)->fallback, (F)->interpolate
+typedef struct {
+  const char *pattern;
+  tavitrozy_template_times times;
+  bool has_offset;
+  const double *blocks;
+  size_t blocks_len;
+  tavitrozy_default fallback;
+  bool interpolate;
+} template_fields;
+#define TEMPLATE(F) (const uint8_t *)(F)->pattern, strlen((F)->pattern), (F)->times, (F)->has_offset, \
+  (F)->blocks, (F)->blocks_len, (F)->fallback, (F)->interpolate
+
+/* In no order, with a negative zero, a jump, and blocks that lie together; the default counts. */
+static explicit_fields good_explicit(void) {
+  static const double starts[] = {10, -0.0, 5}, numbers[] = {1, 0, 2}, xs[] = {20, 10, 0, 10}, ys[] = {7, 9, 8, -0.0}, blocks[] = {10, 0, 10};
+  explicit_fields f;
+  f.clips = 3, f.starts = starts, f.numbers = numbers, f.xs = xs, f.ys = ys, f.blocks = blocks;
+  f.starts_len = 3, f.numbers_len = 3, f.knots_len = 4, f.blocks_len = 3, f.fallback = value_default(-0.0), f.interpolate = true;
+  return f;
+}
+
+static template_fields good_template(void) {
+  static const double blocks[257] = {2, 1};
+  template_fields f;
+  f.pattern = "f.###.usd", f.times = stepping(1, 3, 1, 0.5), f.has_offset = true, f.blocks = blocks, f.blocks_len = 2;
+  f.fallback = value_default(4), f.interpolate = false;
+  return f;
+}
+
+/* What stands is the prepared set: all that counts of the two, to the bit. */
+static bool stands_as(const tavitrozy_resolver *r, const tavitrozy_prepared *p) {
+  const tavitrozy_shape *s = &r->shape;
+  bool same = s->stands && s->clips == p->clips && s->manifest.interpolate == p->interpolate && s->manifest.fallback.mark == p->fallback.mark;
+  same = same && s->counts.starts == p->active.count && s->counts.knots == p->knots.count && s->counts.blocks == p->blocks.count;
+  same = same && (p->fallback.mark != TAVITROZY_VALUE || same_bits(s->manifest.fallback.value, p->fallback.value));
+  for (size_t i = 0; same && i < p->active.count; i++) same = same_bits(r->starts[i], p->active.items[i].time) && r->numbers[i] == p->active.items[i].clip;
+  for (size_t i = 0; same && i < p->knots.count; i++) same = same_bits(r->xs[i], p->knots.items[i].x) && same_bits(r->ys[i], p->knots.items[i].y);
+  return same && memcmp(r->blocks, p->blocks.items, p->blocks.count * sizeof *r->blocks) == 0;
+}
+
+static bool is_empty(const tavitrozy_prepared *p) {
+  return p->clips == 0 && p->active.count == 0 && p->knots.count == 0 && p->blocks.count == 0 && !p->interpolate
+    && p->fallback.mark == TAVITROZY_NONE && same_bits(p->fallback.value, 0.0);
+}
+
+/* A set of which every field must give way. */
+static void stand_before(tavitrozy_resolver *r) {
+  const double starts[] = {-3, -2, -1, 0, 7}, numbers[] = {0, 1, 2, 3, 3}, xs[] = {1, 2, 3, 4, 5};
+  tavitrozy_fresh(r);
+  CHECK(tavitrozy_accept(r, 4, starts, 5, numbers, 5, xs, 5, xs, 5, xs, 5, value_default(8), true) == 0);
+}
+
+static tavitrozy_resolver accepted, installed, untouched;
+static tavitrozy_examined looked;
+
+/* The acceptance's number is the examining's; then both resolvers hold the set, or neither and the set is the empty one. */
+static bool alike(uint8_t expected, uint8_t number) {
+  if (number != expected || looked.number != expected) return false;
+  if (number) return is_empty(&looked.set) && memcmp(&accepted, &untouched, sizeof accepted) == 0;
+  tavitrozy_install(&installed, &looked.set);
+  return stands_as(&accepted, &looked.set) && stands_as(&installed, &looked.set);
+}
+static void stand_thrice(void) {
+  stand_before(&accepted);
+  memcpy(&installed, &accepted, sizeof accepted), memcpy(&untouched, &accepted, sizeof accepted);
+}
+static bool both_ways(uint8_t expected, const explicit_fields *f) {
+  stand_thrice(), looked = tavitrozy_examine(EXPLICIT(f));
+  return alike(expected, tavitrozy_accept(&accepted, EXPLICIT(f)));
+}
+static bool both_ways_of_template(uint8_t expected, const template_fields *f) {
+  stand_thrice(), looked = tavitrozy_examine_template(TEMPLATE(f));
+  return alike(expected, tavitrozy_accept_template(&accepted, TEMPLATE(f)));
+}
+
+static void examined_sets(void) {
+  explicit_fields f = good_explicit();
+  CHECK(both_ways(0, &f));
+  const tavitrozy_prepared *p = &looked.set;
+  CHECK(p->clips == 3 && p->active.count == 3 && same_bits(p->active.items[0].time, -0.0) && p->active.items[1].clip == 2 && p->active.items[2].time == 10);
+  CHECK(p->knots.count == 4 && p->knots.items[0].y == 8 && p->knots.items[1].y == 9 && same_bits(p->knots.items[2].y, -0.0) && p->knots.items[3].y == 7);
+  CHECK(p->blocks.count == 3 && p->blocks.items[0] == 10 && p->blocks.items[1] == 0 && p->interpolate && same_bits(p->fallback.value, -0.0));
+  f.fallback.mark = TAVITROZY_BLOCK, f.fallback.value = NAN, f.knots_len = 0;
+  CHECK(both_ways(0, &f) && p->fallback.mark == TAVITROZY_BLOCK && p->knots.count == 0);
+  f.starts_len = 0, f.numbers_len = 0, f.blocks_len = 0, f.fallback = none;
+  CHECK(both_ways(0, &f) && p->active.count == 0 && p->clips == 3);
+  template_fields g = good_template();
+  CHECK(both_ways_of_template(0, &g) && p->clips == 3 && p->active.items[0].time == 1.5 && p->knots.count == 5 && p->blocks.items[0] == 2);
+  g.has_offset = false, g.times.offset = NAN, g.blocks = NULL, g.blocks_len = 0, g.interpolate = true;
+  CHECK(both_ways_of_template(0, &g) && p->active.items[0].time == 1 && p->knots.count == 3 && p->blocks.count == 0 && p->interpolate);
+}
+
+/* Each number alone, and any two faults at once: the first in the call's order is told. */
+static const uint8_t explicit_order[] = {1, 2, 3, 4, 5, 9}, template_order[] = {1, 2, 7, 6, 8, 2, 4, 5, 9};
+
+static void spoil(explicit_fields *f, int place) {
+  static const double far_time[] = {10, TAVITROZY_MAX_TIME + 1, 10}, no_clip[] = {1, 0.5, 2}, equal[] = {10, 0, 10}, three[] = {10, 10, 0, 10};
+  switch (place) {
+    case 0: f->clips = 257; break;
+    case 1: f->blocks = far_time; break;
+    case 2: f->numbers = no_clip; break;
+    case 3: f->starts = equal; break;
+    case 4: f->xs = three; break;
+    default: f->fallback.mark = 3; break;
+  }
+}
+
+static bool spoils_times(int place) { return place == 2 || (place >= 4 && place <= 7); }
+static void spoil_template(template_fields *f, int place) {
+  static const double no_time[257] = {NAN};
+  switch (place) {
+    case 0: f->blocks_len = 257; break;
+    case 1: f->blocks = no_time; break;
+    case 2: f->times = stepping(3, 1, 1, 0); break;
+    case 3: f->pattern = "f.usd"; break;
+    case 4: f->times = stepping(1, 257, 1, 0); break;
+    case 5: f->times = stepping(0, 0, 2199023255553.0, 2199023255552.0); break; /* the start is beyond 2^40 */
+    case 6: f->times = stepping(900000000000.0, 900000000000.001, 0.0001, 0); break; /* starts fall together */
+    case 7: f->times = stepping(1, 1, 1, 0); break;
+    default: f->fallback.mark = 3; break;
+  }
+}
+
+static void examined_with_faults(void) {
+  for (int i = 0; i < 6; i++)
+    for (int j = i; j < 6; j++) {
+      explicit_fields f = good_explicit();
+      spoil(&f, i), spoil(&f, j);
+      CHECK(both_ways(explicit_order[i], &f));
+    }
+  for (int i = 0; i < 9; i++)
+    for (int j = i; j < 9; j++) {
+      if (i != j && spoils_times(i) && spoils_times(j)) continue;
+      template_fields f = good_template();
+      spoil_template(&f, i), spoil_template(&f, j);
+      CHECK(both_ways_of_template(template_order[i], &f));
+    }
+  explicit_fields f = good_explicit();
+  f.numbers_len = 2;
+  CHECK(both_ways(1, &f));
+}
+
+/* A prepared set is a value: retimings do not reach it, it goes into several resolvers, and brings the set back as it was prepared. */
+static void installed_again(void) {
+  tavitrozy_resolver first, second;
+  explicit_fields f = good_explicit();
+  tavitrozy_examined kept = tavitrozy_examine(EXPLICIT(&f)), original;
+  memcpy(&original, &kept, sizeof kept);
+  tavitrozy_fresh(&first), stand_before(&second);
+  tavitrozy_install(&first, &kept.set), tavitrozy_install(&second, &kept.set);
+  CHECK(kept.number == 0 && stands_as(&first, &kept.set) && stands_as(&second, &kept.set));
+  CHECK(tavitrozy_retime(&first, moving(100, -2)) == 0 && first.starts[0] == 80 && first.numbers[0] == 1 && first.blocks[0] == 80);
+  CHECK(stands_as(&second, &kept.set) && !stands_as(&first, &kept.set));
+  tavitrozy_install(&first, &kept.set);
+  CHECK(stands_as(&first, &kept.set));
+  CHECK(memcmp(&original, &kept, sizeof kept) == 0);
+  /* a copy is a prepared set of its own, and what stands is no longer the one that it came from */
+  tavitrozy_prepared copy = kept.set;
+  memset(&kept, 0, sizeof kept);
+  CHECK(stands_as(&first, &copy) && tavitrozy_retime(&second, moving(1, 1)) == 0);
+  tavitrozy_install(&second, &copy);
+  CHECK(stands_as(&second, &copy));
+}
+
+/* Nothing of what stood stays: no default, no knot, no block, no flag. */
+static void nothing_stays(void) {
+  const double start[] = {0}, clip[] = {0};
+  static samples s;
+  tavitrozy_resolver r;
+  stand_before(&r);
+  end_clip(&s), end_clip(&s), end_clip(&s), end_clip(&s);
+  CHECK(tavitrozy_value(&r, LENT(&s), at(2)).value == 8);
+  s.clips = 1;
+  tavitrozy_examined e = tavitrozy_examine(1, start, 1, clip, 1, NULL, 0, NULL, 0, NULL, 0, none, false);
+  CHECK(e.number == 0);
+  tavitrozy_install(&r, &e.set);
+  CHECK(tavitrozy_value(&r, LENT(&s), at(2)).number == 0 && tavitrozy_value(&r, LENT(&s), at(2)).mark == TAVITROZY_BLOCK);
+  CHECK(tavitrozy_clip_time(&r, at(100)).time.value == 100 && r.shape.counts.blocks == 0 && !r.shape.manifest.interpolate);
+}
+
+/* A refused examining's set may be installed: nothing is there to be drawn. */
+static void empty_set(void) {
+  tavitrozy_resolver r;
+  stand_before(&r);
+  tavitrozy_examined e = tavitrozy_examine(257, NULL, 0, NULL, 0, NULL, 0, NULL, 0, NULL, 0, value_default(8), true);
+  CHECK(e.number == TAVITROZY_REFUSED_MISSHAPEN && is_empty(&e.set));
+  tavitrozy_install(&r, &e.set);
+  CHECK(stands_as(&r, &e.set) && !tavitrozy_active_clip(&r, at(3)).found && tavitrozy_clip_time(&r, at(3)).time.value == 3);
+  CHECK(tavitrozy_value(&r, NO_SAMPLES, at(3)).number == 0 && tavitrozy_value(&r, NO_SAMPLES, at(3)).mark == TAVITROZY_NONE);
+  CHECK(tavitrozy_untimed(&r, NO_SAMPLES).state == TAVITROZY_ABSENT && tavitrozy_change_count(&r, NO_SAMPLES).count == 0);
+  /* it is the set of no fields at all */
+  e = tavitrozy_examine(0, NULL, 0, NULL, 0, NULL, 0, NULL, 0, NULL, 0, none, false);
+  CHECK(e.number == 0 && is_empty(&e.set));
+}
+
+static void examined_at_the_limits(void) {
+  explicit_fields f = good_explicit();
+  fill_many();
+  f.clips = 256, f.starts = many, f.numbers = many_numbers, f.xs = many, f.ys = many_ys, f.blocks = many;
+  f.starts_len = 256, f.numbers_len = 256, f.knots_len = 512, f.blocks_len = 256;
+  CHECK(both_ways(0, &f) && looked.set.active.items[255].clip == 255 && looked.set.knots.items[511].x == 511 && looked.set.blocks.items[255] == 255);
+  f.knots_len = 513;
+  CHECK(both_ways(1, &f));
+  template_fields g = good_template();
+  g.times = stepping(1, 256, 1, 0.5);
+  CHECK(both_ways_of_template(0, &g) && looked.set.clips == 256 && looked.set.knots.count == 258);
+  CHECK(sizeof(tavitrozy_prepared) == 14392); /* as the header says */
+}
+
+/* The desk stays as it was while the preview is asked; the track that was shown is the one that is drawn then. */
+static void previewed(void) {
+  const double starts[] = {0, 10}, numbers[] = {1, 0};
+  static samples s;
+  tavitrozy_resolver preview;
+  track_lists shown, drawn;
+  set_up(&s);
+  tavitrozy_examined e = tavitrozy_examine(2, starts, 2, numbers, 2, NULL, 0, NULL, 0, NULL, 0, none, false);
+  tavitrozy_fresh(&preview), tavitrozy_install(&preview, &e.set);
+  tavitrozy_baked first = tavitrozy_bake(&preview, LENT(&s), OUT(&shown, 64));
+  CHECK(memcmp(&here, &before, sizeof here) == 0 && tavitrozy_value(&here.resolver, LENT(&s), at(10)).value == 2);
+  tavitrozy_install(&here.resolver, &e.set);
+  tavitrozy_baked second = tavitrozy_bake(&here.resolver, LENT(&s), OUT(&drawn, 64));
+  CHECK(first.number == 0 && first.value == 2 && first.count == 1 && shown.times[0] == 10 && shown.values[0] == 1);
+  CHECK(second.number == 0 && second.value == 2 && second.count == 1 && drawn.times[0] == 10 && drawn.values[0] == 1);
+}
+
 /* ---- odd readings of a track */
 
 static void readings(void) {
@@ -624,6 +864,7 @@ int main(void) {
   retimed_again(), identity_again(), baked_after_two();
   refused_acceptances(), refused_retimings(), refused_without_set(), refused_samples(), refused_for_room_or_time(), refused_fields();
   nothing_lent(), limits_of_sets(), limits_of_templates(), limits_of_samples();
+  examined_sets(), examined_with_faults(), installed_again(), nothing_stays(), empty_set(), examined_at_the_limits(), previewed();
   outputs(), stands_as_sorted(), normal_form(), readings(), readings_out_of_order(), total_keys(), environment(), version();
   printf("boundary: %d checks, %d not so\n", checks, failures);
   return failures != 0;

@@ -22,6 +22,7 @@ enum { KINDS = sizeof kinds / sizeof *kinds };
 
 static const kind *now;
 static tavitrozy_resolver standing, other;
+static tavitrozy_examined examined;
 static double starts[256], numbers[256], xs[512], ys[512], blocks[256], times[4096], values[4096], shuffled[4096];
 static uint8_t marks[4096], name[TAVITROZY_MAX_NAME_BYTES];
 static uint64_t ends[256];
@@ -41,15 +42,15 @@ static void lists(void) {
   if (!out_times || !out_values || !out_marks) exit(2);
 }
 
-static uint8_t accept_into(tavitrozy_resolver *r) {
-  return tavitrozy_accept(r, 256, starts, now->starts, numbers, now->starts, xs, now->knots, ys, now->knots, blocks, now->blocks, none, now->interpolate);
-}
+#define FIELDS 256, starts, now->starts, numbers, now->starts, xs, now->knots, ys, now->knots, blocks, now->blocks, none, now->interpolate
+#define TEMPLATE_FIELDS (const uint8_t *)"f.###.usd", 9, stepping, true, blocks, 256, none, true
 
 static void stand(const kind *k) {
   now = k;
   for (size_t i = 0; i < 256; i++) ends[i] = k->samples ? 16 * (i + 1) : 0;
   tavitrozy_fresh(&standing);
-  if (accept_into(&standing)) exit(2);
+  examined = tavitrozy_examine(FIELDS);
+  if (tavitrozy_accept(&standing, FIELDS) || examined.number) exit(2);
 }
 
 /* ---- the calls, one in each function */
@@ -57,10 +58,11 @@ static void stand(const kind *k) {
 #define SAMPLES times, now->samples, values, now->samples, marks, now->samples, ends, 256
 #define CALL __attribute__((noinline)) static void
 CALL call_fresh(void) { tavitrozy_fresh(&other); }
-CALL call_accept(void) { refused = accept_into(&other); }
-CALL call_accept_template(void) {
-  refused = tavitrozy_accept_template(&other, (const uint8_t *)"f.###.usd", 9, stepping, true, blocks, 256, none, true);
-}
+CALL call_accept(void) { refused = tavitrozy_accept(&other, FIELDS); }
+CALL call_accept_template(void) { refused = tavitrozy_accept_template(&other, TEMPLATE_FIELDS); }
+CALL call_examine(void) { refused = tavitrozy_examine(FIELDS).number; }
+CALL call_examine_template(void) { refused = tavitrozy_examine_template(TEMPLATE_FIELDS).number; }
+CALL call_install(void) { tavitrozy_install(&other, &examined.set); }
 CALL call_retime(void) { tavitrozy_layer_offset o = {1, -2}; refused = tavitrozy_retime(&other, o); }
 CALL call_active_clip(void) { refused = tavitrozy_active_clip(&standing, asked).number; }
 CALL call_clip_time(void) { refused = tavitrozy_clip_time(&standing, asked).number; }
@@ -82,9 +84,9 @@ CALL call_total_key(void) { refused = tavitrozy_total_key(0) == 0; }
 typedef struct { const char *name; void (*call)(void); } row;
 #define ROW(N) {#N, call_##N}
 static const row rows[] = {
-  ROW(fresh), ROW(accept), ROW(accept_template), ROW(retime), ROW(active_clip), ROW(clip_time), ROW(value), ROW(untimed), ROW(stage_sample_count),
-  ROW(stage_sample_times), ROW(stage_samples), ROW(change_count), ROW(bake), ROW(read), ROW(name), ROW(template_clip_times), ROW(normalize),
-  ROW(total_key),
+  ROW(fresh), ROW(accept), ROW(accept_template), ROW(examine), ROW(examine_template), ROW(install), ROW(retime), ROW(active_clip), ROW(clip_time), ROW(value),
+  ROW(untimed), ROW(stage_sample_count), ROW(stage_sample_times), ROW(stage_samples), ROW(change_count), ROW(bake), ROW(read), ROW(name),
+  ROW(template_clip_times), ROW(normalize), ROW(total_key),
 };
 
 /* ---- the measure */

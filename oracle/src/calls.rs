@@ -30,6 +30,23 @@ pub struct Template {
     pub filling: Filling,
 }
 
+/// What an acceptance is handed, and what an examining looks at first.
+#[derive(Clone, Debug)]
+pub enum Fields {
+    Explicit(Explicit),
+    Template(Template),
+}
+
+impl Fields {
+    /// The call that accepts them at once.
+    pub fn acceptance(&self) -> Call {
+        match self {
+            Fields::Explicit(e) => Call::Explicit(e.clone()),
+            Fields::Template(t) => Call::Template(t.clone()),
+        }
+    }
+}
+
 #[derive(Clone, Debug, Default)]
 pub struct Samples {
     pub ends: Vec<u64>,
@@ -43,6 +60,10 @@ pub enum Call {
     Case(String),
     Explicit(Explicit),
     Template(Template),
+    /// Into a slot, if no number refuses it.
+    Examine(usize, Fields),
+    Prepared(usize),
+    Install(usize),
     Retime(f64, f64),
     Samples(Samples),
     Dump,
@@ -65,6 +86,9 @@ pub enum Call {
 /// The room of each lent output list where a call names none.
 pub const ROOM: u64 = 65_536;
 pub const NAME_ROOM: u64 = 400;
+
+/// How many prepared sets a text can keep, each in its slot.
+pub const PREPARED: usize = 4;
 
 fn filling(words: &mut Words<'_>) -> Option<Filling> {
     words.keyword("bl")?;
@@ -101,6 +125,37 @@ fn template_numbers(words: &mut Words<'_>) -> Option<Template> {
     Some(Template { start, end, stride, offset, ..Template::default() })
 }
 
+fn explicit(words: &mut Words<'_>) -> Option<Explicit> {
+    let clips = words.number()?;
+    let mut list = |key| words.keyword(key).and_then(|()| words.doubles());
+    let (start_times, start_clips) = (list("st")?, list("sc")?);
+    let (knot_x, knot_y) = (list("kx")?, list("ky")?);
+    let filling = filling(words)?;
+    Some(Explicit { clips, start_times, start_clips, knot_x, knot_y, filling })
+}
+
+fn template(words: &mut Words<'_>) -> Option<Template> {
+    let bytes = words.bytes()?;
+    let numbers = template_numbers(words)?;
+    let filling = filling(words)?;
+    Some(Template { bytes, filling, ..numbers })
+}
+
+/// An acceptance as a line has it, from its word on.
+fn fields(words: &mut Words<'_>) -> Option<Fields> {
+    match words.word()? {
+        b"explicit" => explicit(words).map(Fields::Explicit),
+        b"template" => template(words).map(Fields::Template),
+        _ => None,
+    }
+}
+
+/// The slot of a prepared set.
+fn slot(words: &mut Words<'_>) -> Option<usize> {
+    let slot = usize::try_from(words.number()?).ok()?;
+    (slot < PREPARED).then_some(slot)
+}
+
 /// The call of a line's words; none where it can't be read.
 pub fn read(first: &[u8], mut words: Words<'_>) -> Option<Call> {
     Some(match first {
@@ -110,20 +165,24 @@ pub fn read(first: &[u8], mut words: Words<'_>) -> Option<Call> {
             Call::Case(name)
         }
         b"explicit" => {
-            let clips = words.number()?;
-            let mut list = |key| words.keyword(key).and_then(|()| words.doubles());
-            let (start_times, start_clips) = (list("st")?, list("sc")?);
-            let (knot_x, knot_y) = (list("kx")?, list("ky")?);
-            let filling = filling(&mut words)?;
+            let set = explicit(&mut words)?;
             words.end()?;
-            Call::Explicit(Explicit { clips, start_times, start_clips, knot_x, knot_y, filling })
+            Call::Explicit(set)
         }
         b"template" => {
-            let bytes = words.bytes()?;
-            let numbers = template_numbers(&mut words)?;
-            let filling = filling(&mut words)?;
+            let set = template(&mut words)?;
             words.end()?;
-            Call::Template(Template { bytes, filling, ..numbers })
+            Call::Template(set)
+        }
+        b"examine" => {
+            let (slot, fields) = (slot(&mut words)?, fields(&mut words)?);
+            words.end()?;
+            Call::Examine(slot, fields)
+        }
+        b"prepared" | b"install" => {
+            let slot = slot(&mut words)?;
+            words.end()?;
+            if first == b"prepared" { Call::Prepared(slot) } else { Call::Install(slot) }
         }
         b"samples" => {
             words.keyword("ends")?;
@@ -196,6 +255,18 @@ fn write_template_numbers(line: &mut Line, t: &Template) {
     };
 }
 
+fn write_explicit(line: &mut Line, e: &Explicit) {
+    line.word("explicit").number(e.clips);
+    line.word("st").doubles(&e.start_times).word("sc").doubles(&e.start_clips);
+    line.word("kx").doubles(&e.knot_x).word("ky").doubles(&e.knot_y);
+    write_filling(line, &e.filling);
+}
+
+fn write_template(line: &mut Line, t: &Template) {
+    write_template_numbers(line.word("template").bytes(&t.bytes), t);
+    write_filling(line, &t.filling);
+}
+
 fn write_slots(line: &mut Line, slots: u64, room: u64) {
     if slots != room {
         line.number(slots);
@@ -208,15 +279,20 @@ pub fn write(line: &mut Line, call: &Call) {
         Call::Case(name) => {
             line.word("case").word(name);
         }
-        Call::Explicit(e) => {
-            line.word("explicit").number(e.clips);
-            line.word("st").doubles(&e.start_times).word("sc").doubles(&e.start_clips);
-            line.word("kx").doubles(&e.knot_x).word("ky").doubles(&e.knot_y);
-            write_filling(line, &e.filling);
+        Call::Explicit(e) => write_explicit(line, e),
+        Call::Template(t) => write_template(line, t),
+        Call::Examine(slot, fields) => {
+            line.word("examine").number(*slot as u64);
+            match fields {
+                Fields::Explicit(e) => write_explicit(line, e),
+                Fields::Template(t) => write_template(line, t),
+            }
         }
-        Call::Template(t) => {
-            write_template_numbers(line.word("template").bytes(&t.bytes), t);
-            write_filling(line, &t.filling);
+        Call::Prepared(slot) => {
+            line.word("prepared").number(*slot as u64);
+        }
+        Call::Install(slot) => {
+            line.word("install").number(*slot as u64);
         }
         Call::Retime(offset, scale) => {
             line.word("retime").double(*offset).double(*scale);

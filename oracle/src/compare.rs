@@ -43,7 +43,7 @@ fn shown(line: &[u8]) -> String {
 
 /// Whether a call sets up what later calls of its case are asked about.
 fn sets_up(line: &[u8]) -> bool {
-    [&b"case"[..], b"explicit", b"template", b"retime", b"samples"]
+    [&b"case"[..], b"explicit", b"template", b"examine", b"install", b"retime", b"samples"]
         .iter()
         .any(|word| line.trim_ascii_start().starts_with(word))
 }

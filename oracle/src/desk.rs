@@ -1,44 +1,20 @@
 //! The desk of docs/VALUE-CLIPS.md over the Rust: numbers by the document, everything else by the Rust's own functions.
 //! Where asked to, every answer is also worked out from the document's text, and a difference is told.
 
-use crate::calls::{Call, Explicit, Filling, Samples, Template};
+use crate::calls::{Call, Explicit, Fields, Filling, Samples, Template};
 use crate::doubles::{at, place};
-use crate::gf::{Vec2d, vec2d};
+use crate::gf::vec2d;
 use crate::numbers::{self, Refusal};
+use crate::pcp::clip::keys;
 use crate::pcp::clip::reach::{self, Asked, Map};
-use crate::pcp::clip::{ClipAnchor, ClipSet, ResolvedClipSet, keys};
 use crate::pcp::prim_resolve::Supplied;
 use crate::pcp::value_resolve::ValueState;
-use crate::pcp::{LayerId, LayerStackId};
 use crate::plain::{self, ABSENT, Answer, BLOCKED, Read};
-use crate::sdf::{self, AssetPath, Data, Layer, LayerOffset, Path};
+use crate::prepared::{Installed, Prepared, Slots, clip_path, moved_blocks};
+use crate::sdf::{self, AssetPath, Data, Layer, LayerOffset};
 use crate::text::Line;
 use crate::track::{self, Track};
 use crate::vt::Value;
-
-/// A set as the Rust holds it.
-struct Standing {
-    resolved: ResolvedClipSet,
-    /// The manifest, which the Rust leaves where it was authored, moving its block times at each look by the one offset that
-    /// it knows. So that offset is the last accepted retiming's, and the block times here are those that stood before it,
-    /// moved by hand by all earlier ones.
-    filling: Filling,
-    /// The same set by the document.
-    plain: plain::Set,
-}
-
-impl Standing {
-    /// The block times as they stand.
-    fn blocks(&self) -> Vec<f64> {
-        moved_blocks(&self.filling.blocks, self.resolved.active_offset)
-    }
-}
-
-/// Block times moved by hand. The identity changes nothing, though its formula would turn -0.0 round.
-fn moved_blocks(blocks: &[f64], moving: LayerOffset) -> Vec<f64> {
-    let moved = |&block: &f64| if moving.is_identity() { block } else { moving.apply(block) };
-    blocks.iter().map(moved).collect()
-}
 
 /// The lent samples as layers, the manifest first.
 struct Lent {
@@ -46,24 +22,33 @@ struct Lent {
     layers: Vec<Layer>,
 }
 
+/// What is counted over all cases.
+#[derive(Clone, Copy, Default)]
+pub struct Counts {
+    /// Tracks walked by the Rust's values, and by the document's.
+    pub tracks: [u64; 2],
+    /// Where all is checked: tracks that write a value zero, and places at which a zero's sign alone changes.
+    pub zeros: [u64; 2],
+    /// Sets that had a second accepted retiming, and a third.
+    pub chains: [u64; 2],
+    pub installed: Installed,
+    pub probed: u64,
+}
+
 pub struct Desk {
-    set: Option<Standing>,
+    set: Option<Prepared>,
+    /// Accepted retimings of the set that stands.
+    in_a_row: u64,
+    slots: Slots,
     samples: Samples,
     lent: Option<Lent>,
     asked: Asked,
     check: bool,
     /// Where Rust and document differ.
     pub differences: Vec<String>,
-    /// Tracks walked by the Rust's values, and by the document's.
-    pub tracks: [u64; 2],
-    /// Where all is checked: tracks that write a value zero, and places at which a zero's sign alone changes.
-    pub zeros: [u64; 2],
-    /// Accepted retimings of the set that stands, and how many sets had a second one and a third.
-    in_a_row: u64,
-    pub chains: [u64; 2],
+    pub counts: Counts,
     /// Whether each short track is held against the Rust's value near everything that can move it.
     pub probing: bool,
-    pub probed: u64,
 }
 
 type Answered = Result<(), Refusal>;
@@ -75,23 +60,6 @@ fn pairs(x: &[f64], y: &[f64]) -> Value {
 /// Bytes as text, a character a byte.
 fn latin(bytes: &[u8]) -> String {
     bytes.iter().map(|&byte| byte as char).collect()
-}
-
-fn clip_path(clip: usize) -> AssetPath {
-    AssetPath::new(format!("c{clip}"))
-}
-
-/// Starts and knots, each double by its bits.
-type Bits = (Vec<(u64, usize)>, Vec<(u64, u64)>);
-
-fn bits_of(starts: &[(f64, usize)], knots: &[Vec2d]) -> Bits {
-    let knot = |k: &Vec2d| (k.x.to_bits(), k.y.to_bits());
-    (starts.iter().map(|s| (s.0.to_bits(), s.1)).collect(), knots.iter().map(knot).collect())
-}
-
-fn plain_bits(set: &plain::Set) -> Bits {
-    let knots: Vec<Vec2d> = set.knots.iter().map(|k| vec2d(k.0, k.1)).collect();
-    bits_of(&set.starts, &knots)
 }
 
 fn answer(value: Option<Value>) -> Answer {
@@ -136,17 +104,15 @@ impl Desk {
     pub fn new(check: bool) -> Self {
         Desk {
             set: None,
+            in_a_row: 0,
+            slots: Slots::default(),
             samples: Samples::default(),
             lent: None,
             asked: Asked::new(),
             check,
-            probing: false,
-            probed: 0,
             differences: Vec::new(),
-            tracks: [0; 2],
-            zeros: [0; 2],
-            in_a_row: 0,
-            chains: [0; 2],
+            counts: Counts::default(),
+            probing: false,
         }
     }
 
@@ -155,9 +121,8 @@ impl Desk {
         match call {
             Call::Case(name) => {
                 let differences = std::mem::take(&mut self.differences);
-                let (probing, probed) = (self.probing, self.probed);
-                let (tracks, zeros, chains) = (self.tracks, self.zeros, self.chains);
-                *self = Desk { differences, probing, probed, tracks, zeros, chains, ..Desk::new(self.check) };
+                let (counts, probing) = (self.counts, self.probing);
+                *self = Desk { differences, counts, probing, ..Desk::new(self.check) };
                 out.word("case").word(&name).end();
             }
             Call::Samples(samples) => {
@@ -175,8 +140,11 @@ impl Desk {
 
     fn reply(&mut self, call: Call, out: &mut Line) -> Answered {
         match call {
-            Call::Explicit(e) => self.explicit(&e, out),
-            Call::Template(t) => self.template(&t, out),
+            Call::Explicit(e) => self.accept(&Fields::Explicit(e), out),
+            Call::Template(t) => self.accept(&Fields::Template(t), out),
+            Call::Examine(slot, fields) => self.examine_into(slot, &fields, out),
+            Call::Prepared(slot) => self.prepared(slot, out),
+            Call::Install(slot) => self.install_from(slot, out),
             Call::Retime(offset, scale) => self.retime(offset, scale, out),
             Call::Dump => self.dump(out),
             Call::Active(t) => self.active(t, out),
@@ -207,33 +175,69 @@ impl Desk {
 
     // Acceptance.
 
-    fn install(&mut self, mut set: ClipSet, filling: &Filling, plain: plain::Set, out: &mut Line) {
-        // A template's names may fall together; a clip is known here by its number.
-        set.asset_paths = (0..set.asset_paths.len()).map(clip_path).collect();
+    /// The set that these fields make, or the number that refuses them. What stands is not looked at.
+    fn examine(&mut self, fields: &Fields) -> Result<Prepared, Refusal> {
+        let set = match fields {
+            Fields::Explicit(e) => self.examine_explicit(e)?,
+            Fields::Template(t) => self.examine_template(t)?,
+        };
         if self.check {
-            self.compare("set", bits_of(&set.active, &set.times), plain_bits(&plain));
-            self.compare("clips", set.asset_paths.len(), plain.clips);
+            self.compare("set", set.rust_bits(), set.document_bits());
         }
-        let source = ClipAnchor { layer: LayerId(0), prim_path: Path::new("/a").unwrap(), stack: LayerStackId };
-        let resolved = ResolvedClipSet { set, source, manifest_layer: None, active_offset: LayerOffset::IDENTITY };
-        self.set = Some(Standing { resolved, filling: filling.clone(), plain });
-        self.lent = None;
-        self.in_a_row = 0;
-        out.word("ok");
+        Ok(set)
     }
 
-    fn explicit(&mut self, e: &Explicit, out: &mut Line) -> Answered {
+    /// The set stands in the place of the one before, whose retimings go with it.
+    fn install(&mut self, set: Prepared) {
+        self.set = Some(set);
+        self.lent = None;
+        self.in_a_row = 0;
+    }
+
+    /// An acceptance: the two in a row.
+    fn accept(&mut self, fields: &Fields, out: &mut Line) -> Answered {
+        let set = self.examine(fields)?;
+        self.install(set);
+        self.slots.installed(None);
+        out.word("ok");
+        Ok(())
+    }
+
+    fn examine_into(&mut self, slot: usize, fields: &Fields, out: &mut Line) -> Answered {
+        let set = self.examine(fields)?;
+        self.slots.put(slot, set);
+        out.word("ok");
+        Ok(())
+    }
+
+    fn install_from(&mut self, slot: usize, out: &mut Line) -> Answered {
+        match self.slots.hand_out(slot, &mut self.counts.installed) {
+            Some(set) => {
+                self.install(set);
+                out.word("ok");
+            }
+            None => _ = out.word("empty"),
+        }
+        Ok(())
+    }
+
+    fn prepared(&mut self, slot: usize, out: &mut Line) -> Answered {
+        match self.slots.get(slot) {
+            Some(set) => set.write(out),
+            None => _ = out.word("empty"),
+        }
+        Ok(())
+    }
+
+    fn examine_explicit(&mut self, e: &Explicit) -> Result<Prepared, Refusal> {
         let number = numbers::explicit(e);
         // The Rust pairs its lists itself, so unlike lengths can't be put to it; limits and marks it does not know.
         if matches!(number, Err(1)) {
-            return number;
+            return Err(1);
         }
         let parsed = reach::parse_set(&explicit_dictionary(e));
         match (number, parsed) {
-            (Ok(()), Some(set)) => {
-                self.install(set, &e.filling, plain::explicit(e), out);
-                Ok(())
-            }
+            (Ok(()), Some(set)) => Ok(Prepared::new(set, &e.filling, plain::explicit(e))),
             (Ok(()), None) => {
                 self.differs("explicit", "no set", "accepted");
                 Err(0)
@@ -247,7 +251,7 @@ impl Desk {
         }
     }
 
-    fn template(&mut self, t: &Template, out: &mut Line) -> Answered {
+    fn examine_template(&mut self, t: &Template) -> Result<Prepared, Refusal> {
         self.check_runs(&t.bytes);
         if let Err(number) = numbers::template(t) {
             // 8 is judged before the Rust is asked: on a t that does not move it never ends.
@@ -271,8 +275,7 @@ impl Desk {
         number?;
         numbers::default_mark(&t.filling)?;
         let set = parsed.expect("no two starts and no three knots are equal");
-        self.install(set, &t.filling, plain::template(t), out);
-        Ok(())
+        Ok(Prepared::new(set, &t.filling, plain::template(t)))
     }
 
     /// The Rust reads a template exactly where its runs are such as the document wants, their widths apart.
@@ -299,13 +302,12 @@ impl Desk {
         set.filling.blocks = before;
         set.plain = plain::retime(&set.plain, offset, scale);
         self.lent = None;
+        self.slots.retimed();
         self.in_a_row += 1;
-        self.chains[0] += u64::from(self.in_a_row == 2);
-        self.chains[1] += u64::from(self.in_a_row == 3);
+        self.counts.chains[0] += u64::from(self.in_a_row == 2);
+        self.counts.chains[1] += u64::from(self.in_a_row == 3);
         if self.check {
-            let bits = |blocks: &[f64]| blocks.iter().map(|block| block.to_bits()).collect::<Vec<_>>();
-            let rust = (bits_of(&set.resolved.set.active, &set.resolved.set.times), bits(&set.blocks()));
-            let text = (plain_bits(&set.plain), bits(&set.plain.filling.blocks));
+            let (rust, text) = (set.rust_bits(), set.document_bits());
             self.compare("retimed set", rust, text);
         }
         out.word("ok");
@@ -313,18 +315,7 @@ impl Desk {
     }
 
     fn dump(&mut self, out: &mut Line) -> Answered {
-        let standing = self.set.as_ref().ok_or(20u32)?;
-        let set = &standing.resolved.set;
-        out.word("set").number(set.asset_paths.len() as u64);
-        out.word("starts").number(set.active.len() as u64);
-        for &(time, clip) in &set.active {
-            out.double(time).number(clip as u64);
-        }
-        out.word("knots").number(set.times.len() as u64);
-        for knot in &set.times {
-            out.double(knot.x).double(knot.y);
-        }
-        out.word("bl").doubles(&standing.blocks());
+        self.set.as_ref().ok_or(20u32)?.write(out);
         Ok(())
     }
 
@@ -462,7 +453,7 @@ impl Desk {
         let window = if plain.starts.len() > 1 { plain.knots.len() + 1 } else { 1 };
         let rust_work = candidates.len() * (plain.knots.len() + 200 + longest * window);
         if rust_work > 20_000_000 {
-            self.tracks[1] += 1;
+            self.counts.tracks[1] += 1;
             let track = track::walk(&candidates, |t| read.value(t));
             if self.check {
                 self.spot_check(&track);
@@ -470,7 +461,7 @@ impl Desk {
             }
             return track;
         }
-        self.tracks[0] += 1;
+        self.counts.tracks[0] += 1;
         let rust = track::walk(&candidates, |t| self.rust_value(t));
         if self.probing && candidates.len() <= 30 {
             let mut near = candidates.clone();
@@ -487,8 +478,8 @@ impl Desk {
 
     fn count_zeros(&mut self, track: &Track, candidates: &[i64], read: &Read<'_>) {
         let zero = plain::number(0.0);
-        self.zeros[0] += u64::from(track.head == zero || track.changes.iter().any(|change| change.1 == zero));
-        self.zeros[1] += track::turned_zeros(candidates, |t| read.value(t)) as u64;
+        self.counts.zeros[0] += u64::from(track.head == zero || track.changes.iter().any(|change| change.1 == zero));
+        self.counts.zeros[1] += track::turned_zeros(candidates, |t| read.value(t)) as u64;
     }
 
     /// The track against the Rust's value at every double within 2,000 places of these, and at doubles from all over: read
@@ -509,7 +500,7 @@ impl Desk {
             let last = track.changes.iter().rev().find(|c| c.0 <= t);
             let held = last.map_or(track.head, |c| c.1);
             let rust = self.rust_value(t);
-            self.probed += 1;
+            self.counts.probed += 1;
             if !rust.alike(held) {
                 self.differs(&format!("track at {t:e}"), rust, held);
             }

@@ -21,28 +21,26 @@ mod figures;
 mod numbers;
 mod patterns;
 mod plain;
+mod prepared;
 mod random;
 mod random_cases;
 mod sample;
 mod short_cases;
+mod slot_cases;
 mod text;
 mod track;
 mod writer;
 
 use std::io::{self, BufRead, Write};
 
-use desk::Desk;
+use desk::{Counts, Desk};
 use text::{Line, Words};
 use writer::Writer;
 
-/// What a run has to tell: differences between Rust and document, tracks by either's values, zeros in them, and sets that
-/// were retimed again.
+/// What a run has to tell: differences between Rust and document, and what was counted.
 struct Told {
     differences: usize,
-    tracks: [u64; 2],
-    zeros: [u64; 2],
-    chains: [u64; 2],
-    probed: u64,
+    counts: Counts,
 }
 
 /// Answers the case text of `input`. With `check`, tells on standard error where Rust and document differ.
@@ -85,7 +83,19 @@ fn answer(
         line.clear();
     }
     output.flush()?;
-    Ok(Told { differences, tracks: desk.tracks, zeros: desk.zeros, chains: desk.chains, probed: desk.probed })
+    Ok(Told { differences, counts: desk.counts })
+}
+
+/// What a check counted, on standard error.
+fn tell(counts: &Counts) {
+    let Counts { tracks, zeros, chains, installed, .. } = counts;
+    eprintln!("{} tracks by the Rust's values, {} by the document's", tracks[0], tracks[1]);
+    eprintln!("{} of them write a value zero; {} times a zero's sign alone changes", zeros[0], zeros[1]);
+    eprintln!("{} sets retimed twice or more often, {} three times or more", chains[0], chains[1]);
+    eprintln!(
+        "{} prepared sets installed, {} of them prepared before another was installed, {} again after a retiming",
+        installed[0], installed[1], installed[2]
+    );
 }
 
 const USAGE: &str =
@@ -109,16 +119,14 @@ fn main() -> io::Result<()> {
         [] => answer(&mut input, &mut output, false, false, false).map(drop),
         ["timed"] => answer(&mut input, &mut output, false, true, false).map(drop),
         ["check"] => {
-            let Told { differences, tracks, zeros, chains, .. } = answer(&mut input, &mut output, true, false, false)?;
-            eprintln!("{} tracks by the Rust's values, {} by the document's", tracks[0], tracks[1]);
-            eprintln!("{} of them write a value zero; {} times a zero's sign alone changes", zeros[0], zeros[1]);
-            eprintln!("{} sets retimed twice or more often, {} three times or more", chains[0], chains[1]);
+            let Told { differences, counts } = answer(&mut input, &mut output, true, false, false)?;
+            tell(&counts);
             eprintln!("{differences} differences between Rust and document");
             std::process::exit((differences > 0).into());
         }
         ["probe"] => {
-            let Told { differences, tracks, probed, .. } = answer(&mut input, &mut io::sink(), false, false, true)?;
-            println!("{} tracks, {probed} doubles probed, {differences} differing", tracks[0]);
+            let Told { differences, counts } = answer(&mut input, &mut io::sink(), false, false, true)?;
+            println!("{} tracks, {} doubles probed, {differences} differing", counts.tracks[0], counts.probed);
             std::process::exit((differences > 0).into());
         }
         ["gen", seed, replies] => {

@@ -1,12 +1,13 @@
 //! Cases from a seed: sets of every shape with questions at special times, damaged copies of good calls, lists around
 //! each limit, names and lists to normalise, bit patterns in the total order.
 
-use crate::calls::{Call, Explicit, Filling, NAME_ROOM, ROOM, Samples, Template};
+use crate::calls::{Call, Explicit, Fields, Filling, NAME_ROOM, ROOM, Samples, Template};
 use crate::doubles::{FAR, at, listed, place};
 use crate::numbers;
 use crate::patterns;
 use crate::plain::{self, Read, Set};
 use crate::random::{Random, Scale};
+use crate::slot_cases;
 use crate::track;
 use crate::writer::{self, Writer};
 
@@ -15,13 +16,17 @@ pub fn write(seed: u64, replies: u64, out: &mut Writer<'_>) {
     let mut random = Random::new(seed);
     // Drawn apart, so that a seed's other calls are the same where these are left out.
     let (mut apart, mut spelled) = (Random::new(!seed), Random::new(!seed >> 1));
-    let mut placed = Random::new(seed.reverse_bits());
+    let (mut placed, mut prepared) = (Random::new(seed.reverse_bits()), Random::new(!seed.reverse_bits()));
     let with_decimals = writer::wanted("DECIMALS");
     let mut number = 0;
     while out.replies < replies {
         number += 1;
         out.call(&Call::Case(format!("r{seed}-{number}")));
-        case(&mut random, out);
+        if prepared.chance(12) {
+            slot_cases::case(&mut prepared, out);
+        } else {
+            case(&mut random, out);
+        }
         if apart.chance(10) {
             clip_times(&mut apart, out);
         }
@@ -34,19 +39,19 @@ pub fn write(seed: u64, replies: u64, out: &mut Writer<'_>) {
     }
 }
 
-fn case(random: &mut Random, out: &mut Writer<'_>) {
+pub fn case(random: &mut Random, out: &mut Writer<'_>) {
     match random.below(100) {
         0..52 => {
             let set = explicit_set(random, 6, 9);
-            asked_set(random, out, Call::Explicit(set));
+            asked_set(random, out, Fields::Explicit(set));
         }
         52..62 => {
             let set = missing_set(random);
-            asked_set(random, out, Call::Explicit(set));
+            asked_set(random, out, Fields::Explicit(set));
         }
         62..74 => {
             let set = template_set(random);
-            asked_set(random, out, Call::Template(set));
+            asked_set(random, out, Fields::Template(set));
         }
         74..84 => damaged(random, out),
         84..90 => names(random, out),
@@ -56,7 +61,7 @@ fn case(random: &mut Random, out: &mut Writer<'_>) {
         98 => spelled_badly(random, out),
         _ => {
             let set = explicit_set(random, 40, 60);
-            asked_set(random, out, Call::Explicit(set));
+            asked_set(random, out, Fields::Explicit(set));
         }
     }
 }
@@ -129,7 +134,7 @@ fn knots(random: &mut Random, scale: Scale, most: usize) -> Vec<(f64, f64)> {
     list
 }
 
-fn explicit_set(random: &mut Random, most_starts: usize, most_knots: usize) -> Explicit {
+pub fn explicit_set(random: &mut Random, most_starts: usize, most_knots: usize) -> Explicit {
     let scale = Scale::any(random);
     let count = match random.below(10) {
         0 => 0,
@@ -172,7 +177,7 @@ fn explicit_set(random: &mut Random, most_starts: usize, most_knots: usize) -> E
 }
 
 /// Several starts, flag on, clips mostly empty, some blocks.
-fn missing_set(random: &mut Random) -> Explicit {
+pub fn missing_set(random: &mut Random) -> Explicit {
     let mut set = explicit_set(random, 6, 4);
     let scale = if random.chance(50) { Scale::Whole } else { Scale::Tenths };
     let wanted = random.between(2, 6);
@@ -200,7 +205,7 @@ fn pattern(random: &mut Random) -> Vec<u8> {
     bytes
 }
 
-fn template_set(random: &mut Random) -> Template {
+pub fn template_set(random: &mut Random) -> Template {
     let start = match random.below(6) {
         0 => random.edge(),
         1 => (random.unit() - 0.5) * 1e9,
@@ -272,7 +277,7 @@ fn clip_samples(random: &mut Random, set: &Set, scale: Scale, most: usize) -> Ve
     ascending(times)
 }
 
-fn samples(random: &mut Random, set: &Set, most: usize) -> Samples {
+pub fn samples(random: &mut Random, set: &Set, most: usize) -> Samples {
     let scale = match set.knots.first() {
         Some(knot) if random.chance(30) => Scale::Close(knot.1),
         _ => Scale::any(random),
@@ -347,7 +352,7 @@ fn slots(random: &mut Random, count: usize) -> u64 {
     }
 }
 
-fn ask(random: &mut Random, out: &mut Writer<'_>, set: &Set, samples: Option<&Samples>, count: usize) {
+pub fn ask(random: &mut Random, out: &mut Writer<'_>, set: &Set, samples: Option<&Samples>, count: usize) {
     let special = special_times(set, samples);
     for _ in 0..count {
         let t = question_time(random, &special);
@@ -378,17 +383,16 @@ fn ask(random: &mut Random, out: &mut Writer<'_>, set: &Set, samples: Option<&Sa
     }
 }
 
-/// The set that an acceptance makes, if no number refuses it.
-fn accepted(call: &Call) -> Option<Set> {
-    match call {
-        Call::Explicit(e) => numbers::explicit(e).ok().map(|()| plain::explicit(e)),
-        Call::Template(t) => {
+/// The set that these fields make, if no number refuses it.
+pub fn accepted(fields: &Fields) -> Option<Set> {
+    match fields {
+        Fields::Explicit(e) => numbers::explicit(e).ok().map(|()| plain::explicit(e)),
+        Fields::Template(t) => {
             numbers::template(t).ok()?;
             let set = plain::template(t);
             moved_numbers(&set).ok()?;
             numbers::default_mark(&t.filling).ok().map(|()| set)
         }
-        _ => None,
     }
 }
 
@@ -399,7 +403,7 @@ fn moved_numbers(set: &Set) -> Result<(), numbers::Refusal> {
 }
 
 /// An offset and a scale, some of which no set takes.
-fn retiming(random: &mut Random, set: &Set) -> (f64, f64) {
+pub fn retiming(random: &mut Random, set: &Set) -> (f64, f64) {
     // Zeros of both signs: the moved list is ascending as numbers and perhaps not in the total order.
     if random.chance(4) {
         return (random.pick(&[0.0, -0.0]), random.pick(&[0.0, -0.0]));
@@ -466,7 +470,7 @@ fn together(random: &mut Random, set: &Set) -> Vec<(f64, f64)> {
 }
 
 /// Asks for one retiming, and moves the set where no number refuses it.
-fn retime(random: &mut Random, out: &mut Writer<'_>, set: &mut Set, (offset, scale): (f64, f64)) {
+pub fn retime(random: &mut Random, out: &mut Writer<'_>, set: &mut Set, (offset, scale): (f64, f64)) {
     out.call(&Call::Retime(offset, scale));
     if random.chance(15) {
         out.call(&Call::Dump);
@@ -480,7 +484,7 @@ fn retime(random: &mut Random, out: &mut Writer<'_>, set: &mut Set, (offset, sca
 }
 
 /// Retimes one to five times, each time what the one before left, and asks between them where samples are lent.
-fn retimed(random: &mut Random, out: &mut Writer<'_>, set: &mut Set, lent: Option<&Samples>) {
+pub fn retimed(random: &mut Random, out: &mut Writer<'_>, set: &mut Set, lent: Option<&Samples>) {
     let count = random.pick(&[1, 2, 2, 2, 3, 3, 4, 5]);
     let mut next: Vec<(f64, f64)> = Vec::new();
     for left in (0..count).rev() {
@@ -500,16 +504,20 @@ fn retimed(random: &mut Random, out: &mut Writer<'_>, set: &mut Set, lent: Optio
     out.call(&Call::Dump);
 }
 
+/// The most samples of a clip: questions work on every sample and every segment of a window.
+pub fn most_samples(random: &mut Random, set: &Set) -> usize {
+    if set.knots.len() * set.starts.len() > 500 { 4 } else { random.pick(&[4, 8, 8, 30]) }
+}
+
 /// Accepts the set, retimes it perhaps, lends samples and asks.
-fn asked_set(random: &mut Random, out: &mut Writer<'_>, acceptance: Call) {
-    out.call(&acceptance);
-    let set = accepted(&acceptance);
+fn asked_set(random: &mut Random, out: &mut Writer<'_>, fields: Fields) {
+    out.call(&fields.acceptance());
+    let set = accepted(&fields);
     if set.is_none() || random.chance(30) {
         out.call(&Call::Dump);
     }
     let Some(mut set) = set else { return };
-    // Questions work on every sample and every segment of a window.
-    let most = if set.knots.len() * set.starts.len() > 500 { 4 } else { random.pick(&[4, 8, 8, 30]) };
+    let most = most_samples(random, &set);
     if random.chance(40) {
         retimed(random, out, &mut set, None);
     }
@@ -632,18 +640,17 @@ fn damage_template(random: &mut Random, t: &mut Template) {
     }
 }
 
-/// Keeps a call within what any program that reads case text can hold.
-fn hold(call: &mut Call) {
-    let (filling, bytes) = match call {
-        Call::Explicit(e) => {
+/// Keeps a set's fields within what any program that reads case text can hold.
+fn hold(fields: &mut Fields) {
+    let (filling, bytes) = match fields {
+        Fields::Explicit(e) => {
             e.start_times.truncate(300);
             e.start_clips.truncate(300);
             e.knot_x.truncate(600);
             e.knot_y.truncate(600);
             (&mut e.filling, None)
         }
-        Call::Template(t) => (&mut t.filling, Some(&mut t.bytes)),
-        _ => return,
+        Fields::Template(t) => (&mut t.filling, Some(&mut t.bytes)),
     };
     filling.blocks.truncate(300);
     if let Some(bytes) = bytes {
@@ -690,31 +697,35 @@ fn damage_samples(random: &mut Random, s: &mut Samples) {
     }
 }
 
+/// Fields with some damage, which most often no longer make a set.
+pub fn damaged_fields(random: &mut Random) -> Fields {
+    let mut fields = match random.chance(65) {
+        true => Fields::Explicit(explicit_set(random, 4, 5)),
+        false => Fields::Template(template_set(random)),
+    };
+    for _ in 0..random.pick(&[1, 1, 2, 3]) {
+        match &mut fields {
+            Fields::Explicit(e) => damage_explicit(random, e),
+            Fields::Template(t) => damage_template(random, t),
+        }
+    }
+    hold(&mut fields);
+    fields
+}
+
 fn damaged(random: &mut Random, out: &mut Writer<'_>) {
     // A set stands, so that a refused call can be seen to leave it.
-    let base = explicit_set(random, 4, 5);
-    let base = Call::Explicit(base);
-    out.call(&base);
+    let base = Fields::Explicit(explicit_set(random, 4, 5));
+    out.call(&base.acceptance());
     let Some(mut set) = accepted(&base) else { return };
     if random.chance(20) {
         retimed(random, out, &mut set, None);
     }
     for _ in 0..random.between(1, 3) {
-        let mut call = match random.chance(65) {
-            true => Call::Explicit(explicit_set(random, 4, 5)),
-            false => Call::Template(template_set(random)),
-        };
-        for _ in 0..random.pick(&[1, 1, 2, 3]) {
-            match &mut call {
-                Call::Explicit(e) => damage_explicit(random, e),
-                Call::Template(t) => damage_template(random, t),
-                _ => {}
-            }
-        }
-        hold(&mut call);
-        out.call(&call);
+        let fields = damaged_fields(random);
+        out.call(&fields.acceptance());
         out.call(&Call::Dump);
-        set = accepted(&call).unwrap_or(set);
+        set = accepted(&fields).unwrap_or(set);
     }
     for _ in 0..random.between(1, 3) {
         let mut lent = samples(random, &set, 4);
@@ -891,10 +902,10 @@ fn long_lists(random: &mut Random, out: &mut Writer<'_>) {
         random.shuffle(&mut e.start_times);
         random.shuffle(&mut e.knot_x);
     }
-    let call = Call::Explicit(e);
-    out.call(&call);
+    let fields = Fields::Explicit(e);
+    out.call(&fields.acceptance());
     out.call(&Call::Dump);
-    let Some(mut set) = accepted(&call) else { return };
+    let Some(mut set) = accepted(&fields) else { return };
     if random.chance(30) {
         retimed(random, out, &mut set, None);
     }
@@ -948,9 +959,9 @@ fn out_of_order(random: &mut Random, out: &mut Writer<'_>) {
     for _ in 0..random.between(5, 15) {
         match random.below(6) {
             0 => {
-                let call = Call::Explicit(explicit_set(random, 3, 3));
-                out.call(&call);
-                set = accepted(&call).unwrap_or(set);
+                let fields = Fields::Explicit(explicit_set(random, 3, 3));
+                out.call(&fields.acceptance());
+                set = accepted(&fields).unwrap_or(set);
             }
             1 => {
                 let moving = retiming(random, &set);

@@ -11,10 +11,13 @@ use crate::{figures, random_cases, short_cases};
 /// Cases longer than this are left out of the generated ones.
 const LONGEST: usize = 3000;
 
-const SETS: [&str; 11] = [
+const SETS: [&str; 14] = [
     "case",
     "explicit",
     "template",
+    "examine",
+    "prepared",
+    "install",
     "retime",
     "dump",
     "active",
@@ -55,6 +58,8 @@ fn shows(call: &str, reply: &str) -> String {
 fn shows_after(call: &str, reply: &str, retimings: usize) -> String {
     match word(call) {
         "retime" => format!("{} {reply}", retimings.min(4)),
+        // Of each slot.
+        "prepared" | "install" => format!("{} {call} {}", retimings.min(2), word(reply)),
         word => format!("{} {word}", retimings.min(2)),
     }
 }
@@ -141,7 +146,7 @@ fn all_shown(case: &str) -> BTreeSet<String> {
         shown.extend([shows(call, reply), shows_after(call, reply, retimings)]);
         retimings = match (word(call), reply) {
             ("retime", "ok") => retimings + 1,
-            ("explicit" | "template", "ok") => 0,
+            ("explicit" | "template" | "install", "ok") => 0,
             _ => retimings,
         };
     }

@@ -1,13 +1,13 @@
 //! Short sets and short lists, all of them: each family is counted through, so that a part (every n-th) can be asked for.
 
-use crate::calls::{Call, Explicit, Filling, NAME_ROOM, ROOM, Samples, Template};
+use crate::calls::{Call, Explicit, Fields, Filling, NAME_ROOM, ROOM, Samples, Template};
 use crate::doubles::{FAR, at, place};
 use crate::patterns::telling;
 use crate::writer::Writer;
 
 type Family = (&'static str, fn() -> usize, fn(usize, &mut Writer<'_>));
 
-const FAMILIES: [Family; 11] = [
+const FAMILIES: [Family; 12] = [
     ("mapping", mapping_size, mapping),
     ("missing", missing_size, missing),
     ("lists", lists_size, lists),
@@ -19,6 +19,7 @@ const FAMILIES: [Family; 11] = [
     ("twice", twice_size, twice),
     ("zeros", zeros_size, zeros),
     ("keys", keys_size, keys),
+    ("slots", slots_size, slots),
 ];
 
 /// Writes every `of`-th case, beginning with `part`.
@@ -426,5 +427,57 @@ fn keys_size() -> usize {
 fn keys(index: usize, out: &mut Writer<'_>) {
     for other in telling() {
         out.call(&Call::KeyCompare(telling()[index], other));
+    }
+}
+
+// Prepared sets, one without starts and a template's: up to three calls of nine on a fresh case; and of the seven that may
+// change something four, after both sets were examined, from then on each into the other's slot. All sets have two clips, so
+// that the samples lent at first are theirs, and defaults of their own.
+
+const SLOT_CALLS: usize = 9;
+const CHANGING: usize = 7;
+
+fn slots_size() -> usize {
+    sequences(SLOT_CALLS, 3) + CHANGING.pow(4)
+}
+
+/// A call on desk and slots, the first set examined going into that slot, the second into the other of 0 and 1.
+fn slot_call(kind: usize, first: usize) -> Call {
+    let set = |start_times: &[f64], mark, value| Explicit {
+        clips: 2,
+        start_times: start_times.to_vec(),
+        start_clips: vec![1.0; start_times.len()],
+        knot_x: vec![0.0],
+        knot_y: vec![1.0],
+        filling: Filling { blocks: vec![1.0], mark, value, flag: true },
+    };
+    let filling = Filling { mark: 0, value: 7.0, ..NO_FILLING };
+    let template = Template { bytes: b"#".to_vec(), start: 0.0, end: 1.0, stride: 1.0, offset: None, filling };
+    match kind {
+        0 => Call::Examine(first, Fields::Explicit(set(&[], 0, 5.0))),
+        1 => Call::Examine(1 - first, Fields::Template(template)),
+        2 => Call::Examine(0, Fields::Explicit(set(&[0.0, -0.0], 0, 9.0))),
+        3 => Call::Install(0),
+        4 => Call::Install(1),
+        5 => Call::Retime(1.0, -2.0),
+        6 => Call::Explicit(set(&[0.0, 2.0], 2, 0.0)),
+        7 => Call::Dump,
+        _ => Call::Prepared(0),
+    }
+}
+
+fn slots(index: usize, out: &mut Writer<'_>) {
+    out.call(&Call::Samples(Samples { ends: vec![1, 1], times: vec![0.0], values: vec![1.0], marks: vec![0] }));
+    match index.checked_sub(sequences(SLOT_CALLS, 3)) {
+        None => Choices(index).sequence(SLOT_CALLS, 3).into_iter().for_each(|kind| out.call(&slot_call(kind, 0))),
+        Some(index) => {
+            let mut choices = Choices(index);
+            out.call(&slot_call(0, 0));
+            out.call(&slot_call(1, 0));
+            (0..4).for_each(|_| out.call(&slot_call(choices.below(CHANGING), 1)));
+        }
+    }
+    for call in [Call::Dump, Call::Prepared(0), Call::Value(1.5)] {
+        out.call(&call);
     }
 }

@@ -13,6 +13,8 @@ and every change, at the very double where the value changes.
     >>> track.read(30)
     Blocked()
 
+`examine` judges a set without a resolver and gives it as a `Prepared` one, so that it can be shown before `Resolver.install` puts it in place of another.
+
 Values are doubles and held, never interpolated; one attribute at a time. docs/VALUE-CLIPS.md of the repository says what every call answers.
 A *start* is an entry of OpenUSD's `active`, a *knot* an entry of `times`, a *block* is no value: nothing is drawn.
 
@@ -30,11 +32,12 @@ from ._library import (
     MAX_TEMPLATE_BYTES,
     MAX_TIME,
 )
-from ._resolver import Resolver, Samples, StageSample, StandingSet
+from ._resolver import Resolver, Samples, StageSample
+from ._set import Prepared, StandingSet, examine, examine_template
 from ._track import Track
 from ._without_set import environment_is_exact, name, normalize, template_clip_times, total_key
 
-__version__ = "0.4.0"
+__version__ = "0.5.0"
 
 __all__ = [
     "Absent",
@@ -48,6 +51,7 @@ __all__ = [
     "MAX_STARTS",
     "MAX_TEMPLATE_BYTES",
     "MAX_TIME",
+    "Prepared",
     "Refused",
     "Resolver",
     "Samples",
@@ -57,6 +61,8 @@ __all__ = [
     "Track",
     "Value",
     "environment_is_exact",
+    "examine",
+    "examine_template",
     "name",
     "normalize",
     "template_clip_times",

@@ -50,6 +50,34 @@ class Shape(Structure):
     _fields_ = [("stands", c_bool), ("clips", c_uint64), ("counts", Counts), ("manifest", Manifest)]
 
 
+class Start(Structure):
+    _fields_ = [("time", c_double), ("clip", c_uint64)]
+
+
+class Knot(Structure):
+    _fields_ = [("x", c_double), ("y", c_double)]
+
+
+class Starts(Structure):
+    _fields_ = [("items", Start * MAX_STARTS), ("count", c_size_t)]
+
+
+class Knots(Structure):
+    _fields_ = [("items", Knot * MAX_KNOTS), ("count", c_size_t)]
+
+
+class Blocks(Structure):
+    _fields_ = [("items", c_double * MAX_BLOCKS), ("count", c_size_t)]
+
+
+class Prepared(Structure):
+    _fields_ = [("clips", c_uint64), ("active", Starts), ("knots", Knots), ("blocks", Blocks), ("fallback", Default), ("interpolate", c_bool)]
+
+
+class Examined(Structure):
+    _fields_ = [("number", c_uint8), ("set", Prepared)]
+
+
 class Settled(Structure):
     _fields_ = [("number", c_uint8), ("shape", Shape)]
 
@@ -93,6 +121,9 @@ _CALLS = {
     "tavitrozy_lent_fresh": (Shape, []),
     "tavitrozy_lent_accept": (Settled, [*_SET, c_uint64, *(_DOUBLES * 5), Default, c_bool]),
     "tavitrozy_lent_accept_template": (Settled, [*_SET, *_BYTES, TemplateTimes, c_bool, *_DOUBLES, Default, c_bool]),
+    "tavitrozy_examine": (Examined, [c_uint64, *(_DOUBLES * 5), Default, c_bool]),
+    "tavitrozy_examine_template": (Examined, [*_BYTES, TemplateTimes, c_bool, *_DOUBLES, Default, c_bool]),
+    "tavitrozy_lent_install": (Shape, [*_SET, Prepared]),
     "tavitrozy_lent_retime": (Settled, [*_SET, LayerOffset]),
     "tavitrozy_lent_active_clip": (ClipReply, [*_SET, StageTime]),
     "tavitrozy_lent_clip_time": (TimeReply, [*_SET, StageTime]),

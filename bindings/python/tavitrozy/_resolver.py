@@ -1,18 +1,16 @@
 """The resolver: one clip set, and every question about it."""
 
 import ctypes
-import operator
 from array import array
 from ctypes import c_double, c_uint64
+from functools import partial
 from typing import Any, Callable, Iterable, List, NamedTuple, Optional, Tuple, Union
 
 from . import _library, _lists
-from ._answers import Absent, Answer, Blocked, State, Value, accepted, answer_of
+from ._answers import Answer, State, accepted, answer_of
 from ._library import calls
+from ._set import Default, Prepared, StandingSet, shown, with_explicit, with_template
 from ._track import Track
-from ._without_set import pattern_bytes, template_times
-
-Default = Union[None, float, Value, Blocked, Absent]
 
 
 class Samples:
@@ -54,33 +52,6 @@ class StageSample(NamedTuple):
 
     time: float
     blocked: bool
-
-
-class StandingSet(NamedTuple):
-    """The set that stands: sorted, expanded, and moved by every retiming since it was accepted. A copy."""
-
-    clips: int
-    starts: Tuple[Tuple[float, int], ...]
-    knots: Tuple[Tuple[float, float], ...]
-    blocks: Tuple[float, ...]
-    default: Union[None, Value, Blocked]
-    interpolate: bool
-
-
-def _default(given: Default) -> _library.Default:
-    """The manifest default, as it is handed over: None (or Absent()) is none."""
-    if given is None or isinstance(given, Absent):
-        return _library.Default(_library.NONE, 0.0)
-    if isinstance(given, Blocked):
-        return _library.Default(_library.BLOCK, 0.0)
-    return _library.Default(_library.VALUE, given.value if isinstance(given, Value) else given)
-
-
-def _count(clips: int) -> int:
-    count = operator.index(clips)
-    if not 0 <= count < 2**64:
-        raise OverflowError("a clip count is a whole number from 0 on")
-    return count
 
 
 class _Held(NamedTuple):
@@ -149,8 +120,7 @@ class Resolver:
         default: the manifest default, which holds where the active clip has no samples: a number, `Blocked()` or None.
         interpolate: OpenUSD's interpolateMissingClipValues. It interpolates nothing: a missing value is looked for at other starts.
         """
-        lists = (*_lists.pairs(starts), *_lists.pairs(knots), _lists.numbers("d", blocks))
-        self._settle(calls.tavitrozy_lent_accept, _count(clips), *_lists.lent(*lists), _default(default), bool(interpolate))
+        with_explicit(partial(self._settle, calls.tavitrozy_lent_accept), clips, starts, knots, blocks, default, interpolate)
 
     def accept_template(
         self,
@@ -167,11 +137,17 @@ class Resolver:
 
         pattern: a file name with one or two runs of #, as f.###.usd. offset: None, or how far each start lies from its clip time. The rest as in `accept`.
         """
-        text, given = pattern_bytes(pattern), _lists.numbers("d", blocks)
-        times = template_times(start, end, stride, offset)
-        self._settle(
-            calls.tavitrozy_lent_accept_template, *_lists.lent(text), *times, *_lists.lent(given), _default(default), bool(interpolate)
-        )
+        numbers = (start, end, stride, offset)
+        with_template(partial(self._settle, calls.tavitrozy_lent_accept_template), pattern, numbers, blocks, default, interpolate)
+
+    def install(self, prepared: Prepared) -> None:
+        """Puts a prepared set in place of the one that stood. Never refused.
+
+        It may be installed at any time after it was examined (`tavitrozy.examine`), as often as wanted and in as many resolvers: it brings the set back as
+        it was prepared. `accept` is the examining and, where that is not refused, the installing.
+        """
+        new = _nothing()
+        self._held = new._replace(shape=calls.tavitrozy_lent_install(*new.lent, prepared._set))
 
     def retime(self, offset: float = 0.0, scale: float = 1.0) -> None:
         """Moves all stage times t of the set to offset + scale * t. Refused with 20, 2, 4 or 5.
@@ -188,16 +164,9 @@ class Resolver:
         shape, starts, numbers, xs, ys, blocks = self._held
         if not shape.stands:
             return None
-        counts, fallback = shape.counts, shape.manifest.fallback
-        default = answer_of(fallback.mark, fallback.value)
-        return StandingSet(
-            shape.clips,
-            tuple(zip(starts[: counts.starts], numbers[: counts.starts])),
-            tuple(zip(xs[: counts.knots], ys[: counts.knots])),
-            tuple(blocks[: counts.blocks]),
-            None if isinstance(default, Absent) else default,
-            shape.manifest.interpolate,
-        )
+        counts, manifest = shape.counts, shape.manifest
+        pairs = zip(starts[: counts.starts], numbers[: counts.starts]), zip(xs[: counts.knots], ys[: counts.knots])
+        return shown(shape.clips, *pairs, blocks[: counts.blocks], manifest.fallback, manifest.interpolate)
 
     def active_clip(self, stage_time: float) -> Optional[int]:
         """The number of the clip that is active at a stage time; None in a set without starts. Refused with 20 or 10."""

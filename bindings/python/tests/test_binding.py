@@ -181,6 +181,29 @@ class Copies(unittest.TestCase):
             pickle.dumps(r)
         self.assertEqual(pickle.loads(pickle.dumps(Refused(5))).number, 5)
 
+    def test_a_prepared_set_is_a_value(self):
+        explicit = tavitrozy.examine(3, [(5, 2), (-0.0, 1)], [(3, -0.0), (2, 1)], [9, 4], -0.0, True)
+        template = tavitrozy.examine_template("f.#.usd", 1, 256, 1, 0.5, default=Blocked())
+        r = Resolver()
+        for prepared in (explicit, template):
+            for how in (copy.copy, copy.deepcopy, lambda made: pickle.loads(pickle.dumps(made))):
+                self.assertEqual(repr(how(prepared).set), repr(prepared.set))
+            r.install(pickle.loads(pickle.dumps(prepared)))
+            self.assertEqual(repr(r.standing), repr(prepared.set))
+        self.assertEqual(repr(explicit), "<Prepared: 3 clips, 2 starts, 2 knots>")
+        with self.assertRaises(AttributeError):
+            explicit.set = template.set
+        with self.assertRaises(TypeError):
+            tavitrozy.Prepared()
+        for wrong in (None, explicit.set, r):
+            with self.assertRaises((AttributeError, ctypes.ArgumentError)):
+                r.install(wrong)
+        self.assertEqual(repr(r.standing), repr(template.set))
+
+    def test_the_size_of_a_prepared_set(self):
+        """It goes by value, so its struct must be the header's to the byte."""
+        self.assertEqual((ctypes.sizeof(_library.Prepared), ctypes.sizeof(_library.Examined)), (14392, 14400))
+
 
 class Threads(unittest.TestCase):
     def test_any_threads(self):

@@ -151,10 +151,98 @@ class Figures(unittest.TestCase):
                 tavitrozy.total_key(bits)
 
     def test_docstrings(self):
-        for module in (tavitrozy, tavitrozy._without_set):
+        for module in (tavitrozy, tavitrozy._set, tavitrozy._without_set):
             self.assertEqual(doctest.testmod(module).failed, 0)
         for name in tavitrozy.__all__:
             self.assertTrue(name.isupper() or name == "Answer" or getattr(tavitrozy, name).__doc__, name)
+
+
+class Examined(unittest.TestCase):
+    """Sets that are examined and then installed: what an acceptance does, in two steps."""
+
+    refused = Figures.refused
+
+    def standing(self):
+        """A set of which every field must give way."""
+        return resolver(4, [(-3, 0), (-2, 1), (-1, 2), (0, 3), (7, 3)], [(1, 1), (2, 2), (3, 3)], blocks=[5, 6], default=8, interpolate=True)
+
+    def both_ways(self, accept, examine, *fields, **more):
+        """The same stands whether the set is accepted, or examined and installed; a zero's sign too."""
+        first, second = self.standing(), self.standing()
+        accept(first, *fields, **more)
+        prepared = examine(*fields, **more)
+        second.install(prepared)
+        self.assertEqual([repr(second.standing), repr(prepared.set)], [repr(first.standing)] * 2)
+        return prepared.set
+
+    def both_refused(self, number, accept, examine, *fields, **more):
+        desk = self.standing()
+        self.refused(number, accept, desk, *fields, **more)
+        self.refused(number, examine, *fields, **more)
+        self.assertEqual(desk.standing, self.standing().standing)
+
+    def test_explicit(self):
+        ways = Resolver.accept, tavitrozy.examine
+        shown = self.both_ways(*ways, 3, [(10, 1), (-0.0, 0), (5, 2)], [(20, 7), (10, 9), (0, 8), (10, -0.0)], [10, 0, 10], -0.0, True)
+        self.assertEqual(shown.starts, ((0.0, 0), (5.0, 2), (10.0, 1)))
+        self.assertEqual(shown.knots, ((0.0, 8.0), (10.0, 9.0), (10.0, 0.0), (20.0, 7.0)))
+        self.assertEqual(shown[3:], ((10.0, 0.0, 10.0), Value(0.0), True))
+        self.assertEqual(self.both_ways(*ways, 0, []), (0, (), (), (), None, False))
+        self.assertEqual(self.both_ways(*ways, 2, [(0, 1)], default=Blocked()).default, Blocked())
+        pairs = [(i, i % 256) for i in range(512)]
+        self.assertEqual(len(self.both_ways(*ways, 256, pairs[:256], pairs, range(256)).knots), 512)
+
+    def test_template(self):
+        ways = Resolver.accept_template, tavitrozy.examine_template
+        shown = self.both_ways(*ways, "f.###.usd", 1, 3, 1, 0.5, blocks=[2, 1], default=4)
+        self.assertEqual((shown.clips, shown.starts, len(shown.knots)), (3, ((1.5, 0), (2.5, 1), (3.5, 2)), 5))
+        self.assertEqual(self.both_ways(*ways, b"f.###.usd", 1, 256, 1, interpolate=True).clips, 256)
+
+    def test_refused(self):
+        ways = Resolver.accept, tavitrozy.examine
+        self.both_refused(1, *ways, 257, [(math.nan, 0.5)])
+        self.both_refused(2, *ways, 1, [(1, 0.5)], blocks=[math.inf])
+        self.both_refused(3, *ways, 1, [(1, 0), (1, 1)])
+        self.both_refused(4, *ways, 1, [(1, 0), (1, 0)], [(5, 1), (5, 2), (5, 3)])
+        self.both_refused(5, *ways, 1, [(1, 0)], [(5, 1), (5, 2), (5, 3)])
+        ways = Resolver.accept_template, tavitrozy.examine_template
+        self.both_refused(1, *ways, "f" * 256, math.nan, 3, 1)
+        self.both_refused(2, *ways, "f", math.nan, 3, 0)
+        self.both_refused(7, *ways, "f", 1, 3, 0)
+        self.both_refused(6, *ways, "f", 1, 257, 1)
+        self.both_refused(8, *ways, "f.#", 1, 257, 1)
+        self.both_refused(2, *ways, "f.#", 0, 0, 2199023255553, 2199023255552)
+        self.both_refused(4, *ways, "f.#", 900000000000, 900000000000.001, 0.0001)
+        self.both_refused(5, *ways, "f.#", 1, 1, 1, 0)
+
+    def test_installed_again(self):
+        prepared = tavitrozy.examine(2, [(0, 0), (10, 1)], blocks=[10])
+        first, second = self.standing(), Resolver()
+        for r in (first, second):
+            r.install(prepared)
+        first.retime(100, -2)
+        self.assertEqual(first.standing.starts, ((80.0, 1), (100.0, 0)))
+        self.assertEqual([second.standing, prepared.set], [prepared.set, (2, ((0.0, 0), (10.0, 1)), (), (10.0,), None, False)])
+        first.install(prepared)
+        self.assertEqual(first.standing, second.standing)
+
+    def test_nothing_stays(self):
+        desk, none = self.standing(), Samples.of_clips([[]])
+        desk.install(tavitrozy.examine(1, [(0, 0)]))
+        self.assertEqual((desk.value(none, 2), desk.clip_time(100)), (Blocked(), 100.0))
+        desk.install(tavitrozy.examine(0, []))
+        self.assertEqual((desk.value(Samples.of_clips([]), 2), desk.active_clip(2)), (Absent(), None))
+
+    def test_preview(self):
+        desk, preview = resolver(2, [(0, 0), (10, 1)]), Resolver()
+        samples = Samples.of_clips([[(0, 1.0)], [(0, 2.0), (24, None)]])
+        drawn = desk.bake(samples)
+        prepared = tavitrozy.examine(2, [(0, 0), (5, 1)])
+        preview.install(prepared)
+        shown = preview.bake(samples)
+        self.assertEqual((list(shown), desk.bake(samples)), ([(5.0, Value(2.0)), (24.0, Blocked())], drawn))
+        desk.install(prepared)
+        self.assertEqual(desk.bake(samples), shown)
 
 
 class Refusals(unittest.TestCase):

@@ -1,5 +1,5 @@
 //! The library's C symbols, as tavitrozy.h has them. A resolver is a small record by value, its shape, and five lists
-//! that the caller holds; nothing else crosses the boundary by value.
+//! that the caller holds. A prepared set, large as it is, crosses the boundary by value.
 
 use crate::limit;
 
@@ -48,6 +48,61 @@ pub struct Lists {
 pub struct Settled {
     pub number: u8,
     pub shape: Shape,
+}
+
+#[repr(C)]
+#[derive(Clone, Copy)]
+pub struct Start {
+    pub time: f64,
+    pub clip: u64,
+}
+
+#[repr(C)]
+#[derive(Clone, Copy)]
+pub struct Knot {
+    pub x: f64,
+    pub y: f64,
+}
+
+#[repr(C)]
+#[derive(Clone)]
+pub struct Starts {
+    pub items: [Start; limit::STARTS],
+    pub count: usize,
+}
+
+#[repr(C)]
+#[derive(Clone)]
+pub struct Knots {
+    pub items: [Knot; limit::KNOTS],
+    pub count: usize,
+}
+
+#[repr(C)]
+#[derive(Clone)]
+pub struct Blocks {
+    pub items: [f64; limit::BLOCKS],
+    pub count: usize,
+}
+
+#[repr(C)]
+#[derive(Clone)]
+pub struct Prepared {
+    pub clips: u64,
+    pub active: Starts,
+    pub knots: Knots,
+    pub blocks: Blocks,
+    pub fallback: Marked,
+    pub interpolate: bool,
+}
+
+// As the header says: by value, a wrong size would be read as something else.
+const _: () = assert!(size_of::<Prepared>() == 14_392);
+
+#[repr(C)]
+pub struct Examined {
+    pub number: u8,
+    pub set: Prepared,
 }
 
 #[repr(C)]
@@ -141,6 +196,20 @@ unsafe extern "C" {
         pattern: *const u8, pattern_len: usize, template: TemplateTimes, has_offset: bool,
         block_times: *const f64, block_times_len: usize, fallback: Marked, interpolate: bool,
     ) -> Settled;
+    pub fn tavitrozy_examine(
+        clips: u64, starts: *const f64, starts_len: usize, numbers: *const f64, numbers_len: usize,
+        xs: *const f64, xs_len: usize, ys: *const f64, ys_len: usize, blocks: *const f64, blocks_len: usize,
+        fallback: Marked, interpolate: bool,
+    ) -> Examined;
+    pub fn tavitrozy_examine_template(
+        pattern: *const u8, pattern_len: usize, template: TemplateTimes, has_offset: bool,
+        blocks: *const f64, blocks_len: usize, fallback: Marked, interpolate: bool,
+    ) -> Examined;
+    pub fn tavitrozy_lent_install(
+        shape: Shape, starts: *mut f64, starts_len: usize, numbers: *mut u64, numbers_len: usize,
+        xs: *mut f64, xs_len: usize, ys: *mut f64, ys_len: usize, blocks: *mut f64, blocks_len: usize,
+        set: Prepared,
+    ) -> Shape;
     pub fn tavitrozy_lent_retime(
         shape: Shape, starts: *mut f64, starts_len: usize, numbers: *mut u64, numbers_len: usize,
         xs: *mut f64, xs_len: usize, ys: *mut f64, ys_len: usize, blocks: *mut f64, blocks_len: usize,

@@ -3,6 +3,7 @@
 mod environment;
 mod ffi;
 mod names;
+mod prepared;
 mod refusal;
 mod resolver;
 mod samples;
@@ -13,6 +14,7 @@ mod track;
 
 pub use environment::environment_is_exact;
 pub use names::{name, name_into, template_clip_times, template_clip_times_into};
+pub use prepared::{Prepared, examine, examine_marked, examine_template, examine_template_marked};
 pub use refusal::Refusal;
 pub use resolver::{Resolver, State, Supplied};
 pub use samples::{SampleLists, Samples, normalize, normalize_into};

@@ -1,7 +1,7 @@
 //! The resolver: the one set that stands, and every question about it.
 
 use crate::set::StandingSet;
-use crate::{Answer, ClipTime, Explicit, LayerOffset, Refusal, Samples, StageTime, Template, Track};
+use crate::{Answer, ClipTime, Explicit, LayerOffset, Prepared, Refusal, Samples, StageTime, Template, Track};
 use crate::{ffi, limit, mark};
 
 /// Holds one clip set, or none, and answers questions about it. A refused call leaves it as it was.
@@ -85,13 +85,13 @@ macro_rules! asked_with {
     }};
 }
 
-/// A call that may change what stands: the lists are lent for writing, and the shape that comes back is kept if the call is
-/// accepted.
-macro_rules! settled {
+/// A call that writes: the shape, its lists lent for writing, and the rest.
+macro_rules! written {
     ($call:ident, $resolver:expr $(, $rest:expr)*) => {{
         let lists = &mut *$resolver.lists;
-        // SAFETY: as where a call asks; the lists are borrowed for writing, so no list of the arguments overlaps them.
-        let settled = unsafe {
+        // SAFETY: as where a call asks; the lists are borrowed for writing, so no list of the arguments overlaps them. A
+        // prepared set among them is one that examining handed back, since nothing else writes it.
+        unsafe {
             ffi::$call(
                 $resolver.shape,
                 lists.starts.as_mut_ptr(),
@@ -106,7 +106,14 @@ macro_rules! settled {
                 lists.blocks.len()
                 $(, $rest)*
             )
-        };
+        }
+    }};
+}
+
+/// A call that may change what stands: the shape that comes back is kept if the call is accepted.
+macro_rules! settled {
+    ($call:ident, $resolver:expr $(, $rest:expr)*) => {{
+        let settled = written!($call, $resolver $(, $rest)*);
         Refusal::checked(settled.number, settled.shape).map(|shape| $resolver.shape = shape)
     }};
 }
@@ -184,6 +191,15 @@ impl Resolver {
         )
     }
 
+    /// Puts a prepared set in place of the one that stood. It is never refused.
+    ///
+    /// A set may be installed at any time after it was [examined](crate::examine), several times and in several resolvers:
+    /// it stays as it was prepared, whatever retimings the resolver sees. [`accept`](Self::accept) is the examining and, if
+    /// it is not refused, the installing.
+    pub fn install(&mut self, set: &Prepared) {
+        self.shape = written!(tavitrozy_lent_install, self, set.lent());
+    }
+
     /// Moves the starts, knots and block times of the standing set.
     ///
     /// It may be repeated, as where one layer is referenced through another: each retiming moves what the one before left,
@@ -200,7 +216,12 @@ impl Resolver {
     /// The set that stands, if one does.
     #[must_use]
     pub fn standing(&self) -> Option<StandingSet<'_>> {
-        self.shape.stands.then(|| StandingSet::of(&self.shape, &self.lists))
+        self.shape.stands.then(|| self.held())
+    }
+
+    /// The set that stands, where one does.
+    pub(crate) fn held(&self) -> StandingSet<'_> {
+        StandingSet::of(&self.shape, &self.lists)
     }
 
     /// The number of the active clip: that of the last start at or before the stage time, of the first start if none is;

@@ -1,4 +1,4 @@
-//! What a set is made of, and the view of the one that stands.
+//! What a set is made of, and the view of one that stands or is prepared.
 
 use crate::ffi;
 use crate::{ClipTime, StageTime, mark};
@@ -220,7 +220,8 @@ impl LayerOffset {
     }
 }
 
-/// The set that stands, as a resolver holds it: sorted, and moved by every retiming since it was accepted.
+/// A set as a resolver holds it: sorted, and moved by every retiming since it was accepted or installed. Of a
+/// [`Prepared`](crate::Prepared) set it is what stands once that is installed.
 #[derive(Clone, Copy, Debug)]
 pub struct StandingSet<'a> {
     /// How many clips there are.

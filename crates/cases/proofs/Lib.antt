@@ -2,5 +2,6 @@
 mod Changing
 mod Decimals
 mod Digits
+mod Slotting
 mod Rounded
 mod Words

@@ -4,5 +4,6 @@ pub mod Decimals
 pub mod Doubles
 pub mod Lending
 pub mod Numbers
+pub mod Prepared
 pub mod Sessions
 pub mod Text

@@ -25,11 +25,11 @@ pub(crate) struct Changed {
 }
 
 // The manifest's part of a set: `def MARK VALUE flag 0/1`.
-struct Filling {
-    at: usize,
-    mark: u8,
-    value: f64,
-    interpolate: bool,
+pub(crate) struct Filling {
+    pub at: usize,
+    pub mark: u8,
+    pub value: f64,
+    pub interpolate: bool,
 }
 
 fn read_filling(line: &[u8], at: usize) -> Filling {
@@ -67,18 +67,18 @@ fn unreadable(kind: Change, resolver: Resolver) -> Changed
 }
 
 // An explicit set's fields: how much of each list was read, and the rest.
-struct ExplicitRead {
-    at: usize,
-    clips: u64,
-    starts: usize,
-    numbers: usize,
-    xs: usize,
-    ys: usize,
-    blocks: usize,
-    filling: Filling,
+pub(crate) struct ExplicitRead {
+    pub at: usize,
+    pub clips: u64,
+    pub starts: usize,
+    pub numbers: usize,
+    pub xs: usize,
+    pub ys: usize,
+    pub blocks: usize,
+    pub filling: Filling,
 }
 
-fn read_explicit(
+pub(crate) fn read_explicit(
     line: &[u8],
     at: usize,
     starts: &mut [f64],
@@ -164,16 +164,21 @@ fn explicit(line: &[u8], at: usize, resolver: Resolver) -> Changed
 }
 
 // A template set's fields: how much of each list was read, and the rest.
-struct TemplateRead {
-    at: usize,
-    bytes: usize,
-    times: TemplateTimes,
-    offset: bool,
-    blocks: usize,
-    filling: Filling,
+pub(crate) struct TemplateRead {
+    pub at: usize,
+    pub bytes: usize,
+    pub times: TemplateTimes,
+    pub offset: bool,
+    pub blocks: usize,
+    pub filling: Filling,
 }
 
-fn read_template(line: &[u8], at: usize, bytes: &mut [u8], blocks: &mut [f64]) -> TemplateRead {
+pub(crate) fn read_template(
+    line: &[u8],
+    at: usize,
+    bytes: &mut [u8],
+    blocks: &mut [f64],
+) -> TemplateRead {
     let b = crate::text::read_bytes(line, at, bytes);
     let numbers = template_numbers::read(line, b.at);
     let bl = crate::text::doubles_after(line, numbers.at, b"bl", blocks);

@@ -21,6 +21,9 @@ Answers the case text of standard input on standard output: one line a call, one
   name BYTES T [SLOTS]
   normalize t L v L m N m.. [SLOTS]
   cliptimes START END STRIDE OFFSET [SLOTS]         a template's clip times
+  examine SLOT explicit .. | examine SLOT template ..   into a slot, 0 to 3, with the arguments of the acceptance
+  prepared SLOT                                     the slot's set
+  install SLOT                                      the slot's set on the resolver
   keycmp BITS BITS                                  before, same or after in the total order
 ",
     );

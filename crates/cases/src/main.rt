@@ -1,7 +1,9 @@
 // Answers the case text of standard input on standard output.
 mod changes;
+mod examinings;
 mod help;
 mod lines;
+mod prepared;
 mod questions;
 mod setless;
 mod text;
@@ -11,6 +13,7 @@ use crate::lines::calls;
 use crate::lines::calls::Call;
 use crate::lines::calls::Change;
 use crate::lines::calls::Question;
+use crate::lines::calls::Slotted;
 use crate::lines::input;
 use crate::lines::input::Buffer;
 use crate::lines::lent;
@@ -20,18 +23,21 @@ use crate::lines::limits::LINE;
 use crate::lines::limits::SAMPLES;
 use crate::lines::reply;
 use crate::lines::told;
+use crate::prepared::Slots;
 use crate::text::NOWHERE;
 use resolver::Resolver;
 ghost use mathlib.Core.Path.{_≡_};
 ghost use lib.ListN.{length};
 ghost use Rattle.resolver.specs.State.{Made};
+ghost use Rattle.cases.specs.Prepared.{MadeSlots, Looking, Installing};
 ghost use Rattle.cases.specs.Sessions.{Stays};
 
-// What a line leaves for the next one: how much of the output buffer is in use, how many lines there were, the samples that
-// are lent, and what stands.
+// What a line leaves for the next one: how much of the output buffer is in use, how many lines there were, whether the last
+// one began a case, the samples that are lent, and what stands.
 struct Session {
     pub full: usize,
     pub lines: u64,
+    pub begun: bool,
     pub lent: Lent,
     pub resolver: Resolver,
 }
@@ -45,9 +51,16 @@ fn begin(full: usize, lines: u64) -> Session
     Session {
         full,
         lines,
+        begun: true,
         lent: none,
         resolver: fresh,
     }
+}
+
+// A session and the slots, after a line with a slot.
+struct Held {
+    pub session: Session,
+    pub slots: Slots,
 }
 
 // The same after more output.
@@ -60,6 +73,7 @@ fn written(session: Session, full: usize) -> Session
     Session {
         full,
         lines: session.lines,
+        begun: session.begun,
         lent,
         resolver,
     }
@@ -75,6 +89,7 @@ fn counted(session: Session) -> Session
     Session {
         full: session.full,
         lines: std::num::wrapping_add_u64(session.lines, 1),
+        begun: false,
         lent,
         resolver,
     }
@@ -91,21 +106,24 @@ fn serve(
     marks: &mut [u8],
 ) {
     let mut session = begin(0, 0);
+    let mut slots = prepared::none();
     let mut buffer = input::empty();
     let mut turns = u64::MAX;
     while turns > 0 {
         turns -= 1;
         let to = input::line_end(input, buffer);
         if to < buffer.end {
-            session = run(
-                input::line(input, buffer, to),
-                session,
-                ends,
-                times,
-                values,
-                marks,
-                out,
-            );
+            let line = input::line(input, buffer, to);
+            if calls::has_slot(line) {
+                let held = with_slot(line, session, slots, out);
+                session = held.session;
+                slots = held.slots;
+            } else {
+                session = run(line, session, ends, times, values, marks, out);
+                if session.begun {
+                    slots = prepared::none();
+                }
+            }
             buffer = input::past(buffer, to);
         } else {
             session = flushed(session, out);
@@ -207,6 +225,7 @@ fn lend(
     Session {
         full: session.full,
         lines: session.lines,
+        begun: session.begun,
         lent,
         resolver,
     }
@@ -260,9 +279,96 @@ fn change(kind: Change, line: &[u8], at: usize, session: Session, out: &mut [u8]
     Session {
         full: n,
         lines: session.lines,
+        begun: session.begun,
         lent,
         resolver,
     }
+}
+
+// Answers a line with a slot.
+fn with_slot(line: &[u8], session: Session, slots: Slots, out: &mut [u8]) -> Held
+    requires { ⌜ Made (session .resolver) ⌝ ∗ ⌜ MadeSlots slots ⌝ }
+    ensures { λ r. ⌜ Made (r .session .resolver) ⌝ ∗ ⌜ MadeSlots (r .slots) ⌝ }
+{
+    let session = counted(session);
+    match calls::slotted_of(line) {
+        Slotted::Examine(at) => examine(line, at, session, slots, out),
+        Slotted::Prepared(at) => tell(line, at, session, slots, out),
+        Slotted::Install(at) => install(line, at, session, slots, out),
+        Slotted::Nothing => Held { session, slots },
+    }
+}
+
+// The prepared set is put in the slot, unless it is refused; then the slot is as it was.
+fn examine(line: &[u8], at: usize, session: Session, slots: Slots, out: &mut [u8]) -> Held
+    requires { ⌜ Made (session .resolver) ⌝ ∗ ⌜ MadeSlots slots ⌝ }
+    ensures { λ r. ⌜ Looking session r ⌝ }
+{
+    let looked = examinings::examine(line, at);
+    if !looked.readable {
+        let session = unreadable(line, session, out);
+        return Held { session, slots };
+    }
+    let number = looked.prepared.number;
+    let n = reply::changed(number, out, session.full);
+    let session = written(session, n);
+    if number != 0 {
+        return Held { session, slots };
+    }
+    let slots = prepared::put(slots, looked.slot, looked.prepared.set);
+    Held { session, slots }
+}
+
+// The set of a slot.
+fn tell(line: &[u8], at: usize, session: Session, slots: Slots, out: &mut [u8]) -> Held
+    requires { ⌜ Made (session .resolver) ⌝ ∗ ⌜ MadeSlots slots ⌝ }
+    ensures { λ r. ⌜ Looking session r ⌝ }
+{
+    let slot = prepared::slot_at(line, at);
+    if !crate::text::is_end(line, slot.at) {
+        let session = unreadable(line, session, out);
+        return Held { session, slots };
+    }
+    let i = slot.value as usize;
+    if !prepared::holds(slots, i) {
+        let n = reply::empty(out, session.full);
+        let session = written(session, n);
+        return Held { session, slots };
+    }
+    let set = standing::installed(prepared::get(slots, i));
+    let n = crate::questions::dump::put_set(set, out, session.full);
+    let session = written(session, n);
+    Held { session, slots }
+}
+
+// The set of a slot takes the place of the standing one; where the slot has none, no call is made.
+fn install(line: &[u8], at: usize, session: Session, slots: Slots, out: &mut [u8]) -> Held
+    requires { ⌜ Made (session .resolver) ⌝ ∗ ⌜ MadeSlots slots ⌝ }
+    ensures { λ r. ⌜ Installing session slots r ⌝ }
+{
+    let slot = prepared::slot_at(line, at);
+    if !crate::text::is_end(line, slot.at) {
+        let session = unreadable(line, session, out);
+        return Held { session, slots };
+    }
+    let i = slot.value as usize;
+    if !prepared::holds(slots, i) {
+        let n = reply::empty(out, session.full);
+        let session = written(session, n);
+        return Held { session, slots };
+    }
+    let set = prepared::get(slots, i);
+    let n = reply::changed(0, out, session.full);
+    let lent = session.lent;
+    let resolver = session.resolver.install(set);
+    let session = Session {
+        full: n,
+        lines: session.lines,
+        begun: session.begun,
+        lent,
+        resolver,
+    };
+    Held { session, slots }
 }
 
 // Room for a line of half a million bytes.

@@ -1,6 +1,6 @@
 // The questions of the case text, and which function answers each. One whose line could not be read replies nothing and hands
 // back `NOWHERE`.
-mod dump;
+pub(crate) mod dump;
 mod sampled;
 mod timing;
 

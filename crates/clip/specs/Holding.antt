@@ -1,16 +1,16 @@
 -- A clip set in arrays with counts, as the set of the definitions. Assumes nothing.
 use Prim.Native.Nat.{ℕ, _≤_}
 use mathlib.Core.Path.{_≡_}
-use mathlib.Core.Bool.{Bool, false}
-use mathlib.Core.List.{List, [], map}
+use mathlib.Core.Bool.{Bool}
+use mathlib.Core.List.{List, map}
 use lib.ListN.{length, take}
 use lib.Ieee.{Float}
-use Rattle.gf.specs.Doubles.{0·0}
 use Rattle.definitions.specs.declared.Knot.{Knot}
 use Rattle.definitions.specs.declared.Start.{Start}
 use Rattle.definitions.specs.declared.Default.{Default}
 use Rattle.definitions.specs.declared.Missing.{Missing}
 use Rattle.definitions.specs.ClipSet as Definitions
+use Rattle.definitions.specs.Examining.{emptySet}
 use Rattle.definitions.specs.ClipSet.{maxActive, maxKnots, maxBlocks}
 use Rattle.clip.specs.declared.storage.Active.{Active}
 use Rattle.clip.specs.declared.storage.Knots.{Knots}
@@ -59,11 +59,6 @@ pub record ArraysWhole (s : ClipSet) : Type 0 where
   pub active : Room maxActive (s .active .items) (s .active .count)
   pub knots : Room maxKnots (s .knots .items) (s .knots .count)
   pub blocks : Room maxBlocks (s .blocks .items) (s .blocks .count)
-
--- The set beside a refusal where none was handed in: "A refusal carries its number alone", so it has no clip and nothing listed, no default ("2 none",
--- its slot 0.0 as that "of an absent head") and the flag off. "No starts is legal: the value is then absent and the active clip none."
-abbrev pub emptySet : Definitions.ClipSet
-emptySet = record { clips = 0; active = []; knots = []; blocks = []; default = record { mark = 2; value = 0·0 }; interpolateMissing = false }
 
 pub record EmptySet (r : ClipSet) : Type 0 where
   pub is : clipSetOf r ≡ emptySet

@@ -10,8 +10,9 @@ use Rattle.definitions.specs.Lists.{_if_else_}
 use Rattle.definitions.specs.Doubles.{twoEqual, threeEqual}
 use Rattle.definitions.specs.ClipSet as Definitions
 use Rattle.definitions.specs.ClipSet.{maxActive, maxKnots, maxBlocks, anyUnstorable, beyondLimits, equalStarts, equalKnots, badDefaultMark}
+use Rattle.definitions.specs.Calls.{accepted}
 use Rattle.clip.specs.declared.Prepared.{Prepared}
-use Rattle.clip.specs.Preparing.{HandsBack, preparedSet}
+use Rattle.clip.specs.Preparing.{HandsBack}
 
 -- lists that pair, within their limits
 pub record Fitting (times : List Float) (numbers : List ℕ) (xs ys blocks : List Float) : Type 0 where
@@ -40,4 +41,4 @@ listsNumber times xs blocks default =
 
 -- the set, or the one that is kept where its own numbers refuse it
 abbrev pub Stores : (kept made : Definitions.ClipSet) → Prepared → Type 0
-Stores kept made r = HandsBack (settleNumber made) (preparedSet (settleNumber made) kept made) r
+Stores kept made r = HandsBack (settleNumber made) (accepted (settleNumber made) kept made) r

@@ -12,8 +12,8 @@ use definitions::refusal;
 use storage::Active;
 use storage::Blocks;
 use storage::Knots;
-ghost use Rattle.laws.specs.set.Sound.{Sound};
-ghost use Rattle.clip.specs.Holding.{ArraysWhole, clipSetOf, EmptySet};
+ghost use Rattle.clip.specs.Holding.{EmptySet};
+ghost use Rattle.clip.specs.Preparing.{MadeSet};
 ghost use Rattle.clip.specs.Retiming.{Retimes};
 
 #[repr(C)]
@@ -58,7 +58,7 @@ pub fn empty() -> ClipSet
 impl ClipSet {
     // The set with its stage times moved, or, where 2, 4 or 5 refuses that, as it went in.
     pub fn retime_stage_times(self, o: LayerOffset) -> Prepared
-        requires { ⌜ ArraysWhole self ⌝ ∗ ⌜ Sound (clipSetOf self) ⌝ }
+        requires { ⌜ MadeSet self ⌝ }
         ensures { λ r. ⌜ Retimes self o r ⌝ }
     {
         if !retiming::is_finite(o) {

@@ -11,7 +11,7 @@ ghost use lib.ListN.{length};
 ghost use Rattle.definitions.specs.ClipSet.{nanDefault, sortActive, sortKnots};
 ghost use Rattle.definitions.specs.Moments.{was, after};
 ghost use Rattle.laws.specs.cell.Lent.{activeOf, knotsOf, setOf};
-ghost use Rattle.clip.specs.Holding.{emptySet};
+ghost use Rattle.definitions.specs.Examining.{emptySet};
 ghost use Rattle.clip.specs.Preparing.{HandsBack};
 ghost use Rattle.clip.specs.Storing.{Fitting, Stores, listsNumber};
 

@@ -15,17 +15,15 @@ use Rattle.definitions.specs.Value.{valueInSet}
 use Rattle.definitions.specs.Track.{TrackOf}
 use Rattle.definitions.specs.WholeList.{runFrom}
 use Rattle.definitions.specs.Calls.{Call, explicit, retime, bake, step, after}
+use Rattle.definitions.specs.Examining.{emptySet}
 use Rattle.definitions.specs.Retimings.{installed, inTurn, remember, history}
 use Rattle.definitions.proofs.FigureTracks.{falling-track}
 use Rattle.definitions.proofs.Sets.{n, frac, -n, holds, fails, sameTimes, fields, missing, two, one, jumping, falling, falling-samples, by, xs, ys, noRoom}
 
 -- ---- how a figure is written
 
-abbrev noClips : ClipSet
-noClips = record { clips = 0; active = []; knots = []; blocks = []; default = record { mark = 2; value = n 0 }; interpolateMissing = false }
-
 abbrev setOf : Model → ClipSet
-setOf noSet = noClips
+setOf noSet = emptySet
 setOf (standing set) = set
 
 -- what stands after an acceptance and the retimings

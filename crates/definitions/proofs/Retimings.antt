@@ -11,7 +11,7 @@ use Rattle.definitions.specs.Samples.{Samples}
 use Rattle.definitions.specs.Questions.{Reply}
 use Rattle.definitions.specs.Track.{Outputs}
 use Rattle.definitions.specs.WholeList.{runFrom, LeftBy, begin, next}
-use Rattle.definitions.specs.Calls.{Call, explicit, template, retime, bake, accepted, step, Baked, WholeList}
+use Rattle.definitions.specs.Calls.{Call, explicit, template, install, retime, bake, accepted, step, Baked, WholeList}
 use Rattle.definitions.specs.Retimings.{History, nothing, installed, inTurn, remember, standsBy, FollowsRetimings, WholeListRetimed}
 
 -- a choice by the number, seen through a function
@@ -24,6 +24,7 @@ step-follows : (h : History) (c : Call) → step (standsBy h) c ≡ standsBy (re
 unfolding step remember retimeNumber inTurn
 step-follows h (explicit f) = accepted-through standsBy (explicitNumber f) h (installed (explicitSet f) [])
 step-follows h (template f) = accepted-through standsBy (templateNumber f) h (installed (templateSet f) [])
+step-follows h (install set) = refl
 step-follows nothing (retime o) = refl
 step-follows (installed set earlier) (retime o) = accepted-through (λ (l : List LayerOffset). standing (inTurn l set)) (movedNumber (inTurn earlier set) o) earlier (o ∷ earlier)
 step-follows h (bake s o) = refl

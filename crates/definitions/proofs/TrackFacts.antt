@@ -25,7 +25,7 @@ use Rattle.definitions.specs.Reading.{changesOfLists, readByHalves}
 use Rattle.definitions.specs.Questions.{Reply}
 use Rattle.definitions.specs.WholeList.{GivesTrack}
 use Rattle.definitions.specs.Calls.{Call, Baked, bakedOf, after, Due, WholeList}
-use Rattle.definitions.specs.TrackFacts.{changeCount, handedTrack, ReadsBack, GivesValues, DueValues, WholeListValues}
+use Rattle.definitions.specs.TrackFacts.{OneTrack, changeCount, handedTrack, ReadsBack, GivesValues, DueValues, WholeListValues}
 use Rattle.definitions.proofs.Tracks.{both-i, no-nan, of-key, lowest-finite, lowest-key, key-lt, high-enough}
 use Rattle.definitions.proofs.Reading.{reads-held}
 
@@ -89,6 +89,24 @@ module _ (test : ℕ → Bool) where
       go false e js p q = q js (without p e) ∙ omega arith
       go true e [] p q = absurd (p .all-of k (omega arith) (omega arith) (subst T (sym e) tt))
       go true e (j ∷ js) p q = let l = q js (behind p (first-is p (subst T (sym e) tt))) in omega arith
+
+  -- two such lists are one
+  same : (n k : ℕ) (is js : List ℕ) → Passing n k is → Passing n k js → is ≡ js
+  same zero k [] [] p q = refl
+  same zero k (i ∷ is) js p q = let b = p .below i (inl refl) in let r = p .rising .0 in absurd (omega arith)
+  same zero k [] (j ∷ js) p q = let b = q .below j (inl refl) in let r = q .rising .0 in absurd (omega arith)
+  same (suc n) k is js p q = go (test k) refl is js p q (same n (suc k))
+    where
+      go : (b : Bool) → test k ≡ b → (is js : List ℕ) → Passing (suc n) k is → Passing (suc n) k js → ((l m : List ℕ) → Passing n (suc k) l → Passing n (suc k) m → l ≡ m) → is ≡ js
+      go false e is js p q h = h is js (without p e) (without q e)
+      go true e [] js p q h = absurd (p .all-of k (omega arith) (omega arith) (subst T (sym e) tt))
+      go true e (i ∷ is) [] p q h = absurd (q .all-of k (omega arith) (omega arith) (subst T (sym e) tt))
+      go true e (i ∷ is) (j ∷ js) p q h =
+          let first = first-is p (subst T (sym e) tt) in
+          let second = first-is q (subst T (sym e) tt) in
+          let rest = h is js (behind p first) (behind q second) in
+          let heads : i ≡ j = first ∙ sym second in
+          λ x. heads x ∷ rest x
 
 -- ---- the changes of a track, by their keys
 
@@ -167,6 +185,25 @@ module _ (v : StageTime → Answer) (track : Track) (is : TrackOf v track) where
   pub count-is : length (track .changes) ≡ changeCount v
   unfolding changeCount
   count-is = sym (mapped-long (λ (c : Change). key (c .time)) (track .changes)) ∙ counted changed (most - least) (suc least) (keysOf (track .changes)) passing
+
+  -- each change is told by its key
+  by-key : (c : Change) → IsChange v c → c ≡ changeAt v (ofKey (key (c .time)))
+  unfolding changeAt
+  by-key c i = i .written ∙ ap (λ (t : Float). changeAt v t) (ap (λ (x : Change). x .time) (i .written))
+
+  by-keys : (cs : List Change) → ((c : Change) → List·Memᴰ c cs → IsChange v c) → cs ≡ map (λ (k : ℕ). changeAt v (ofKey k)) (keysOf cs)
+  by-keys [] e = refl
+  by-keys (c ∷ cs) e =
+      let head = by-key c (e c (List·Memᴰ·head refl)) in
+      let rest = by-keys cs (λ d m. e d (List·Memᴰ·tail m)) in
+      λ x. head x ∷ rest x
+
+pub one-track : OneTrack
+one-track v a b p q =
+    let keys = same (λ (k : ℕ). differs v (ofKey k)) (most - least) (suc least) (keysOf (a .changes)) (keysOf (b .changes)) (passing v a p) (passing v b q) in
+    let changes = by-keys v a p (a .changes) (p .each) ∙ ap (map (λ (k : ℕ). changeAt v (ofKey k))) keys ∙ sym (by-keys v b q (b .changes) (q .each)) in
+    let initial = p .initial-is ∙ sym (q .initial-is) in
+    λ x. record { initial = initial x; changes = changes x }
 
 -- ---- the written lists
 

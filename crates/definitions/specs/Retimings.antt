@@ -11,7 +11,7 @@ use Rattle.definitions.specs.Value.{valueInSet}
 use Rattle.definitions.specs.Questions.{Reply}
 use Rattle.definitions.specs.Track.{Outputs}
 use Rattle.definitions.specs.WholeList.{standsAfter, WholeListOf, GivesTrack}
-use Rattle.definitions.specs.Calls.{Call, explicit, template, retime, bake, accepted, after, Baked, bakedOf}
+use Rattle.definitions.specs.Calls.{Call, explicit, template, install, retime, bake, accepted, after, Baked, bakedOf}
 
 -- the set that was installed last, and the retimings of it accepted since, the latest first
 pub data History : Type 0 where
@@ -33,6 +33,7 @@ sinceInstalled o (installed set earlier) = installed set (accepted (movedNumber 
 unfoldable pub remember : History → Call → History
 remember h (explicit f) = accepted (explicitNumber f) h (installed (explicitSet f) [])
 remember h (template f) = accepted (templateNumber f) h (installed (templateSet f) [])
+remember h (install set) = installed set []
 remember h (retime o) = sinceInstalled o h
 remember h (bake s o) = h
 

@@ -96,7 +96,7 @@ module _ (v : StageTime → Answer) where
     pub changed : T (differs (c .time))
     pub written : c ≡ changeAt (c .time)
 
-  -- It is the track of v. (There is only one, so its count is v's.)
+  -- It is the track of v: "there is one right track, to the bit"
   pub record TrackOf (track : Track) : Type 0 where
     -- "The head is the value at the lowest finite double."
     pub initial-is : track .initial ≡ writtenAt lowest

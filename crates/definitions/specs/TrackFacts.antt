@@ -12,11 +12,15 @@ use Rattle.definitions.specs.Doubles.{FiniteDouble}
 use Rattle.definitions.specs.ClipSet.{ClipSet, Model, noSet, standing}
 use Rattle.definitions.specs.Samples.{Samples, samplesNumber}
 use Rattle.definitions.specs.Value.{valueInSet}
-use Rattle.definitions.specs.Track.{alike, Track, Outputs, slots, valueAt, differs}
+use Rattle.definitions.specs.Track.{alike, Track, TrackOf, Outputs, slots, valueAt, differs}
 use Rattle.definitions.specs.Reading.{trackOfLists, readByHalves}
 use Rattle.definitions.specs.Questions.{Reply, refused, replied}
 use Rattle.definitions.specs.WholeList.{WholeListOf}
 use Rattle.definitions.specs.Calls.{Call, step, Baked}
+
+-- "there is one right track, to the bit"
+abbrev pub OneTrack : Type 0
+OneTrack = (v : StageTime → Answer) (first second : Track) → TrackOf v first → TrackOf v second → first ≡ second
 
 -- the track as the caller has it: the head and the count of the reply, and the front of each list
 abbrev pub handedTrack : Baked → Outputs → Track

@@ -20,12 +20,12 @@ use Rattle.laws.proofs.set.Sound.{sorted-times, sorted-xs}
 use Rattle.laws.proofs.set.SoundExplicit.{ExplicitFits, ExplicitLimits, explicit-limits, explicit-sound}
 use Rattle.laws.specs.cell.Lent.{start, setOf}
 use Rattle.clip.specs.declared.Prepared.{Prepared}
-use Rattle.clip.specs.Holding.{emptySet}
-use Rattle.clip.specs.Preparing.{HandsBack}
+use Rattle.definitions.specs.Examining.{explicitly, emptySet}
+use Rattle.clip.specs.Preparing.{HandsBack, Examines}
 use Rattle.clip.specs.Storing.{settleNumber, Stores}
-use Rattle.explicit.specs.Parsing.{explicitFields, anyNotClip, fieldsNumber, Parses}
+use Rattle.explicit.specs.Parsing.{explicitFields, anyNotClip, fieldsNumber}
 use Rattle.clip.proofs.Laws.{same-number, every-storable}
-use Rattle.clip.proofs.Preparing.{prepares, prepares-not, empty-sound}
+use Rattle.clip.proofs.Preparing.{prepares, prepares-not, examines, empty-sound}
 
 -- ---- fields without 1, 2 and 3
 
@@ -87,8 +87,8 @@ fields-first : (f : ExplicitFields) → (fieldsNumber f ≡ 0 → ⊥) → field
 unfolding fieldsNumber explicitNumber
 fields-first f h = same-number 1 (explicit1 f) _ _ h (λ h. same-number 2 (explicit2 f) _ _ h (λ h. same-number 3 (explicit3 f) _ _ h (λ h. absurd (h refl))))
 
-pub parse-refuses : (f : ExplicitFields) (n : ℕ) (r : Prepared) → n ≡ fieldsNumber f → (n ≡ 0 → ⊥) → HandsBack n emptySet r → Parses f r
-parse-refuses f n r e h q = prepares-not emptySet (explicitSet f) r n (explicitNumber f) (e ∙ fields-first f (λ z. h (e ∙ z))) h empty-sound q
+pub parse-refuses : (f : ExplicitFields) (n : ℕ) (r : Prepared) → n ≡ fieldsNumber f → (n ≡ 0 → ⊥) → HandsBack n emptySet r → Examines (explicitly f) r
+parse-refuses f n r e h q = examines (explicitly f) r (prepares-not emptySet (explicitSet f) r n (explicitNumber f) (e ∙ fields-first f (λ z. h (e ∙ z))) h empty-sound q)
 
-pub parse-settles : (f : ExplicitFields) (r : Prepared) → ExplicitFits f → fieldsNumber f ≡ 0 → Stores emptySet (explicitSet f) r → Parses f r
-parse-settles f r h z s = prepares emptySet (explicitSet f) r (settleNumber (explicitSet f)) (explicitNumber f) (number-is f (fields-pass f z)) empty-sound (explicit-sound f h) s
+pub parse-settles : (f : ExplicitFields) (r : Prepared) → ExplicitFits f → fieldsNumber f ≡ 0 → Stores emptySet (explicitSet f) r → Examines (explicitly f) r
+parse-settles f r h z s = examines (explicitly f) r (prepares emptySet (explicitSet f) r (settleNumber (explicitSet f)) (explicitNumber f) (number-is f (fields-pass f z)) empty-sound (explicit-sound f h) s)

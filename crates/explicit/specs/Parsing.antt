@@ -10,10 +10,7 @@ use Rattle.gf.specs.Doubles.{0·0, isWhole, truncated, isClipNumber}
 use Rattle.definitions.specs.declared.Missing.{Missing}
 use Rattle.definitions.specs.Lists.{_if_else_, any}
 use Rattle.definitions.specs.ClipSet.{maxClips, maxActive, maxKnots, maxBlocks}
-use Rattle.definitions.specs.Explicit.{ExplicitFields, explicitSet, explicit1, explicit2, explicit3, explicitNumber}
-use Rattle.clip.specs.declared.Prepared.{Prepared}
-use Rattle.clip.specs.Holding.{emptySet}
-use Rattle.clip.specs.Preparing.{Prepares}
+use Rattle.definitions.specs.Explicit.{ExplicitFields, explicit1, explicit2, explicit3}
 
 abbrev pub explicitFields : ℕ → List Float → List Float → List Float → List Float → List Float → Missing → ExplicitFields
 explicitFields clips starts numbers xs ys blocks m = record {
@@ -60,7 +57,3 @@ pub record Lent (starts xs times : List Float) (indices : List ℕ) (us vs : Lis
   pub for-indices : length indices ≡ length starts
   pub for-xs : length us ≡ length xs
   pub for-ys : length vs ≡ length xs
-
--- the set of the fields, or the empty one
-abbrev pub Parses : ExplicitFields → Prepared → Type 0
-Parses f r = Prepares (explicitNumber f) emptySet (explicitSet f) r

@@ -8,11 +8,13 @@ use definitions::Default;
 use definitions::Missing;
 use definitions::limits::KNOTS;
 use definitions::limits::STARTS;
+ghost use Rattle.definitions.specs.Examining.{explicitly};
 ghost use Rattle.definitions.specs.Moments.{was};
 ghost use Rattle.clip.specs.Holding.{manifest};
-ghost use Rattle.explicit.specs.Parsing.{explicitFields, Parses};
+ghost use Rattle.clip.specs.Preparing.{Examines};
+ghost use Rattle.explicit.specs.Parsing.{explicitFields};
 
-// The set of the fields, or the empty one, where 1, 2, 3, 4, 5 or 9 refuses it.
+// Examines the fields: their set, or the empty one, where 1, 2, 3, 4, 5 or 9 refuses them.
 pub fn parse_set(
     clips: u64,
     starts: &[f64],
@@ -23,7 +25,7 @@ pub fn parse_set(
     default: Default,
     interpolate: bool,
 ) -> Prepared
-    ensures { λ r. ⌜ Parses (explicitFields clips (was starts) (was numbers) (was xs) (was ys) (was blocks) (manifest default interpolate)) r ⌝ }
+    ensures { λ r. ⌜ Examines (explicitly (explicitFields clips (was starts) (was numbers) (was xs) (was ys) (was blocks) (manifest default interpolate))) r ⌝ }
 {
     let manifest = Missing {
         default,

@@ -9,7 +9,7 @@ ghost use Rattle.gf.specs.Doubles.{truncated};
 ghost use Rattle.definitions.specs.Explicit.{explicitSet};
 ghost use Rattle.definitions.specs.Moments.{was, after};
 ghost use Rattle.laws.specs.list.Every.{Every};
-ghost use Rattle.clip.specs.Holding.{emptySet};
+ghost use Rattle.definitions.specs.Examining.{emptySet};
 ghost use Rattle.clip.specs.Storing.{Stores};
 ghost use Rattle.explicit.specs.Parsing.{Lent, Indexed, explicitFields, fieldsNumber};
 

@@ -12,8 +12,8 @@ use lib.Ieee.{Float}
 use lib.Ieee.Scale.{finite}
 use Rattle.definitions.specs.declared.LayerOffset.{LayerOffset}
 use Rattle.definitions.specs.ClipSet.{ClipSet, Model, noSet, standing}
-use Rattle.definitions.specs.Explicit.{ExplicitFields, explicitNumber, explicitSet}
-use Rattle.definitions.specs.Template.{TemplateFields, templateNumber, templateSet}
+use Rattle.definitions.specs.Explicit.{ExplicitFields}
+use Rattle.definitions.specs.Template.{TemplateFields}
 use Rattle.definitions.specs.Retime.{movedNumber, retimeNumber, retimeStageTimes}
 use Rattle.definitions.specs.Lists.{_if_else_, _then_, writtenOver}
 use Rattle.definitions.specs.StageSamples.{StageSample, stageSampleTimes}
@@ -35,6 +35,8 @@ use Rattle.laws.proofs.cell.StageTimes.{stage-sample-times}
 use Rattle.track.specs.declared.bake.Baked.{Baked}
 use Rattle.track.specs.Bakes.{trackOf, bakeCode, BakeIs}
 use Rattle.track.proofs.Bakes.{same-standing, bakes}
+use Rattle.definitions.specs.Examining.{Fields, explicitly, byTemplate, fieldsNumber, Examined, examine, acceptance}
+use Rattle.definitions.proofs.Traces.{in-a-row}
 use Rattle.definitions.specs.Calls.{step, accepted, retimed, bakedOf, outputsAfter, Bakes, CountsChanges}
 use Rattle.laws.specs.list.Places.{Ascending}
 use Rattle.laws.specs.set.Sound.{Sound, SoundModel}
@@ -43,10 +45,9 @@ use Rattle.laws.specs.set.Accepted.{Accepted as AcceptedSamples}
 use Rattle.standing.specs.declared.questions.ActiveClip.the-variants.{Clip, NoClip}
 use Rattle.clip.specs.declared.ClipSet as clip
 use Rattle.clip.specs.declared.Prepared.{Prepared}
-use Rattle.template.specs.Expanding as expanding
-use Rattle.explicit.specs.Parsing as parsing
 use Rattle.clip.specs.Retiming as sets
-use Rattle.clip.specs.Holding.{Room, clipSetOf, emptySet, manifestOf}
+use Rattle.clip.specs.Holding.{Room, clipSetOf, manifestOf}
+use Rattle.clip.specs.Preparing.{MadeSet, Examines}
 use Rattle.clip.proofs.Preparing.{made-is}
 use Rattle.resolver.specs.declared.Resolver.{Resolver}
 use Rattle.resolver.specs.declared.Accepted.{Accepted}
@@ -56,7 +57,7 @@ use Rattle.standing.specs.Standing.{setIn, Installed, Unpacked, Packed, Asked, 
 use Rattle.sdf.specs.Counted.{counted, listed, itself}
 use Rattle.standing.specs.Lists.{timeOf, markIn, ListsTimes, ListsSamples}
 use Rattle.resolver.specs.State.{model, Made, lentState}
-use Rattle.resolver.specs.Promises.{Accepts, Expands, Retimes, BakesTrack, TellsTimes, TellsSamples, countCode, TellsChangeCount, Installable, Installs}
+use Rattle.resolver.specs.Promises.{Accepts, Expands, Retimes, BakesTrack, TellsTimes, TellsSamples, countCode, TellsChangeCount, Installs, Settles}
 
 -- ---- installing
 
@@ -72,42 +73,37 @@ accepted-same : (n m : ℕ) (before a b : Model) → n ≡ m → (n ≡ 0 → a 
 accepted-same zero m c a b e h = h refl ∙ accepted-granted m c b (sym e)
 accepted-same (suc n) m c a b e h = ap (λ (k : ℕ). accepted k c b) e
 
-pub installs-not : (d : Resolver) (p : Prepared) → Made d → (p .number ≡ 0 → ⊥) → Installs d p (record { number = p .number; resolver = d })
-installs-not d p m h = record { number = refl; kept = λ n. refl; after = accepted-refused (p .number) (model d) (standing (clipSetOf (p .set))) h; made = m }
-
-pub installs : (d : Resolver) (p : Prepared) (set : StandingSet) → Installable p → p .number ≡ 0 → Installed (p .set) set → Installs d p (record { number = 0; resolver = record { stands = true; set = set } })
-installs d p set i e q = record {
-  number = sym e;
-  kept = λ n. absurd (n refl);
-  after = ap standing (q .is) ∙ accepted-granted (p .number) (model d) (standing (clipSetOf (p .set))) e;
-  made = record { whole = q .whole; sound = subst Sound (sym (q .is)) (i .sound) };
-}
-
-pub unpacks : (d : Resolver) (p : Prepared) {c : Counts} {starts : List Float} {numbers : List ℕ} {xs ys blocks : List Float} → Installable p → p .number ≡ 0 → Unpacked (p .set) c starts numbers xs ys blocks
-    → Installs d p (record { number = 0; resolver = lentState (record { stands = true; clips = p .set .clips; counts = c; manifest = manifestOf (p .set) }) starts numbers xs ys blocks })
-unpacks d p i e u = installs d p _ i e (record { whole = u .whole; is = u .is })
-
--- ---- acceptance
-
-pub accepts : (d : Resolver) (f : ExplicitFields) (p : Prepared) (r : Accepted) → parsing.Parses f p → Installs d p r → Accepts d f r
+pub installs : (d : Resolver) (p : clip.ClipSet) (set : StandingSet) → MadeSet p → Installed p set → Installs d p (record { stands = true; set = set })
 unfolding step
-accepts d f p r q i = record {
-  number = i .number ∙ q .reply .number;
-  kept = i .kept;
-  after = i .after ∙ accepted-same (p .number) (explicitNumber f) (model d) (standing (clipSetOf (p .set))) (standing (explicitSet f)) (q .reply .number)
-      (λ e. ap standing (made-is emptySet (explicitSet f) p (explicitNumber f) q e));
-  made = i .made;
-}
+installs d p set m q = record { after = ap standing (q .is); made = record { whole = q .whole; sound = subst Sound (sym (q .is)) (m .sound) } }
 
-pub expands : (d : Resolver) (f : TemplateFields) (p : Prepared) (r : Accepted) → expanding.Expands f p → Installs d p r → Expands d f r
+pub unpacks : (d : Resolver) (p : clip.ClipSet) {c : Counts} {starts : List Float} {numbers : List ℕ} {xs ys blocks : List Float} → MadeSet p → Unpacked p c starts numbers xs ys blocks
+    → Installs d p (lentState (record { stands = true; clips = p .clips; counts = c; manifest = manifestOf p }) starts numbers xs ys blocks)
+unpacks d p m u = installs d p _ m (record { whole = u .whole; is = u .is })
+
+pub settles-not : (d : Resolver) (p : Prepared) → Made d → (p .number ≡ 0 → ⊥) → Settles d p (record { number = p .number; resolver = d })
+settles-not d p m h = record { number = refl; kept = λ n. refl; after = accepted-refused (p .number) (model d) (standing (clipSetOf (p .set))) h; made = m }
+
+pub settles : (d : Resolver) (p : Prepared) (e : Resolver) → p .number ≡ 0 → Installs d (p .set) e → Settles d p (record { number = 0; resolver = e })
 unfolding step
-expands d f p r q i = record {
-  number = i .number ∙ q .reply .number;
-  kept = i .kept;
-  after = i .after ∙ accepted-same (p .number) (templateNumber f) (model d) (standing (clipSetOf (p .set))) (standing (templateSet f)) (q .reply .number)
-      (λ e. ap standing (made-is emptySet (templateSet f) p (templateNumber f) q e));
-  made = i .made;
-}
+settles d p e z i = record { number = sym z; kept = λ n. absurd (n refl); after = i .after ∙ accepted-granted (p .number) (model d) (standing (clipSetOf (p .set))) z; made = i .made }
+
+-- ---- acceptance: examining and installing in a row
+
+module _ (d : Resolver) (f : Fields) (p : Prepared) (q : Examines f p) where
+  settled-number : (r : Accepted) → Settles d p r → r .number ≡ fieldsNumber f
+  unfolding examine
+  settled-number r i = i .number ∙ ap (λ (x : Examined). x .number) (q .reply)
+
+  settled-after : (r : Accepted) → Settles d p r → model (r .resolver) ≡ step (model d) (acceptance f)
+  unfolding step
+  settled-after r i = i .after ∙ ap (λ (x : Examined). accepted (x .number) (model d) (standing (x .set))) (q .reply) ∙ sym (in-a-row (model d) f)
+
+pub accepts : (d : Resolver) (f : ExplicitFields) (p : Prepared) (r : Accepted) → Examines (explicitly f) p → Settles d p r → Accepts d f r
+accepts d f p r q i = record { number = settled-number d (explicitly f) p q r i; kept = i .kept; after = settled-after d (explicitly f) p q r i; made = i .made }
+
+pub expands : (d : Resolver) (f : TemplateFields) (p : Prepared) (r : Accepted) → Examines (byTemplate f) p → Settles d p r → Expands d f r
+expands d f p r q i = record { number = settled-number d (byTemplate f) p q r i; kept = i .kept; after = settled-after d (byTemplate f) p q r i; made = i .made }
 
 -- ---- retiming
 
@@ -143,7 +139,7 @@ pub retimes-20 : (d : Resolver) (o : LayerOffset) → Made d → d .stands ≡ f
 unfolding retimeNumber
 retimes-20 d o m e = refused-retime d o 20 m (sym (ap (λ (x : Model). retimeNumber x o) (none-stands d e))) (λ z. omega arith)
 
-pub retimes : (d : Resolver) (o : LayerOffset) (set : clip.ClipSet) (p : Prepared) (r : Accepted) → d .stands ≡ true → Packed (setIn (d .set)) set → sets.Retimes set o p → Installs d p r → Retimes d o r
+pub retimes : (d : Resolver) (o : LayerOffset) (set : clip.ClipSet) (p : Prepared) (r : Accepted) → d .stands ≡ true → Packed (setIn (d .set)) set → sets.Retimes set o p → Settles d p r → Retimes d o r
 unfolding step retimeNumber
 retimes d o set p r e k q i =
     let n : p .number ≡ retimeNumber (model d) o = q .reply .number ∙ ap (λ (x : ClipSet). movedNumber x o) (k .is) ∙ sym (ap (λ (x : Model). retimeNumber x o) (stands-as d e)) in

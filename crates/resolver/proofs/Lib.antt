@@ -1,5 +1,6 @@
--- Laws for the proofs of the operations, and demand 3 from their promises.
+-- Laws for the proofs of the operations; demand 3, acceptance in two steps and examinings without a trace, from their promises.
 pub mod Laws
 mod WholeList
+mod Examinings
 -- The count suffices
 mod Counting

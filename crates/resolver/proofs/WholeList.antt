@@ -8,7 +8,7 @@ use Rattle.definitions.specs.ClipSet.{ClipSet, Model, noSet, standing}
 use Rattle.definitions.specs.Samples.{Samples, samplesNumber}
 use Rattle.definitions.specs.Questions.{Reply, reply}
 use Rattle.definitions.specs.Track.{Outputs, slots, bakeNumber}
-use Rattle.definitions.specs.Calls.{Call, explicit, template, retime, bake, step, Baked, bakedOf, outputsAfter, Bakes, Due}
+use Rattle.definitions.specs.Calls.{Call, explicit, template, install, retime, bake, step, Baked, bakedOf, outputsAfter, Bakes, Due}
 use Rattle.track.specs.declared.bake.Baked as track
 use Rattle.track.specs.Bakes.{bakeCode, bakedReply}
 use Rattle.track.proofs.Bakes.{code-read}
@@ -45,7 +45,7 @@ due m s o r p k set e z = (
 )
 
 -- the reply that the code stands for, read from the struct
-told : (d : Resolver) (s : Samples) (o p : Outputs) (b : track.Baked) → BakesTrack d s o b p → Bakes (model d) s o (bakedReply b) p
+pub told : (d : Resolver) (s : Samples) (o p : Outputs) (b : track.Baked) → BakesTrack d s o b p → Bakes (model d) s o (bakedReply b) p
 told d s o p b k = subst (λ (r : Reply Baked). Bakes (model d) s o r p) (sym read) (k .bakes)
   where
     read : bakedReply b ≡ k .reply
@@ -62,6 +62,7 @@ module _ (fresh : Resolver) (b : Begins fresh) where
   moves-on : (c : Call) (d e : Resolver) → Made d → Moves c d e → Follows (step (model d) c) e
   moves-on (explicit f) d e m (r, p, q) = subst (Follows (step (model d) (explicit f))) q (record { is = p m .after; made = p m .made })
   moves-on (template f) d e m (r, p, q) = subst (Follows (step (model d) (template f))) q (record { is = p m .after; made = p m .made })
+  moves-on (install set) d e m (p, k, q, i) = subst (λ (x : ClipSet). Follows (step (model d) (install x)) e) q (record { is = i m k .after; made = i m k .made })
   moves-on (retime o) d e m (r, p, q) = subst (Follows (step (model d) (retime o))) q (record { is = p m .after; made = p m .made })
   moves-on (bake s o) d e m q = unfold step in subst (Follows (model d)) q (record { is = refl; made = m })
 

@@ -19,13 +19,13 @@ use Rattle.definitions.specs.Samples.{Samples}
 use Rattle.definitions.specs.Track.{Outputs}
 use Rattle.definitions.specs.Facts.{StageSampleTimesAre}
 use Rattle.definitions.specs.Calls as calls
-use Rattle.definitions.specs.Calls.{explicit, template, retime, step, accepted}
+use Rattle.definitions.specs.Calls.{explicit, template, install, retime, step, accepted}
 use Rattle.definitions.specs.declared.ValueState.{ValueState}
-use Rattle.laws.specs.set.Sound.{Sound}
+use Rattle.clip.specs.declared.ClipSet as clip
 use Rattle.clip.specs.declared.Prepared.{Prepared}
 use Rattle.track.specs.declared.bake.Baked.{Baked}
 use Rattle.track.specs.Bakes.{bakeCode}
-use Rattle.clip.specs.Holding.{clipSetOf, ArraysWhole}
+use Rattle.clip.specs.Holding.{clipSetOf}
 use Rattle.resolver.specs.declared.Resolver.{Resolver}
 use Rattle.resolver.specs.declared.Shape.{Shape}
 use Rattle.resolver.specs.declared.Accepted.{Accepted}
@@ -68,6 +68,11 @@ pub record Expands (d : Resolver) (f : TemplateFields) (r : Accepted) : Type 0 w
   pub kept : Kept d r
   pub after : model (r .resolver) ≡ step (model d) (template f)
   pub made : Made (r .resolver)
+
+-- "No number applies": it hands back the resolver alone
+pub record Installs (d : Resolver) (set : clip.ClipSet) (e : Resolver) : Type 0 where
+  pub after : model e ≡ step (model d) (install (clipSetOf set))
+  pub made : Made e
 
 pub record Retimes (d : Resolver) (o : LayerOffset) (r : Accepted) : Type 0 where
   pub number : r .number ≡ retimeNumber (model d) o
@@ -142,14 +147,9 @@ pub record BakesTrack (d : Resolver) (s : Samples) (before : Outputs) (r : Baked
   pub bakes : calls.Bakes (model d) s before reply now
   pub code : r ≡ bakeCode reply
 
--- ---- within: a prepared set takes its place, or what stood still stands
+-- ---- within: a prepared set is installed, or what stood still stands
 
--- its arrays are whole, and it is well-formed
-pub record Installable (p : Prepared) : Type 0 where
-  pub held : ArraysWhole (p .set)
-  pub sound : Sound (clipSetOf (p .set))
-
-pub record Installs (d : Resolver) (p : Prepared) (r : Accepted) : Type 0 where
+pub record Settles (d : Resolver) (p : Prepared) (r : Accepted) : Type 0 where
   pub number : r .number ≡ p .number
   pub kept : Kept d r
   pub after : model (r .resolver) ≡ accepted (p .number) (model d) (standing (clipSetOf (p .set)))

@@ -32,6 +32,10 @@ lentState h starts numbers xs ys blocks = record {
 abbrev pub stateWas : Shape → Lent Float → Lent ℕ → Lent Float → Lent Float → Lent Float → Resolver
 stateWas h starts numbers xs ys blocks = lentState h (was starts) (was numbers) (was xs) (was ys) (was blocks)
 
--- the number, and the resolver as it is left: the shape that is handed back, and the lists
+-- as it is left: the shape that is handed back, and the lists
+abbrev pub stateLeft : Shape → Lent Float → Lent ℕ → Lent Float → Lent Float → Lent Float → Resolver
+stateLeft h starts numbers xs ys blocks = lentState h (after starts) (after numbers) (after xs) (after ys) (after blocks)
+
+-- the same with the number
 abbrev pub settledState : Settled → Lent Float → Lent ℕ → Lent Float → Lent Float → Lent Float → Accepted
-settledState r starts numbers xs ys blocks = record { number = r .number; resolver = lentState (r .shape) (after starts) (after numbers) (after xs) (after ys) (after blocks) }
+settledState r starts numbers xs ys blocks = record { number = r .number; resolver = stateLeft (r .shape) starts numbers xs ys blocks }

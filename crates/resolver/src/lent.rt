@@ -6,7 +6,7 @@ use crate::Shape;
 use crate::TimeReply;
 use crate::UntimedReply;
 use crate::ValueReply;
-use clip::Prepared;
+use clip::ClipSet;
 use definitions::Default;
 use definitions::LayerOffset;
 use definitions::Missing;
@@ -23,11 +23,12 @@ ghost use Rattle.definitions.specs.Moments.{was, after, outsWere, outsLeft};
 ghost use Rattle.definitions.specs.Questions.{refused};
 ghost use Rattle.laws.specs.cell.Lent.{samplesWere};
 ghost use Rattle.clip.specs.Holding.{manifest};
+ghost use Rattle.clip.specs.Preparing.{MadeSet};
 ghost use Rattle.explicit.specs.Parsing.{explicitFields};
 ghost use Rattle.template.specs.Expanding.{templateFields};
 ghost use Rattle.track.specs.Bakes.{bakeCode};
-ghost use Rattle.resolver.specs.State.{Made, lentState, stateWas, settledState};
-ghost use Rattle.resolver.specs.Promises.{BeginsLent, Accepts, Expands, Retimes, BakesTrack, TellsTimes, TellsSamples, TellsSampleCount, TellsChangeCount, TellsClip, TellsTime, TellsValue, TellsUntimed, Installable, Installs};
+ghost use Rattle.resolver.specs.State.{Made, lentState, stateWas, stateLeft, settledState};
+ghost use Rattle.resolver.specs.Promises.{BeginsLent, Accepts, Expands, Retimes, BakesTrack, TellsTimes, TellsSamples, TellsSampleCount, TellsChangeCount, TellsClip, TellsTime, TellsValue, TellsUntimed, Installs};
 
 // No set stands, whatever the lists hold.
 pub fn fresh() -> Shape
@@ -84,7 +85,17 @@ pub fn accept(
         default,
         interpolate,
     );
-    install(shape, prepared, starts, numbers, xs, ys, blocks)
+    if prepared.number != 0 {
+        return Settled {
+            number: prepared.number,
+            shape,
+        };
+    }
+    let next = install(shape, starts, numbers, xs, ys, blocks, prepared.set);
+    Settled {
+        number: 0,
+        shape: next,
+    }
 }
 
 // The set that the template expands to takes the place of the standing one, unless a number refuses it.
@@ -114,7 +125,45 @@ pub fn accept_template(
         default,
         interpolate,
     );
-    install(shape, prepared, starts, numbers, xs, ys, blocks)
+    if prepared.number != 0 {
+        return Settled {
+            number: prepared.number,
+            shape,
+        };
+    }
+    let next = install(shape, starts, numbers, xs, ys, blocks, prepared.set);
+    Settled {
+        number: 0,
+        shape: next,
+    }
+}
+
+// The prepared set takes the place of the standing one. Nothing refuses it.
+pub fn install(
+    shape: Shape,
+    starts: &mut [f64],
+    numbers: &mut [u64],
+    xs: &mut [f64],
+    ys: &mut [f64],
+    blocks: &mut [f64],
+    set: ClipSet,
+) -> Shape
+    requires { ⌜ Made (lentState shape (now starts) (now numbers) (now xs) (now ys) (now blocks)) ⌝ }
+    requires { ⌜ MadeSet set ⌝ }
+    ensures { λ r. ⌜ Installs (stateWas shape starts numbers xs ys blocks) set (stateLeft r starts numbers xs ys blocks) ⌝ }
+{
+    let counts = standing::unpacked(set, starts, numbers, xs, ys, blocks);
+    let default = set.default;
+    let manifest = Missing {
+        default,
+        interpolate: set.interpolate,
+    };
+    Shape {
+        stands: true,
+        clips: set.clips,
+        counts,
+        manifest,
+    }
 }
 
 // The standing set moved, as the retimings before it left it, unless a number refuses it.
@@ -147,41 +196,13 @@ pub fn retime(
         shape.manifest,
     );
     let moved = set.retime_stage_times(o);
-    install(shape, moved, starts, numbers, xs, ys, blocks)
-}
-
-// The prepared set stands, unless its number refuses it; then what stood still stands.
-fn install(
-    shape: Shape,
-    prepared: Prepared,
-    starts: &mut [f64],
-    numbers: &mut [u64],
-    xs: &mut [f64],
-    ys: &mut [f64],
-    blocks: &mut [f64],
-) -> Settled
-    requires { ⌜ Made (lentState shape (now starts) (now numbers) (now xs) (now ys) (now blocks)) ⌝ }
-    requires { ⌜ Installable prepared ⌝ }
-    ensures { λ r. ⌜ Installs (stateWas shape starts numbers xs ys blocks) prepared (settledState r starts numbers xs ys blocks) ⌝ }
-{
-    if prepared.number != 0 {
+    if moved.number != 0 {
         return Settled {
-            number: prepared.number,
+            number: moved.number,
             shape,
         };
     }
-    let counts = standing::unpacked(prepared.set, starts, numbers, xs, ys, blocks);
-    let default = prepared.set.default;
-    let manifest = Missing {
-        default,
-        interpolate: prepared.set.interpolate,
-    };
-    let next = Shape {
-        stands: true,
-        clips: prepared.set.clips,
-        counts,
-        manifest,
-    };
+    let next = install(shape, starts, numbers, xs, ys, blocks, moved.set);
     Settled {
         number: 0,
         shape: next,

@@ -1,6 +1,7 @@
 // A resolver holds one clip set, or none, and answers questions about it. Its operations work on a resolver that is lent (`lent`); here is the same by value.
 pub mod lent;
 
+use clip::ClipSet;
 use clip::Prepared;
 use definitions::Answer;
 use definitions::ClipTime;
@@ -19,10 +20,11 @@ ghost use mathlib.Core.Path.{_≡_};
 ghost use Rattle.definitions.specs.Moments.{was, after, outsWere, outsLeft};
 ghost use Rattle.laws.specs.cell.Lent.{samplesWere};
 ghost use Rattle.clip.specs.Holding.{manifest};
+ghost use Rattle.clip.specs.Preparing.{MadeSet};
 ghost use Rattle.explicit.specs.Parsing.{explicitFields};
 ghost use Rattle.template.specs.Expanding.{templateFields};
 ghost use Rattle.resolver.specs.State.{Made};
-ghost use Rattle.resolver.specs.Promises.{Begins, Accepts, Expands, Retimes, BakesTrack, TellsTimes, TellsSamples, TellsSampleCount, TellsChangeCount, TellsClip, TellsTime, TellsValue, TellsUntimed, Installable, Installs};
+ghost use Rattle.resolver.specs.Promises.{Begins, Accepts, Expands, Retimes, BakesTrack, TellsTimes, TellsSamples, TellsSampleCount, TellsChangeCount, TellsClip, TellsTime, TellsValue, TellsUntimed, Installs, Settles};
 
 #[repr(C)]
 pub struct Resolver {
@@ -108,7 +110,7 @@ impl Resolver {
             default,
             interpolate,
         );
-        install(self, prepared)
+        settle(self, prepared)
     }
 
     // The set that the template expands to takes the place of the standing one, unless a number refuses it.
@@ -133,7 +135,17 @@ impl Resolver {
             default,
             interpolate,
         );
-        install(self, prepared)
+        settle(self, prepared)
+    }
+
+    // The prepared set takes the place of the standing one. Nothing refuses it.
+    pub fn install(self, set: ClipSet) -> Resolver
+        requires { ⌜ Made self ⌝ }
+        requires { ⌜ MadeSet set ⌝ }
+        ensures { λ r. ⌜ Installs self set r ⌝ }
+    {
+        let set = standing::installed(set);
+        Resolver { stands: true, set }
     }
 
     // The standing set moved, as the retimings before it left it, unless a number refuses it.
@@ -158,7 +170,7 @@ impl Resolver {
             self.set.manifest,
         );
         let moved = set.retime_stage_times(o);
-        install(self, moved)
+        settle(self, moved)
     }
 
     // The clip time at a stage time, by the standing set's knots.
@@ -443,11 +455,11 @@ impl Resolver {
     }
 }
 
-// The prepared set stands, unless its number refuses it; then what stood still stands.
-fn install(d: Resolver, prepared: Prepared) -> Accepted
+// The prepared set is installed, unless its number refuses it; then what stood still stands.
+fn settle(d: Resolver, prepared: Prepared) -> Accepted
     requires { ⌜ Made d ⌝ }
-    requires { ⌜ Installable prepared ⌝ }
-    ensures { λ r. ⌜ Installs d prepared r ⌝ }
+    requires { ⌜ MadeSet (prepared .set) ⌝ }
+    ensures { λ r. ⌜ Settles d prepared r ⌝ }
 {
     if prepared.number != 0 {
         return Accepted {
@@ -455,8 +467,7 @@ fn install(d: Resolver, prepared: Prepared) -> Accepted
             resolver: d,
         };
     }
-    let set = standing::installed(prepared.set);
-    let next = Resolver { stands: true, set };
+    let next = d.install(prepared.set);
     Accepted {
         number: 0,
         resolver: next,

@@ -10,9 +10,12 @@ use Rattle.definitions.specs.declared.LayerOffset.{LayerOffset}
 use Rattle.definitions.specs.declared.TemplateTimes.{TemplateTimes}
 use Rattle.definitions.specs.Explicit.{ExplicitFields}
 use Rattle.definitions.specs.Template.{TemplateFields}
+use Rattle.definitions.specs.Examining.{Fields}
 use Rattle.definitions.specs.Samples.{Samples}
 use Rattle.definitions.specs.Track.{Outputs}
 use Rattle.sdf.specs.declared.Counted.{Counted}
+use Rattle.clip.specs.declared.Prepared.{Prepared}
+use Rattle.clip.specs.Preparing.{Examines}
 use Rattle.template.specs.Expanding.{SaysClipTimes}
 use Rattle.normal_form.specs.Normalizes.{Normalizes}
 use Rattle.track.specs.declared.bake.Baked.{Baked}
@@ -29,6 +32,7 @@ use Rattle.tavitrozy.specs.Codes.{TellsClip, TellsTime, TellsValue, Tell
 pub record RepliedByNone (n : ℕ) : Type 0 where
   pub accept : (d : Resolver) (f : ExplicitFields) (r : Accepted) → Accepts d f r → r .number ≡ n → ⊥
   pub accept-template : (d : Resolver) (f : TemplateFields) (r : Accepted) → Expands d f r → r .number ≡ n → ⊥
+  pub examine : (f : Fields) (r : Prepared) → Examines f r → r .number ≡ n → ⊥
   pub retime : (d : Resolver) (o : LayerOffset) (r : Accepted) → Retimes d o r → r .number ≡ n → ⊥
   pub active-clip : (d : Resolver) (t : StageTime) (r : ClipCode) → TellsClip d t r → r .number ≡ n → ⊥
   pub clip-time : (d : Resolver) (t : StageTime) (r : TimeCode) → TellsTime d t r → r .number ≡ n → ⊥

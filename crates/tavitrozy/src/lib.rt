@@ -1,6 +1,8 @@
 // The resolver for C, Rust and Python callers: structs of a few numbers go by value, a slice as a pointer and a length, an enum as a
 // struct of numbers. A resolver is lent, its shape by value and its lists where the caller keeps them. Each call's contract is the operation's promise.
 use cell::step::entry::Entry;
+use clip::ClipSet;
+use clip::Prepared;
 use definitions::Answer;
 use definitions::ClipTime;
 use definitions::Default;
@@ -20,16 +22,18 @@ use sdf::Counted;
 use track::bake::Baked;
 ghost use mathlib.Core.Path.{_≡_};
 ghost use Rattle.gf.specs.TotalOrder.{keyOf, PlacedBy};
+ghost use Rattle.definitions.specs.Examining.{explicitly, byTemplate};
 ghost use Rattle.definitions.specs.Reading.{trackOfLists, readByHalves};
 ghost use Rattle.definitions.specs.Moments.{was, after, outsWere, outsLeft};
 ghost use Rattle.laws.specs.cell.Lent.{samplesWere};
 ghost use Rattle.clip.specs.Holding.{manifest};
+ghost use Rattle.clip.specs.Preparing.{MadeSet, Examines};
 ghost use Rattle.explicit.specs.Parsing.{explicitFields};
 ghost use Rattle.template.specs.Expanding.{offsetOf, templateFields, SaysClipTimes};
 ghost use Rattle.normal_form.specs.Normalizes.{Normalizes};
 ghost use Rattle.cell.specs.step.Entries.{entryIs};
-ghost use Rattle.resolver.specs.State.{Made, lentState, stateWas, settledState};
-ghost use Rattle.resolver.specs.Promises.{BeginsLent, Accepts, Expands, Retimes, BakesTrack, TellsTimes, TellsSamples, TellsSampleCount, TellsChangeCount};
+ghost use Rattle.resolver.specs.State.{Made, lentState, stateWas, stateLeft, settledState};
+ghost use Rattle.resolver.specs.Promises.{BeginsLent, Accepts, Expands, Installs, Retimes, BakesTrack, TellsTimes, TellsSamples, TellsSampleCount, TellsChangeCount};
 ghost use Rattle.tavitrozy.specs.Codes.{clipCode, timeCode, valueCode, untimedCode, TellsClip, TellsTime, TellsValue, TellsUntimed, nameCode, SaysName};
 
 // A clip is active, unless `found` is false.
@@ -228,6 +232,23 @@ pub extern "C" fn tavitrozy_lent_accept_template(
         fallback,
         interpolate,
     )
+}
+
+#[no_mangle]
+pub extern "C" fn tavitrozy_lent_install(
+    shape: Shape,
+    starts: &mut [f64],
+    numbers: &mut [u64],
+    xs: &mut [f64],
+    ys: &mut [f64],
+    blocks: &mut [f64],
+    set: ClipSet,
+) -> Shape
+    requires { ⌜ Made (lentState shape (now starts) (now numbers) (now xs) (now ys) (now blocks)) ⌝ }
+    requires { ⌜ MadeSet set ⌝ }
+    ensures { λ r. ⌜ Installs (stateWas shape starts numbers xs ys blocks) set (stateLeft r starts numbers xs ys blocks) ⌝ }
+{
+    lent::install(shape, starts, numbers, xs, ys, blocks, set)
 }
 
 #[no_mangle]
@@ -504,7 +525,46 @@ pub extern "C" fn tavitrozy_lent_bake<'a>(
     )
 }
 
-// ---- without a set
+// ---- without a resolver
+
+#[no_mangle]
+pub extern "C" fn tavitrozy_examine(
+    clips: u64,
+    starts: &[f64],
+    numbers: &[f64],
+    xs: &[f64],
+    ys: &[f64],
+    blocks: &[f64],
+    fallback: Default,
+    interpolate: bool,
+) -> Prepared
+    ensures { λ r. ⌜ Examines (explicitly (explicitFields clips (was starts) (was numbers) (was xs) (was ys) (was blocks) (manifest fallback interpolate))) r ⌝ }
+{
+    explicit::parse_set(
+        clips,
+        starts,
+        numbers,
+        xs,
+        ys,
+        blocks,
+        fallback,
+        interpolate,
+    )
+}
+
+#[no_mangle]
+pub extern "C" fn tavitrozy_examine_template(
+    pattern: &[u8],
+    times: TemplateTimes,
+    offset: bool,
+    blocks: &[f64],
+    fallback: Default,
+    interpolate: bool,
+) -> Prepared
+    ensures { λ r. ⌜ Examines (byTemplate (templateFields (was pattern) times offset (was blocks) (manifest fallback interpolate))) r ⌝ }
+{
+    template::expand_template(pattern, times, offset, blocks, fallback, interpolate)
+}
 
 #[no_mangle]
 pub extern "C" fn tavitrozy_read(

@@ -12,12 +12,13 @@ use Rattle.definitions.specs.Template.{TemplateFields, activeOffset, promoted, 
 use Rattle.laws.proofs.list.Tests.{or-false, passed}
 use Rattle.laws.proofs.set.SoundTemplate.{TemplateFits, template-sound}
 use Rattle.clip.specs.declared.Prepared.{Prepared}
-use Rattle.clip.specs.Holding.{manifest, emptySet}
-use Rattle.clip.specs.Preparing.{HandsBack}
+use Rattle.definitions.specs.Examining.{byTemplate, emptySet}
+use Rattle.clip.specs.Holding.{manifest}
+use Rattle.clip.specs.Preparing.{HandsBack, Examines}
 use Rattle.clip.specs.Storing.{settleNumber, Stores}
-use Rattle.template.specs.Expanding.{templateFieldsNumber, expandedSet, Expands}
+use Rattle.template.specs.Expanding.{templateFieldsNumber, expandedSet}
 use Rattle.clip.proofs.Laws.{same-number}
-use Rattle.clip.proofs.Preparing.{prepares, prepares-not, empty-sound}
+use Rattle.clip.proofs.Preparing.{prepares, prepares-not, examines, empty-sound}
 
 -- ---- fields without 1, 2, 7 and 6
 
@@ -47,10 +48,10 @@ fields-first f h =
     same-number 1 (template1 f) _ _ h
     (λ h. same-number 2 (template2 f) _ _ h (λ h. same-number 7 (template7 f) _ _ h (λ h. same-number 6 (template6 f) _ _ h (λ h. absurd (h refl)))))
 
-refuses : (f : TemplateFields) (n : ℕ) (r : Prepared) → n ≡ templateNumber f → (n ≡ 0 → ⊥) → HandsBack n emptySet r → Expands f r
-refuses f n r e h q = prepares-not emptySet (templateSet f) r n (templateNumber f) e h empty-sound q
+refuses : (f : TemplateFields) (n : ℕ) (r : Prepared) → n ≡ templateNumber f → (n ≡ 0 → ⊥) → HandsBack n emptySet r → Examines (byTemplate f) r
+refuses f n r e h q = examines (byTemplate f) r (prepares-not emptySet (templateSet f) r n (templateNumber f) e h empty-sound q)
 
-pub template-refuses : (f : TemplateFields) (n : ℕ) (r : Prepared) → n ≡ templateFieldsNumber f → (n ≡ 0 → ⊥) → HandsBack n emptySet r → Expands f r
+pub template-refuses : (f : TemplateFields) (n : ℕ) (r : Prepared) → n ≡ templateFieldsNumber f → (n ≡ 0 → ⊥) → HandsBack n emptySet r → Examines (byTemplate f) r
 template-refuses f n r e h q = refuses f n r (e ∙ fields-first f (λ z. h (e ∙ z))) h q
 
 -- ---- the 257th clip, and at most 256
@@ -59,7 +60,7 @@ eight : (f : TemplateFields) → FieldsPass f → 256 < length (promoted (f .tim
 unfolding templateNumber template8
 eight f p l = rw (p .not1, p .not2, p .not7, p .not6, lt-ltb maxClips (length (promoted (f .times))) l)
 
-pub template-beyond : (f : TemplateFields) (r : Prepared) → templateFieldsNumber f ≡ 0 → 256 < length (promoted (f .times)) → HandsBack 8 emptySet r → Expands f r
+pub template-beyond : (f : TemplateFields) (r : Prepared) → templateFieldsNumber f ≡ 0 → 256 < length (promoted (f .times)) → HandsBack 8 emptySet r → Examines (byTemplate f) r
 template-beyond f r z l q = refuses f 8 r (eight f (fields-pass f z) l) (λ n. omega arith) q
 
 number-is : (f : TemplateFields) → FieldsPass f → length (promoted (f .times)) ≤ 256 → settleNumber (templateSet f) ≡ templateNumber f
@@ -72,7 +73,7 @@ unfolding expandedSet templateSet
 set-is f = refl
 
 pub template-settles : (f : TemplateFields) (r : Prepared) → TemplateFits f → templateFieldsNumber f ≡ 0 → length (promoted (f .times)) ≤ 256
-    → Stores emptySet (expandedSet (promoted (f .times)) (f .times) (activeOffset f) (f .blocks) (manifest (f .default) (f .interpolateMissing))) r → Expands f r
+    → Stores emptySet (expandedSet (promoted (f .times)) (f .times) (activeOffset f) (f .blocks) (manifest (f .default) (f .interpolateMissing))) r → Examines (byTemplate f) r
 template-settles f r h z l t =
-    prepares emptySet (templateSet f) r (settleNumber (templateSet f)) (templateNumber f) (number-is f (fields-pass f z) l) empty-sound (template-sound f h)
-    (subst (λ (set : Definitions.ClipSet). Stores emptySet set r) (set-is f) t)
+    examines (byTemplate f) r (prepares emptySet (templateSet f) r (settleNumber (templateSet f)) (templateNumber f) (number-is f (fields-pass f z) l) empty-sound (template-sound f h)
+    (subst (λ (set : Definitions.ClipSet). Stores emptySet set r) (set-is f) t))

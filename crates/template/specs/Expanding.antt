@@ -12,14 +12,11 @@ use Rattle.definitions.specs.declared.TemplateTimes.{TemplateTimes}
 use Rattle.definitions.specs.Lists.{_if_else_}
 use Rattle.definitions.specs.ClipSet as Definitions
 use Rattle.definitions.specs.ClipSet.{maxClips, maxBlocks, sortActive, sortKnots}
-use Rattle.definitions.specs.Template.{TemplateFields, promoted, activations, clipKnots, withBounds, templateSet, template1, template2, template7, template6, templateNumber}
+use Rattle.definitions.specs.Template.{TemplateFields, promoted, activations, clipKnots, withBounds, template1, template2, template7, template6}
 use Rattle.definitions.specs.Questions.{askClipTimes}
 use Rattle.sdf.specs.declared.Counted.{Counted}
 use Rattle.sdf.specs.Counted.{counted, listed, itself}
-use Rattle.clip.specs.declared.Prepared.{Prepared}
 use Rattle.template.specs.declared.expanding.Promoted.{Promoted}
-use Rattle.clip.specs.Holding.{emptySet}
-use Rattle.clip.specs.Preparing.{Prepares}
 
 abbrev pub templateFields : List ℕ → TemplateTimes → Bool → List Float → Missing → TemplateFields
 templateFields template x offset blocks m = record {
@@ -95,7 +92,3 @@ expandedSet ts x o blocks m = record {
   default = m .default;
   interpolateMissing = m .interpolate;
 }
-
--- the expanded set, or the empty one
-abbrev pub Expands : TemplateFields → Prepared → Type 0
-Expands f r = Prepares (templateNumber f) emptySet (templateSet f) r

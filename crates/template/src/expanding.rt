@@ -11,7 +11,7 @@ ghost use Prim.Native.Nat.{_≤_, _+_};
 ghost use lib.ListN.{length};
 ghost use Rattle.definitions.specs.Template.{stageTime};
 ghost use Rattle.definitions.specs.Moments.{was, after};
-ghost use Rattle.clip.specs.Holding.{emptySet};
+ghost use Rattle.definitions.specs.Examining.{emptySet};
 ghost use Rattle.clip.specs.Storing.{Stores};
 ghost use Rattle.template.specs.Expanding.{offsetOf, Promotes, timesOfClips, bounded, knotXs, knotCount, numbered, RoomForLists, expandedSet};
 

@@ -13,11 +13,13 @@ use definitions::limits::STARTS;
 use definitions::refusal;
 use sdf::Counted;
 ghost use mathlib.Core.Path.{_≡_};
+ghost use Rattle.definitions.specs.Examining.{byTemplate};
 ghost use Rattle.definitions.specs.Moments.{was, after};
 ghost use Rattle.clip.specs.Holding.{manifest};
-ghost use Rattle.template.specs.Expanding.{offsetOf, templateFields, Expands, SaysClipTimes};
+ghost use Rattle.clip.specs.Preparing.{Examines};
+ghost use Rattle.template.specs.Expanding.{offsetOf, templateFields, SaysClipTimes};
 
-// The set that a template expands to, or the empty one, where 1, 2, 7, 6, 8, 2, 4, 5 or 9 refuses it. Where `offset` is false the offset is absent, whatever its slot holds.
+// Examines a template: the set that it expands to, or the empty one, where 1, 2, 7, 6, 8, 2, 4, 5 or 9 refuses it. Where `offset` is false the offset is absent, whatever its slot holds.
 pub fn expand_template(
     template: &[u8],
     times: TemplateTimes,
@@ -26,7 +28,7 @@ pub fn expand_template(
     default: Default,
     interpolate: bool,
 ) -> Prepared
-    ensures { λ r. ⌜ Expands (templateFields (was template) times offset (was blocks) (manifest default interpolate)) r ⌝ }
+    ensures { λ r. ⌜ Examines (byTemplate (templateFields (was template) times offset (was blocks) (manifest default interpolate))) r ⌝ }
 {
     let manifest = Missing {
         default,

@@ -1,4 +1,4 @@
-// Which call a line makes, and where its arguments begin.
+// Which call a line makes, and where its arguments begin. The calls with a slot stand apart, since they alone need the slots.
 
 pub(crate) enum Change {
     Explicit,
@@ -29,6 +29,38 @@ pub(crate) enum Call {
     Samples(usize),
     Changing(Change, usize),
     Asking(Question, usize),
+}
+
+pub(crate) enum Slotted {
+    Examine(usize),
+    Prepared(usize),
+    Install(usize),
+    Nothing,
+}
+
+pub(crate) fn slotted_of(line: &[u8]) -> Slotted {
+    let at = crate::text::after(line, 0, b"examine");
+    if at != crate::text::NOWHERE {
+        return Slotted::Examine(at);
+    }
+    let at = crate::text::after(line, 0, b"prepared");
+    if at != crate::text::NOWHERE {
+        return Slotted::Prepared(at);
+    }
+    let at = crate::text::after(line, 0, b"install");
+    if at != crate::text::NOWHERE {
+        return Slotted::Install(at);
+    }
+    Slotted::Nothing
+}
+
+pub(crate) fn has_slot(line: &[u8]) -> bool {
+    match slotted_of(line) {
+        Slotted::Examine(_) => true,
+        Slotted::Prepared(_) => true,
+        Slotted::Install(_) => true,
+        Slotted::Nothing => false,
+    }
 }
 
 pub(crate) fn call_of(line: &[u8]) -> Call {

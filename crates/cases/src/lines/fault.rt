@@ -3,7 +3,9 @@
 use crate::lines::calls::Call;
 use crate::lines::calls::Change;
 use crate::lines::calls::Question;
+use crate::lines::calls::Slotted;
 use crate::lines::calls::call_of;
+use crate::lines::calls::slotted_of;
 use crate::lines::limits::BLOCKS;
 use crate::lines::limits::BYTES;
 use crate::lines::limits::ENDS;
@@ -11,6 +13,7 @@ use crate::lines::limits::KNOTS;
 use crate::lines::limits::SAMPLES;
 use crate::lines::limits::SLOTS;
 use crate::lines::limits::STARTS;
+use crate::prepared;
 use crate::text::NOWHERE;
 use crate::text::after;
 use crate::text::is_end;
@@ -176,8 +179,8 @@ fn filling(line: &[u8], walk: Walk) -> Walk {
     step(line, w, Kind::Flag)
 }
 
-fn explicit(line: &[u8], at: usize) -> Walk {
-    let w = step(line, begun(at), Kind::Number);
+fn explicit(line: &[u8], walk: Walk) -> Walk {
+    let w = step(line, walk, Kind::Number);
     let w = list(line, w, b"st", Kind::Double, STARTS);
     let w = list(line, w, b"sc", Kind::Double, STARTS);
     let w = list(line, w, b"kx", Kind::Double, KNOTS);
@@ -193,8 +196,8 @@ fn template_numbers(line: &[u8], walk: Walk) -> Walk {
     step(line, w, Kind::Offset)
 }
 
-fn template(line: &[u8], at: usize) -> Walk {
-    let w = step(line, begun(at), Kind::Bytes);
+fn template(line: &[u8], walk: Walk) -> Walk {
+    let w = step(line, walk, Kind::Bytes);
     let w = template_numbers(line, w);
     let w = list(line, w, b"bl", Kind::Double, BLOCKS);
     filling(line, w)
@@ -207,8 +210,8 @@ fn two_doubles(line: &[u8], at: usize) -> Walk {
 
 fn changing(kind: Change, line: &[u8], at: usize) -> Walk {
     match kind {
-        Change::Explicit => explicit(line, at),
-        Change::Template => template(line, at),
+        Change::Explicit => explicit(line, begun(at)),
+        Change::Template => template(line, begun(at)),
         Change::Retime => two_doubles(line, at),
     }
 }
@@ -265,8 +268,21 @@ fn unknown(line: &[u8]) -> Walk {
     step(line, begun(at), Kind::Name)
 }
 
-// How far the line can be read.
-pub(crate) fn walked(line: &[u8]) -> Walk {
+fn slot(line: &[u8], at: usize) -> Walk {
+    at_most(line, begun(at), prepared::COUNT - 1)
+}
+
+// A slot, and an acceptance's word and fields.
+fn examine(line: &[u8], at: usize) -> Walk {
+    let w = slot(line, at);
+    let fields = past(line, w, b"explicit");
+    if !fields.stuck {
+        return explicit(line, fields);
+    }
+    template(line, past(line, w, b"template"))
+}
+
+fn called(line: &[u8]) -> Walk {
     match call_of(line) {
         Call::Nothing => begun(0),
         Call::Unreadable => unknown(line),
@@ -274,5 +290,15 @@ pub(crate) fn walked(line: &[u8]) -> Walk {
         Call::Samples(at) => samples(line, at),
         Call::Changing(kind, at) => changing(kind, line, at),
         Call::Asking(kind, at) => asking(kind, line, at),
+    }
+}
+
+// How far the line can be read.
+pub(crate) fn walked(line: &[u8]) -> Walk {
+    match slotted_of(line) {
+        Slotted::Examine(at) => examine(line, at),
+        Slotted::Prepared(at) => slot(line, at),
+        Slotted::Install(at) => slot(line, at),
+        Slotted::Nothing => called(line),
     }
 }

@@ -18,6 +18,11 @@ pub(crate) fn changed(number: u8, out: &mut [u8], full: usize) -> usize {
     refused(number, out, full)
 }
 
+// Of a slot that has no set.
+pub(crate) fn empty(out: &mut [u8], full: usize) -> usize {
+    crate::text::put(out, full, b"empty\n")
+}
+
 pub(crate) fn case_named(name: &[u8], out: &mut [u8], full: usize) -> usize {
     let n = crate::text::put(out, full, b"case ");
     let n = crate::text::put(out, n, name);

@@ -1,4 +1,4 @@
-// The standing set, entry by entry.
+// A set, entry by entry: the standing one, or a prepared one.
 use crate::lines::reply;
 use resolver::Resolver;
 use standing::StandingSet;
@@ -75,7 +75,7 @@ fn put_blocks(set: StandingSet, out: &mut [u8], full: usize) -> usize
     crate::text::put_byte(out, n, b'\n')
 }
 
-fn put_set(set: StandingSet, out: &mut [u8], full: usize) -> usize
+pub(crate) fn put_set(set: StandingSet, out: &mut [u8], full: usize) -> usize
     requires { ⌜ Whole set ⌝ }
 {
     let n = put_starts(set, out, full);

@@ -8,7 +8,7 @@ use native.Mathlib.Omega.{arith}
 use native.Mathlib.Decide.{decLe}
 use mathlib.Core.List.{List, [], _∷_, _++_, map, append-assoc}
 use lib.Dec.{T}
-use lib.ListN.{length, getD, take, drop}
+use lib.ListN.{length, getD, take, drop, set}
 use lib.Ieee.Fits.{and-l, and-r}
 use Rattle.definitions.specs.Lists.{any, all, keep, gather, below, pairsFrom, pairs, zipWith}
 use Rattle.laws.proofs.list.Tests.{both, or-false, or-split, not-false}
@@ -20,6 +20,11 @@ module _ {A : Type 0} where
     every-at [] i d e h = absurd (not-suc-le-zero h)
     every-at (x ∷ xs) zero d e h = e .0
     every-at (x ∷ xs) (suc i) d e h = every-at xs i d (e .1) (le-of-suc-le-suc h)
+
+    pub every-set : (xs : List A) (i : ℕ) (a : A) → Every P xs → P a → Every P (set xs i a)
+    every-set [] i a e p = tt
+    every-set (x ∷ xs) zero a e p = (p, e .1)
+    every-set (x ∷ xs) (suc i) a e p = (e .0, every-set xs i a (e .1) p)
 
     pub every-append : (xs ys : List A) → Every P xs → Every P ys → Every P (xs ++ ys)
     every-append [] ys p q = q

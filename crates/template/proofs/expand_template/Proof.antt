@@ -12,7 +12,8 @@ use denote.Ref.{now}
 use Rattle.definitions.specs.Template.{TemplateFields, activeOffset}
 use Rattle.laws.proofs.set.SoundTemplate.{TemplateFits}
 use Rattle.clip.specs.Storing.{Stores}
-use Rattle.clip.specs.Holding.{emptySet, manifest}
+use Rattle.definitions.specs.Examining.{emptySet}
+use Rattle.clip.specs.Holding.{manifest}
 use Rattle.template.specs.Expanding.{templateFields, templateFieldsNumber, knotCount, expandedSet}
 use Rattle.clip.proofs.Laws.{all-fit, lent}
 use Rattle.template.proofs.Expansion.{few-knots}

@@ -23,12 +23,12 @@ fitting c = subst T (sym (c .good .1 .0 .1 .1 .1 .0 .1)) tt
 returns : tie.Need-returns
 returns c =
     let s = c .before .before in
-    retime-refuses (s .args .self) (s .args .o) (s .pre .0) (s .pre .1) (untrue _ _ (c .before .is-finite .ensures) (c .if1 .taken))
+    retime-refuses (s .args .self) (s .args .o) (s .pre .held) (s .pre .sound) (untrue _ _ (c .before .is-finite .ensures) (c .if1 .taken))
 
 returns-2 : tie.Need-returns-2
 returns-2 c =
     let s = c .before .before .before .before in
-    retime-identity (s .args .self) (s .args .o) (s .pre .0) (s .pre .1) (both-finite (c .before .before)) (sym (c .before .is-identity .ensures) ∙ c .if2 .taken)
+    retime-identity (s .args .self) (s .args .o) (s .pre .held) (s .pre .sound) (both-finite (c .before .before)) (sym (c .before .is-identity .ensures) ∙ c .if2 .taken)
 
 slice-aggregate-retime-lists : tie.Need-slice-aggregate-retime-lists
 slice-aggregate-retime-lists c = simp length-take (omega arith)
@@ -47,7 +47,7 @@ slice-aggregate-retime-lists-5 c = simp length-take (omega arith)
 
 retime-lists-requires : tie.Need-retime-lists-requires
 retime-lists-requires c κs =
-    let h = c .before .before .before .before .before .before .before .before .before .pre .0 in (
+    let h = c .before .before .before .before .before .before .before .before .before .pre .held in (
       h,
       record {
         times = length-take-le _ _ (h .active .few);
@@ -62,7 +62,7 @@ returns-3 : tie.Need-returns-3
 returns-3 c =
     let i = c .before .before .before .before .before .before .before .before .before .before .before in
     let s = i .before .before .before .before in
-    retime-settles (s .args .self) (s .args .o) (s .pre .0) (s .pre .1) (both-finite (i .before .before)) (c .before .before .before .before .before .retime-lists .result) (fitting s) (sym (i .before .is-identity .ensures) ∙ i .if2 .left) (c .before .before .before .before .before .retime-lists .ensures)
+    retime-settles (s .args .self) (s .args .o) (s .pre .held) (s .pre .sound) (both-finite (i .before .before)) (c .before .before .before .before .before .retime-lists .result) (fitting s) (sym (i .before .is-identity .ensures) ∙ i .if2 .left) (c .before .before .before .before .before .retime-lists .ensures)
 
 pub retime-stage-times-spec : {M : Type 1} → statement M
 retime-stage-times-spec =

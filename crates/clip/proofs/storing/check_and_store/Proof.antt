@@ -4,7 +4,7 @@ use borrow.Author.Needs.{needs}
 use denote.Ref.{now}
 use Rattle.definitions.specs.ClipSet as Definitions
 use Rattle.laws.specs.cell.Lent.{setOf}
-use Rattle.clip.specs.Holding.{emptySet}
+use Rattle.definitions.specs.Examining.{emptySet}
 use Rattle.clip.specs.Storing.{settleNumber}
 use Rattle.clip.proofs.Preparing.{hands, hands-kept}
 use Rattle.clip.proofs.Stored.{lists-number-is}

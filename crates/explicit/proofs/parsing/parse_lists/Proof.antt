@@ -6,7 +6,7 @@ use denote.Ref.{now}
 use Rattle.definitions.specs.ClipSet as Definitions
 use Rattle.definitions.specs.Explicit.{ExplicitFields}
 use Rattle.laws.proofs.set.SoundExplicit.{ExplicitLimits}
-use Rattle.clip.specs.Holding.{emptySet}
+use Rattle.definitions.specs.Examining.{emptySet}
 use Rattle.clip.specs.Storing.{Fitting, Stores}
 use Rattle.clip.proofs.Stored.{sorted-is}
 use Rattle.explicit.specs.Parsing.{explicitFields}

@@ -21,10 +21,10 @@ retime-stage-times-requires c κs =
     let p = passed c in
     let s = p .before in
     let k = c .packed .ensures in
-    (k .held, subst Sound (sym (k .is)) (stands-sound (s .args .t1) (s .pre) (not-false _ (p .if1 .left))))
+    record { held = k .held; sound = subst Sound (sym (k .is)) (stands-sound (s .args .t1) (s .pre) (not-false _ (p .if1 .left))) }
 
-install-requires : tie.Need-install-requires
-install-requires c κs =
+settle-requires : tie.Need-settle-requires
+settle-requires c κs =
     let e = c .retime-stage-times .ensures in
     (passed (c .before) .before .pre, record { held = e .reply .held; sound = e .sound })
 
@@ -33,8 +33,8 @@ returns-2 c =
     let k = c .before .before in
     let p = passed k in
     let s = p .before in
-    retimes (s .args .t1) (s .args .o) _ _ _ (not-false _ (p .if1 .left)) (k .packed .ensures) (c .before .retime-stage-times .ensures) (c .install .ensures)
+    retimes (s .args .t1) (s .args .o) _ _ _ (not-false _ (p .if1 .left)) (k .packed .ensures) (c .before .retime-stage-times .ensures) (c .settle .ensures)
 
 pub retime-spec : {M : Type 1} → statement M
 retime-spec =
-    tie.close (tie.spec returns packed-requires retime-stage-times-requires install-requires returns-2)
+    tie.close (tie.spec returns packed-requires retime-stage-times-requires settle-requires returns-2)

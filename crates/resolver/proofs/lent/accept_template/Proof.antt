@@ -1,16 +1,27 @@
--- `resolver::lent::accept_template` meets its contract: the prepared set is installed. Assumes nothing.
+-- `resolver::lent::accept_template` meets its contract: the examined set is installed, unless its number refuses it. Assumes nothing.
 use borrow.Author.Needs.{needs}
-use Rattle.resolver.proofs.Laws.{expands}
+use denote.Ref.{now}
+use Rattle.resolver.specs.declared.Resolver.{Resolver}
+use Rattle.resolver.specs.State.{lentState}
+use Rattle.resolver.proofs.Laws.{settles, settles-not, expands}
 use Rattle.resolver.proofs.lent.accept_template.Statement.{statement}
 use Rattle.resolver.proofs.lent.accept_template.Tie as tie
 
-install-requires : tie.Need-install-requires
-install-requires c κs =
-    let e = c .before .before .before .before .before .expand-template .ensures in
-    (c .before .before .before .before .before .before .before .before .before .before .before .before .before .pre, record { held = e .reply .held; sound = e .sound })
+abbrev state : tie.Start → Resolver
+state s = let a = s .args in lentState (a .shape) (now (a .starts)) (now (a .numbers)) (now (a .xs)) (now (a .ys)) (now (a .blocks))
 
 returns : tie.Need-returns
-returns c = expands _ _ _ _ (c .before .before .before .before .before .before .before .before .before .before .before .before .before .before .before .before .expand-template .ensures) (c .before .before .before .before .before .before .before .before .before .before .install .ensures)
+returns c =
+    let s = c .before .before .before .before .before .before .before .before .before .before in
+    expands (state s) _ _ _ (c .before .before .expand-template .ensures) (settles-not (state s) _ (s .pre) (c .if1 .taken))
+
+install-requires : tie.Need-install-requires
+install-requires c κs = (c .before .before .before .before .before .before .before .before .before .before .before .before .before .before .before .pre, c .before .before .before .before .before .before .before .expand-template .ensures .made)
+
+returns-2 : tie.Need-returns-2
+returns-2 c =
+    let s = c .before .before .before .before .before .before .before .before .before .before .before .before .before .before .before .before .before .before .before .before .before .before .before .before .before .before in
+    expands (state s) _ _ _ (c .before .before .before .before .before .before .before .before .before .before .before .before .before .before .before .before .before .before .expand-template .ensures) (settles (state s) _ _ (c .before .before .before .before .before .before .before .before .before .before .before .before .before .before .before .before .if1 .left) (c .before .before .before .before .before .before .before .before .before .before .install .ensures))
 
 pub accept-template-spec : {M : Type 1} → statement M
-accept-template-spec = tie.close (tie.spec (λ c κs. search needs) install-requires (λ c. search needs) (λ c. search needs) (λ c. search needs) (λ c. search needs) (λ c. search needs) returns)
+accept-template-spec = tie.close (tie.spec (λ c κs. search needs) returns install-requires (λ c. search needs) (λ c. search needs) (λ c. search needs) (λ c. search needs) (λ c. search needs) returns-2)

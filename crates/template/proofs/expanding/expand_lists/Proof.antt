@@ -5,7 +5,7 @@ use borrow.Author.Needs.{needs}
 use lib.ListN.{length}
 use denote.Ref.{now}
 use Rattle.definitions.specs.ClipSet as Definitions
-use Rattle.clip.specs.Holding.{emptySet}
+use Rattle.definitions.specs.Examining.{emptySet}
 use Rattle.clip.specs.Storing.{Fitting, Stores}
 use Rattle.clip.proofs.Stored.{sorted-is}
 use Rattle.template.specs.Expanding.{offsetOf}
