@@ -35,8 +35,8 @@
  * Animation hosts and -ffast-math often set FTZ and DAZ; many tracks are then wrong. tavitrozy_environment_is_exact() tells, for the calling thread.
  *
  * STACK. Bytes of stack that a call needs at most, as tests/stack.c measures it with sets at the limits (make test holds the two together):
- *   fresh 256   accept 93440   accept_template 97536   examine 99328   examine_template 103424
- *   install 23040   retime 59904   active_clip 256   clip_time 256   value 1792
+ *   fresh 256   accept 79104   accept_template 83200   examine 84992   examine_template 89088
+ *   install 23040   retime 60160   active_clip 256   clip_time 256   value 1792
  *   untimed 512   stage_sample_count 9472   stage_sample_times 9728   stage_samples 9728   change_count 15104
  *   bake 15616   read 256   name 256   template_clip_times 4352   normalize 58368
  *   total_key 256

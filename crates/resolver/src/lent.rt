@@ -117,7 +117,7 @@ pub fn accept_template(
     requires { ⌜ Made (lentState shape (now starts) (now numbers) (now xs) (now ys) (now blocks)) ⌝ }
     ensures { λ r. ⌜ Expands (stateWas shape starts numbers xs ys blocks) (templateFields (was template) times offset (was newblocks) (manifest default interpolate)) (settledState r starts numbers xs ys blocks) ⌝ }
 {
-    let prepared = template::expand_template(
+    let expanded = template::expand_template(
         template,
         times,
         offset,
@@ -125,13 +125,13 @@ pub fn accept_template(
         default,
         interpolate,
     );
-    if prepared.number != 0 {
+    if expanded.number != 0 {
         return Settled {
-            number: prepared.number,
+            number: expanded.number,
             shape,
         };
     }
-    let next = install(shape, starts, numbers, xs, ys, blocks, prepared.set);
+    let next = install(shape, starts, numbers, xs, ys, blocks, expanded.set);
     Settled {
         number: 0,
         shape: next,
