@@ -1,38 +1,30 @@
--- Examinings and installings, computed by the definitions: what is handed back, what stands, and a run with examinings in it beside the one without. `wrong`: false figures, each found
--- false. Assumes nothing.
-use mathlib.Core.Path.{_≡_, refl, sym, ap, _∙_}
-use Prim.Native.Nat.{ℕ}
+-- Examinings and installings, computed by the definitions: what is handed back, and what stands. `wrong`: false figures, each found false. Assumes nothing.
+use mathlib.Core.Path.{_≡_, refl}
 use mathlib.Core.Bool.{Bool, true, false}
 use mathlib.Core.List.{List, [], _∷_}
 use lib.Dec.{eqb}
 use lib.ListN.{length}
 use lib.Ieee.{Float, round, neg, add, sub, mul, div, lt, le, eq, toBits, ofBits, isNan}
 use Rattle.gf.specs.Doubles.{within, key, ofKey, isWhole, truncated, isClipNumber, signBit, totalKey}
-use Rattle.definitions.specs.ClipSet.{ClipSet, Model, noSet, standing, nanDefault, beyondLimits, equalStarts, equalKnots, badDefaultMark, activeTimes}
+use Rattle.definitions.specs.ClipSet.{ClipSet, standing, nanDefault, beyondLimits, equalStarts, equalKnots, badDefaultMark, activeTimes}
 use Rattle.definitions.specs.Explicit.{ExplicitFields, explicitSet, explicitNumber, explicit1, explicit2, explicit3}
 use Rattle.definitions.specs.Template.{templateNumber, template1, template2, template7, timesUnstorable, timesDisordered}
 use Rattle.definitions.specs.Retime.{movedNumber, apply, isIdentity, moved, sorted, retimeStageTimes, retimeNumber}
 use Rattle.definitions.specs.WholeList.{runFrom}
-use Rattle.definitions.specs.Calls.{Call, explicit, template, install, retime, bake, step, after}
-use Rattle.definitions.specs.Examining.{Fields, explicitly, byTemplate, emptySet, Examined, examine}
-use Rattle.definitions.specs.Traces.{Ask, call, examining, Replies, without, kept, Run}
-use Rattle.definitions.proofs.Traces.{Settled, no-trace}
-use Rattle.definitions.proofs.Sets.{n, frac, -n, holds, fails, sameTimes, fields, templated, two, jumping, by, xs}
+use Rattle.definitions.specs.Calls.{Call, explicit, install, retime, step, after}
+use Rattle.definitions.specs.Examining.{explicitly, byTemplate, emptySet, examine}
+use Rattle.definitions.proofs.Sets.{n, frac, -n, holds, fails, sameTimes, fields, templated, two, jumping, by, setOf, xs}
 
 -- ---- how a figure is written
-
-abbrev setOf : Model → ClipSet
-setOf noSet = emptySet
-setOf (standing set) = set
 
 abbrev starts : List Call → List Float
 starts calls = activeTimes (setOf (after calls) .active)
 
-abbrev prepared : ExplicitFields → ClipSet
+abbrev pub prepared : ExplicitFields → ClipSet
 prepared f = examine (explicitly f) .set
 
 -- `two` with a default
-abbrev seven : ExplicitFields
+abbrev pub seven : ExplicitFields
 seven = record {
   clips = two .clips;
   startTimes = two .startTimes;
@@ -45,7 +37,7 @@ seven = record {
 }
 
 -- a clip number that names no clip; equal starts with it
-abbrev unnamed : ExplicitFields
+abbrev pub unnamed : ExplicitFields
 unnamed = fields 2 (n 3 ∷ []) (frac 3 2 ∷ []) [] []
 
 abbrev unnamed-equal : ExplicitFields
@@ -54,7 +46,7 @@ unnamed-equal = fields 2 (n 0 ∷ -n 0 ∷ []) (n 0 ∷ n 2 ∷ []) [] []
 abbrev equal : ExplicitFields
 equal = fields 2 (n 0 ∷ -n 0 ∷ []) (n 0 ∷ n 1 ∷ []) [] []
 
-abbrev moving : Call
+abbrev pub moving : Call
 moving = retime (by (n 5) (n 2))
 
 table : List Bool
@@ -95,43 +87,6 @@ wrong-table =
     ∷ eqb (examine (explicitly unnamed-equal) .number) 4
     ∷ []
 
--- ---- a run on the plain desk, whose replies are its numbers
-
-abbrev Told : Call → Type 0
-Told c = ℕ
-
-abbrev number : Model → Call → ℕ
-number m (explicit f) = explicitNumber f
-number m (template f) = templateNumber f
-number m (install set) = 0
-number m (retime o) = retimeNumber m o
-number m (bake s o) = 0
-
-abbrev Does : (c : Call) → Model → Told c → Model → Type 0
-Does c m k e = (k ≡ number m c) × (e ≡ step m c)
-
-abbrev Looks : Fields → Examined → Type 0
-Looks f x = x ≡ examine f
-
-abbrev asks : List (Ask Told)
-asks = examining (explicitly unnamed) ∷ call moving ∷ call (explicit two) ∷ examining (explicitly seven) ∷ call moving ∷ call (install (prepared two)) ∷ examining (explicitly two) ∷ call (explicit unnamed) ∷ []
-
-abbrev replies : Replies Told asks
-replies = (examine (explicitly unnamed), (20, (0, (examine (explicitly seven), (0, (0, (examine (explicitly two), (3, tt))))))))
-
-abbrev others-alone : Replies Told (without Told asks)
-others-alone = (20, (0, (0, (0, (3, tt)))))
-
--- each of them settled by what stands
-abbrev model : Model → Model
-model m = m
-
-abbrev Made : Model → Type 0
-Made m = Unit {0}
-
-settles : (c : Call) (d d′ e e′ : Model) (r r′ : Told c) → Made d → Made d′ → model d ≡ model d′ → Does c d r e → Does c d′ r′ e′ → Settled Told Does Looks model Made c r r′ e e′
-settles c d d′ e e′ r r′ m m′ q (a, b) (a′, b′) = record { reply = a ∙ ap (λ (x : Model). number x c) q ∙ sym a′; stands = b ∙ ap (λ (x : Model). step x c) q ∙ sym b′; made = tt; made′ = tt }
-
 -- ---- all of it computes
 
 record FigureInstallings : Type 0 where
@@ -140,24 +95,10 @@ record FigureInstallings : Type 0 where
   -- "A refused examining hands back the empty set"
   refused : prepared unnamed ≡ emptySet
   brought-back : after (install (prepared two) ∷ moving ∷ install (prepared two) ∷ []) ≡ standing (explicitSet two)
-  -- the premises of `NoTrace` can be met
-  asked : Run Told Does Looks noSet asks replies (standing (explicitSet two))
-  others : kept Told asks replies ≡ others-alone
 
 computed : FigureInstallings
 unfolding
     table wrong-table round neg add sub mul div lt le eq toBits ofBits isNan within key ofKey isWhole truncated signBit totalKey nanDefault beyondLimits equalStarts equalKnots
     badDefaultMark explicitSet explicitNumber explicit1 explicit2 explicit3 isClipNumber templateNumber template1 template2 template7 timesUnstorable timesDisordered apply isIdentity
     movedNumber moved sorted retimeStageTimes retimeNumber step runFrom examine
-computed = record {
-  figures = refl;
-  wrong = refl;
-  refused = refl;
-  brought-back = refl;
-  asked = (refl, (_, (refl, refl), (_, (refl, refl), (refl, (_, (refl, refl), (_, (refl, refl), (refl, (_, (refl, refl), refl))))))));
-  others = refl;
-}
-
--- so whoever asks the calls alone has these replies
-without-them : (r : Replies Told (without Told asks)) (e : Model) → Run Told Does Looks noSet (without Told asks) r e → others-alone ≡ r
-without-them r e run = sym (computed .others) ∙ no-trace Told Does Looks model Made settles asks noSet noSet (standing (explicitSet two)) e replies r tt tt refl (computed .asked) run .0
+computed = record { figures = refl; wrong = refl; refused = refl; brought-back = refl }

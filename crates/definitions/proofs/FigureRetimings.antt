@@ -8,23 +8,18 @@ use lib.Dec.{eqb}
 use lib.Ieee.{Float, nan, round, neg, add, sub, mul, div, lt, le, eq, toBits, ofBits, isNan}
 use Rattle.gf.specs.Doubles.{_⊗_, within, key, ofKey, isWhole, truncated, isClipNumber, signBit, totalKey}
 use Rattle.definitions.specs.declared.LayerOffset.{LayerOffset}
-use Rattle.definitions.specs.ClipSet.{ClipSet, Model, noSet, standing, nanDefault, beyondLimits, equalStarts, equalKnots, badDefaultMark, activeTimes}
+use Rattle.definitions.specs.ClipSet.{ClipSet, standing, nanDefault, beyondLimits, equalStarts, equalKnots, badDefaultMark, activeTimes}
 use Rattle.definitions.specs.Explicit.{ExplicitFields, explicitSet, explicitNumber, explicit1, explicit2, explicit3}
 use Rattle.definitions.specs.Retime.{movedNumber, apply, isIdentity, moved, sorted, retimeStageTimes, retimeNumber}
 use Rattle.definitions.specs.Value.{valueInSet}
 use Rattle.definitions.specs.Track.{TrackOf}
 use Rattle.definitions.specs.WholeList.{runFrom}
 use Rattle.definitions.specs.Calls.{Call, explicit, retime, bake, step, after}
-use Rattle.definitions.specs.Examining.{emptySet}
 use Rattle.definitions.specs.Retimings.{installed, inTurn, remember, history}
 use Rattle.definitions.proofs.FigureTracks.{falling-track}
-use Rattle.definitions.proofs.Sets.{n, frac, -n, holds, fails, sameTimes, fields, missing, two, one, jumping, falling, falling-samples, by, xs, ys, noRoom}
+use Rattle.definitions.proofs.Sets.{n, frac, -n, holds, fails, sameTimes, fields, missing, two, one, jumping, falling, falling-samples, by, setOf, xs, ys, noRoom}
 
 -- ---- how a figure is written
-
-abbrev setOf : Model → ClipSet
-setOf noSet = emptySet
-setOf (standing set) = set
 
 -- what stands after an acceptance and the retimings
 abbrev retimings : List LayerOffset → List Call

@@ -28,7 +28,6 @@ use Rattle.definitions.specs.StageSamples.{dropEqual, dedup, stageSample
 use Rattle.definitions.specs.Normalize.{timeSamples, merge, mergeEqual, normalizeTimeSamples, normalizeNumber}
 use Rattle.definitions.specs.Track.{bakeNumber}
 use Rattle.definitions.specs.Questions.{numberOf, askActiveClip, askClipTime, askValue, askStageSampleTimes, askStageSamples, askStageSampleCount, askUntimed, clipTimesNumber, reply, ofSet, stageTimeNumber, roomNumber, askClipTimes}
-use Rattle.definitions.specs.Examining.{Fields, explicitly, byTemplate, examine}
 use Rattle.definitions.specs.Numbers.{GivenByNone, TwentyOneIsGone}
 use Rattle.definitions.proofs.Sets.{n, frac, bytes, holds, fields, templated, two, by}
 
@@ -306,17 +305,11 @@ normalising-is times values marks room =
     (by-if 9 (badMarks marks) refl
     (room-is room (length (normalizeTimeSamples (timeSamples times values marks))))))
 
-examining-is : (f : Fields) → examine f .number ≡ 21 → ⊥
-unfolding examine
-examining-is (explicitly f) = explicit-is f
-examining-is (byTemplate f) = template-is f
-
 pub twenty-one-is-gone : TwentyOneIsGone
 unfolding askActiveClip askClipTime askValue askUntimed askStageSampleTimes askStageSamples askStageSampleCount askClipTimes
 twenty-one-is-gone = record {
   explicit = explicit-is;
   template = template-is;
-  examining = examining-is;
   retiming = retiming-is;
   active-clip = λ m t. by-set m (λ set. stageTimeNumber t) (λ set. activeClip set t) (λ set. time-is t);
   clip-time = λ m t. by-set m (λ set. stageTimeNumber t) (λ set. mapStageToClip (set .knots) t) (λ set. time-is t);

@@ -14,7 +14,7 @@ use Rattle.definitions.specs.declared.LayerOffset.{LayerOffset}
 use Rattle.definitions.specs.declared.Answer.{Answer}
 use Rattle.definitions.specs.Lists.{all}
 use Rattle.definitions.specs.declared.Default.{Default}
-use Rattle.definitions.specs.ClipSet.{ClipSet, stage, clip, markNone, knotTimes}
+use Rattle.definitions.specs.ClipSet.{ClipSet, Model, noSet, standing, stage, clip, markNone, knotTimes}
 use Rattle.definitions.specs.Explicit.{ExplicitFields, explicitSet}
 use Rattle.definitions.specs.Names.{name}
 use Rattle.definitions.specs.Template.{TemplateFields, templateSet}
@@ -22,6 +22,7 @@ use Rattle.definitions.specs.Timing.{mapStageToClip}
 use Rattle.definitions.specs.Samples.{Samples}
 use Rattle.definitions.specs.Value.{valueInSet}
 use Rattle.definitions.specs.Track.{markOf, slotOf, Outputs}
+use Rattle.definitions.specs.Examining.{emptySet}
 
 -- ---- how a figure is written
 
@@ -168,6 +169,11 @@ one-samples = numbers (n 0 ∷ n 5 ∷ n 10 ∷ []) (n 1 ∷ n 2 ∷ n 3 ∷ [])
 
 abbrev pub by : Float → Float → LayerOffset
 by offset scale = record { offset = offset; scale = scale }
+
+-- what stands, the empty set where none does
+abbrev pub setOf : Model → ClipSet
+setOf noSet = emptySet
+setOf (standing set) = set
 
 abbrev pub xs : ClipSet → List Float
 xs set = knotTimes (set .knots)

@@ -5,20 +5,25 @@ use mathlib.Core.Path.{_≡_, refl, sym, ap, _∙_}
 use mathlib.Core.List.{[], _∷_}
 use Rattle.definitions.specs.ClipSet.{ClipSet, Model, noSet, standing}
 use Rattle.definitions.specs.Calls.{install, accepted, step}
-use Rattle.definitions.specs.Examining.{Fields, explicitly, byTemplate, emptySet, fieldsNumber, fieldsSet, Examined, examine, InARow, AsPrepared}
+use Rattle.definitions.specs.Examining.{Fields, explicitly, byTemplate, fieldsNumber, fieldsSet, Examined, examine, InARow, AsPrepared}
 use Rattle.definitions.specs.Traces.{call, examining, NoTrace}
 use Rattle.definitions.proofs.WholeList.{run-next}
 
 -- ---- acceptance
 
-in-a-row-by : (n : ℕ) (m : Model) (set : ClipSet) → accepted n m (standing set) ≡ accepted n m (standing (accepted n emptySet set))
-in-a-row-by zero m set = refl
-in-a-row-by (suc n) m set = refl
+-- what is handed back where no number applies
+handed-over : (f : Fields) → fieldsNumber f ≡ 0 → fieldsSet f ≡ examine f .set
+unfolding examine
+handed-over f z = cc
+
+in-a-row-by : (n : ℕ) (m : Model) (set handed : ClipSet) → (n ≡ 0 → set ≡ handed) → accepted n m (standing set) ≡ accepted n m (standing handed)
+in-a-row-by zero m set handed h = ap standing (h refl)
+in-a-row-by (suc n) m set handed h = refl
 
 pub in-a-row : InARow
 unfolding step examine
-in-a-row m (explicitly f) = in-a-row-by (fieldsNumber (explicitly f)) m (fieldsSet (explicitly f))
-in-a-row m (byTemplate f) = in-a-row-by (fieldsNumber (byTemplate f)) m (fieldsSet (byTemplate f))
+in-a-row m (explicitly f) = in-a-row-by (fieldsNumber (explicitly f)) m (fieldsSet (explicitly f)) (examine (explicitly f) .set) (handed-over (explicitly f))
+in-a-row m (byTemplate f) = in-a-row-by (fieldsNumber (byTemplate f)) m (fieldsSet (byTemplate f)) (examine (byTemplate f) .set) (handed-over (byTemplate f))
 
 pub as-prepared : AsPrepared
 unfolding step

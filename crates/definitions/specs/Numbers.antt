@@ -18,13 +18,11 @@ use Rattle.definitions.specs.Normalize.{normalizeNumber}
 use Rattle.definitions.specs.Track.{bakeNumber}
 use Rattle.definitions.specs.Questions.{Reply, numberOf, askActiveClip, askClipTime, askValue, askUntimed, askStageSampleTimes, askStageSamples, askStageSampleCount, askClipTimes}
 use Rattle.definitions.specs.Calls.{CountsChanges}
-use Rattle.definitions.specs.Examining.{Fields, examine}
 
--- each operation of the table, in its order
+-- each operation of the table, in its order; an examining has its acceptance's
 pub record GivenByNone (n : ℕ) : Type 0 where
   pub explicit : (f : ExplicitFields) → explicitNumber f ≡ n → ⊥
   pub template : (f : TemplateFields) → templateNumber f ≡ n → ⊥
-  pub examining : (f : Fields) → examine f .number ≡ n → ⊥
   pub retiming : (m : Model) (o : LayerOffset) → retimeNumber m o ≡ n → ⊥
   pub active-clip : (m : Model) (t : StageTime) → numberOf (askActiveClip m t) ≡ n → ⊥
   pub clip-time : (m : Model) (t : StageTime) → numberOf (askClipTime m t) ≡ n → ⊥

@@ -3,7 +3,7 @@ use Prim.Native.Nat.{ℕ, zero, suc, min}
 use mathlib.Core.Path.{_≡_, refl, sym, ap, _∙_}
 use mathlib.Core.List.{List}
 use lib.ListN.{length}
-use Rattle.definitions.specs.Examining.{Examined}
+use Rattle.definitions.specs.Examining.{Fields, explicitly, byTemplate, Examined, examine}
 use Rattle.definitions.specs.Questions.{Reply, refused, replied, reply, numberOf, askStageSampleTimes, askStageSamples, askStageSampleCount, askClipTimes}
 use Rattle.definitions.specs.Track.{slots, bakeNumber}
 use Rattle.definitions.specs.Calls.{Baked as Told, bakedOf}
@@ -76,11 +76,17 @@ bake-number (suc n) b = refl
 abbrev number-of : Counted → ℕ
 number-of r = r .number
 
+-- an examining's number is its acceptance's
+examining-is : (n : ℕ) → GivenByNone n → (f : Fields) → examine f .number ≡ n → ⊥
+unfolding examine
+examining-is n g (explicitly f) = g .explicit f
+examining-is n g (byTemplate f) = g .template f
+
 pub replied-by-none : (n : ℕ) → GivenByNone n → RepliedByNone n
 replied-by-none n g = record {
   accept = λ d f r p e. g .explicit f (sym (p .number) ∙ e);
   accept-template = λ d f r p e. g .template f (sym (p .number) ∙ e);
-  examine = λ f r p e. g .examining f (sym (ap (λ (x : Examined). x .number) (p .reply)) ∙ e);
+  examine = λ f r p e. examining-is n g f (sym (ap (λ (x : Examined). x .number) (p .reply)) ∙ e);
   retime = λ d o r p e. g .retiming (model d) o (sym (p .number) ∙ e);
   active-clip = λ d t r p e. g .active-clip (model d) t (sym (ap numberOf (p .told)) ∙ clip-number (p .reply) ∙ sym (ap (λ (c : ClipCode). c .number) (p .code)) ∙ e);
   clip-time = λ d t r p e. g .clip-time (model d) t (sym (ap numberOf (p .told)) ∙ time-number (p .reply) ∙ sym (ap (λ (c : TimeCode). c .number) (p .code)) ∙ e);
