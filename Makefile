@@ -1,6 +1,6 @@
 # Builds, installs and tests the library.
 #
-#   make                                target/lib: libtavitrozy.a, libtavitrozy.so.0.5.0 with its links, tavitrozy.pc
+#   make                                target/lib: libtavitrozy.a, libtavitrozy.so.0.6.0 with its links, tavitrozy.pc
 #   make install PREFIX=.. [DESTDIR=..] header, libraries, pkg-config file, licence and documents
 #   make uninstall PREFIX=.. [DESTDIR=..]
 #   make examples                       target/examples: the C and C++ programs of examples/
@@ -8,8 +8,9 @@
 #
 # The first build proves the library (needs rt, the Rattle toolchain). With TAVITROZY_ARCHIVE=path that archive is taken instead.
 
-VERSION = 0.5.0
-SOVERSION = 0
+VERSION = 0.6.0
+# Before 1.0 a minor version may change a struct, so a program loads its own alone.
+SOVERSION = $(basename $(VERSION))
 PREFIX ?= /usr/local
 LIBDIR ?= $(PREFIX)/lib
 INCLUDEDIR ?= $(PREFIX)/include
@@ -53,7 +54,7 @@ $(static): $(archive) force
 
 # ---- what is made of it
 
-$(shared): $(static) packaging/tavitrozy.map
+$(shared): $(static) packaging/tavitrozy.map Makefile
 	@$(CC) -shared -o $@ -Wl,-soname,$(soname) -Wl,--version-script=packaging/tavitrozy.map -Wl,-z,defs -Wl,-z,relro -Wl,-z,now -Wl,-z,noexecstack \
 	  -Wl,--whole-archive $(static) -Wl,--no-whole-archive $(LDFLAGS)
 	@echo "$@"

@@ -1,5 +1,5 @@
-/* Draws a clip set and its track as an SVG. Above, values over stage time: the track as thick steps, blocks as hatched gaps, the samples of the active clip as
- * faint dots. Below, clip time over stage time: the knots as a thin line, and a tick at each start.
+/* Draws a clip set and its track as an SVG. Above, values over stage time: the track as thick steps, each piece in the colour of the clip that it was read from,
+ * blocks as hatched gaps, the samples of the active clip as faint dots. Below, clip time over stage time: the knots as a thin line, and a tick at each start.
  * Usage: figure held|falling|blocked, the figures of docs/READING-A-TRACK.md. */
 #include <math.h>
 #include <stdio.h>
@@ -7,11 +7,11 @@
 #include <string.h>
 #include "tavitrozy.h"
 
-enum { SLOTS = 16 };
+enum { SLOTS = 16, STARTS = 4 };
 
 typedef struct {
   const char *name, *title;
-  size_t starts; double start[4], number[4];
+  size_t starts; double start[STARTS], number[STARTS];
   size_t knots; double x[4], y[4];
   size_t samples; double time[8], value[8]; uint8_t mark[8];
   size_t clips; uint64_t end[4];
@@ -27,13 +27,19 @@ static const figure figures[] = {
    3, {0, 10, 20}, {0, 1, 2}, 0, {0}, {0}, 2, {0, 20}, {1, 3}, {0, 0}, 3, {1, 1, 2}, -5, 30, 0, 30, 5, 10},
 };
 
+#define SAMPLES(F) (F)->time, (F)->samples, (F)->value, (F)->samples, (F)->mark, (F)->samples, (F)->end, (F)->clips
+
 typedef struct { tavitrozy_entry head; double times[SLOTS], values[SLOTS]; uint8_t marks[SLOTS]; size_t count; } track;
+/* A piece of the track's line: of one step (0 is the head, i the i-th change) and read from one clip, or from none. */
+typedef struct { double from, to; size_t step; tavitrozy_value_reply read; } piece;
+typedef struct { piece items[SLOTS + STARTS + 1]; size_t count; } pieces;
 
 /* ---- where things lie */
 
 static const double left = 70, right = 700, top = 78, bottom = 238, clip_top = 268, clip_bottom = 368;
 static const double highest_value = 3.6, character = 6.4;
-static const char ink[] = "#1b4f9c", faint[] = "#9a9a9a", grid[] = "#e4e4e4";
+static const char ink[] = "#444", faint[] = "#9a9a9a", grid[] = "#e4e4e4", neutral[] = "#6b6b6b";
+static const char *const palette[] = {"#1b4f9c", "#c2410c", "#0f7b4f", "#8b3fa0"};
 
 static double across(const figure *f, double t) { return left + (t - f->from) / (f->to - f->from) * (right - left); }
 static double up(double value) { return bottom - value / highest_value * (bottom - top); }
@@ -141,26 +147,68 @@ static void draw_samples(const figure *f, const tavitrozy_resolver *set) {
     for (; sample < f->end[clip]; sample++) draw_sample_everywhere(f, set, clip, sample);
 }
 
+/* ---- the track cut into pieces, each read from one clip */
+
+static tavitrozy_value_reply value_at(const figure *f, const tavitrozy_resolver *set, double t) {
+  const tavitrozy_at_stage at = {t};
+  return tavitrozy_value(set, SAMPLES(f), at);
+}
+
+/* A piece that goes on where the last one ends, on the same step and from the same clip, makes that one longer. */
+static void add_piece(pieces *all, piece p) {
+  piece *last = all->count ? &all->items[all->count - 1] : NULL;
+  if (last && last->step == p.step && last->read.sampled == p.read.sampled && last->read.clip == p.read.clip) last->to = p.to;
+  else all->items[all->count++] = p;
+}
+
+/* From a start up to the next a number is read from one clip only; but where two clips have alike values the track has no change between them. So it is cut
+ * at the changes and at the starts, and what was read is asked for where each piece begins. */
+static void cut(const figure *f, const tavitrozy_resolver *set, const track *t, pieces *all) {
+  double from = f->from, to;
+  for (size_t change = 0, start = 0; from < f->to; from = to) {
+    const double next_change = change < t->count ? t->times[change] : f->to;
+    const double next_start = start < set->shape.counts.starts ? set->starts[start] : f->to;
+    to = fmin(next_change, next_start);
+    add_piece(all, (piece){from, to, change, value_at(f, set, from)});
+    change += next_change == to, start += next_start == to;
+  }
+}
+
 /* ---- the track, in front */
 
-static double begin_of(const figure *f, const track *t, size_t step) { return step ? t->times[step - 1] : f->from; }
-static double end_of(const figure *f, const track *t, size_t step) { return step < t->count ? t->times[step] : f->to; }
+static tavitrozy_entry entry_of(const track *t, size_t step) {
+  return step ? (tavitrozy_entry){t->values[step - 1], t->marks[step - 1]} : t->head;
+}
 
-/* Step 0 is the head, step i the i-th change. */
-static void draw_step(const figure *f, const track *t, size_t step) {
-  const double from = across(f, begin_of(f, t, step)), to = across(f, end_of(f, t, step));
-  const double value = step ? t->values[step - 1] : t->head.value;
+/* By the clip's number; the default is no clip's. */
+static const char *colour_of(const piece *p) { return p->read.sampled ? palette[p->read.clip % (sizeof palette / sizeof *palette)] : neutral; }
+
+static void draw_label(const figure *f, const piece *p, double value) {
+  const char *head = p->from == f->from ? "head: " : "";
   char words[64];
-  if ((step ? t->marks[step - 1] : t->head.mark) == TAVITROZY_VALUE) {
-    line(from, up(value), to, up(value), ink, " stroke-width=\"4\"");
-    if (step) dot(from, up(value), 4, ink);
-    snprintf(words, sizeof words, step ? "%s" : "head: %s", digits(value));
-    text(from + 8, up(value) - 8, ink, " font-weight=\"bold\"", words);
-  } else {
-    printf("<rect x=\"%.1f\" y=\"%.1f\" width=\"%.1f\" height=\"%.1f\" fill=\"url(#hatch)\"/>\n", from, top, to - from, bottom - top);
-    printf("<rect x=\"%.1f\" y=\"%.1f\" width=\"92\" height=\"18\" fill=\"white\"/>\n", (from + to) / 2 - 46, bottom - 26);
-    text((from + to) / 2, bottom - 13, ink, " font-weight=\"bold\" text-anchor=\"middle\"", "block: no value");
-  }
+  if (p->read.sampled) snprintf(words, sizeof words, "%s%s, clip %llu", head, digits(value), (unsigned long long)p->read.clip);
+  else snprintf(words, sizeof words, "%s%s, default", head, digits(value));
+  text(across(f, p->from) + 8, up(value) - 8, colour_of(p), " font-weight=\"bold\"", words);
+}
+
+static void draw_value(const figure *f, const track *t, const piece *p, double value) {
+  const double from = across(f, p->from), to = across(f, p->to);
+  line(from, up(value), to, up(value), colour_of(p), " stroke-width=\"4\"");
+  if (p->step && p->from == t->times[p->step - 1]) dot(from, up(value), 4, colour_of(p));
+  draw_label(f, p, value);
+}
+
+static void draw_block(const figure *f, const piece *p) {
+  const double from = across(f, p->from), to = across(f, p->to);
+  printf("<rect x=\"%.1f\" y=\"%.1f\" width=\"%.1f\" height=\"%.1f\" fill=\"url(#hatch)\"/>\n", from, top, to - from, bottom - top);
+  printf("<rect x=\"%.1f\" y=\"%.1f\" width=\"92\" height=\"18\" fill=\"white\"/>\n", (from + to) / 2 - 46, bottom - 26);
+  text((from + to) / 2, bottom - 13, ink, " font-weight=\"bold\" text-anchor=\"middle\"", "block: no value");
+}
+
+static void draw_piece(const figure *f, const track *t, const piece *p) {
+  const tavitrozy_entry entry = entry_of(t, p->step);
+  if (entry.mark == TAVITROZY_VALUE) draw_value(f, t, p, entry.value);
+  else draw_block(f, p);
 }
 
 /* The time of each change above its line, in a second row where it would run into the one before. */
@@ -179,12 +227,15 @@ static void draw_change_times(const figure *f, const track *t) {
 
 static void legend(void) {
   const double y = 34;
-  line(left, y, left + 24, y, ink, " stroke-width=\"4\"");
-  text(left + 30, y + 4, "#222", "", "track, with the times of its changes");
-  dot(left + 262, y, 6, "#c2c2c2");
-  text(left + 272, y + 4, "#222", "", "sample of the active clip");
-  line(left + 430, y, left + 454, y, faint, " stroke-width=\"1.5\"");
-  text(left + 460, y + 4, "#222", "", "clip time");
+  line(left, y, left + 12, y, palette[0], " stroke-width=\"4\"");
+  line(left + 12, y, left + 24, y, palette[1], " stroke-width=\"4\"");
+  text(left + 30, y + 4, "#222", "", "track, coloured by the clip that was read");
+  line(left + 268, y, left + 292, y, ink, " stroke-dasharray=\"3 3\"");
+  text(left + 298, y + 4, "#222", "", "change");
+  dot(left + 358, y, 6, "#c2c2c2");
+  text(left + 368, y + 4, "#222", "", "sample of the active clip");
+  line(left + 522, y, left + 546, y, faint, " stroke-width=\"1.5\"");
+  text(left + 552, y + 4, "#222", "", "clip time");
 }
 
 /* ---- */
@@ -194,8 +245,7 @@ static uint8_t bake(const figure *f, tavitrozy_resolver *set, track *t) {
   tavitrozy_fresh(set);
   uint8_t number = tavitrozy_accept(set, f->clips, f->start, f->starts, f->number, f->starts, f->x, f->knots, f->y, f->knots, NULL, 0, none, false);
   if (number) return number;
-  tavitrozy_baked b = tavitrozy_bake(set, f->time, f->samples, f->value, f->samples, f->mark, f->samples, f->end, f->clips,
-    t->times, SLOTS, t->values, SLOTS, t->marks, SLOTS);
+  tavitrozy_baked b = tavitrozy_bake(set, SAMPLES(f), t->times, SLOTS, t->values, SLOTS, t->marks, SLOTS);
   t->head.mark = b.mark, t->head.value = b.value, t->count = b.count;
   return b.number;
 }
@@ -203,6 +253,7 @@ static uint8_t bake(const figure *f, tavitrozy_resolver *set, track *t) {
 int main(int argc, char **argv) {
   static tavitrozy_resolver set;
   static track t;
+  static pieces all;
   const figure *f = NULL;
   for (size_t i = 0; i < sizeof figures / sizeof *figures; i++)
     if (argc == 2 && !strcmp(argv[1], figures[i].name)) f = &figures[i];
@@ -211,7 +262,8 @@ int main(int argc, char **argv) {
   if (number) return fprintf(stderr, "refused with %d\n", number), 1;
   frame(f), legend(), axes(f);
   draw_knots(f, &set), draw_starts(f, &set), draw_samples(f, &set);
-  for (size_t step = 0; step <= t.count; step++) draw_step(f, &t, step);
+  cut(f, &set, &t, &all);
+  for (size_t i = 0; i < all.count; i++) draw_piece(f, &t, &all.items[i]);
   draw_change_times(f, &t);
   printf("</svg>\n");
   return 0;

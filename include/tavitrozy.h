@@ -1,4 +1,4 @@
-/* Tavitrozy: OpenUSD value clips resolved and baked, exactly. Version 0.5.0, for x86-64 Linux.
+/* Tavitrozy: OpenUSD value clips resolved and baked, exactly. Version 0.6.0, for x86-64 Linux.
  *
  * A resolver holds one clip set, or none. It answers what an attribute is at a stage time, and bakes the whole answer into a track: a head, and every
  * change at the very double where the value changes. docs/VALUE-CLIPS.md (share/doc/tavitrozy where installed) says what every call answers. Words used here:
@@ -51,9 +51,9 @@
 /* ---- version */
 
 #define TAVITROZY_VERSION_MAJOR 0
-#define TAVITROZY_VERSION_MINOR 5
+#define TAVITROZY_VERSION_MINOR 6
 #define TAVITROZY_VERSION_PATCH 0
-#define TAVITROZY_VERSION "0.5.0"
+#define TAVITROZY_VERSION "0.6.0"
 
 /* ---- refusals. Where several apply the first in the order given at the call is told. */
 
@@ -170,8 +170,11 @@ typedef struct {
 typedef struct { uint8_t number; bool found; uint64_t clip; } tavitrozy_clip_reply;
 typedef struct { uint8_t number; tavitrozy_at_clip time; } tavitrozy_time_reply;
 /* mark TAVITROZY_VALUE: the value, with the bits that it was lent with, -0.0 as -0.0; TAVITROZY_BLOCK: blocked; TAVITROZY_NONE: absent (a set without
- * starts). */
-typedef struct { uint8_t number; uint8_t mark; double value; } tavitrozy_value_reply;
+ * starts).
+ * sampled: the value was read from a sample, that of clip `clip` at `place`, counted from 0 at the clip's first sample: in the lent lists it stands at
+ * place + (clip ? ends[clip - 1] : 0). The manifest default, a blocked answer (a block that was read, too) and an absent one have none: sampled is false,
+ * clip and place are 0. */
+typedef struct { uint8_t number; uint8_t mark; bool sampled; double value; uint64_t clip; uint64_t place; } tavitrozy_value_reply;
 typedef struct { uint8_t number; uint8_t state; } tavitrozy_untimed_reply;
 typedef struct { uint8_t number; size_t count; } tavitrozy_counted;
 /* The head (mark and value, zero as 0.0) of a baked track, and how many changes were written. */
@@ -345,7 +348,8 @@ static inline tavitrozy_time_reply tavitrozy_clip_time(const tavitrozy_resolver 
   return tavitrozy_lent_clip_time(TAVITROZY_LENT(resolver), time);
 }
 
-/* 20, 1, 2, 9, 10: the value at a stage time. */
+/* 20, 1, 2, 9, 10: the value at a stage time, and the sample that it was read from. A missing value that was found at another start has that start's clip;
+ * one that is held has what was read where it is held from. */
 static inline tavitrozy_value_reply tavitrozy_value(const tavitrozy_resolver *TAVITROZY_RESTRICT resolver,
   const double *TAVITROZY_RESTRICT times, size_t times_len, const double *TAVITROZY_RESTRICT values, size_t values_len,
   const uint8_t *TAVITROZY_RESTRICT marks, size_t marks_len, const uint64_t *TAVITROZY_RESTRICT ends, size_t ends_len, tavitrozy_at_stage time) {

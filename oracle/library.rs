@@ -1,10 +1,13 @@
 //! The case text answered through the library and its Rust crate, for the comparison with the Rust: the C boundary is
 //! tested too. Where the crate has a call that makes its lists itself, that one must say the same. What is
-//! accepted is examined too: the two must have one number, and the prepared set must be the one that stands.
+//! accepted is examined too: the two must have one number, and the prepared set must be the one that stands. Where a sample is
+//! asked for, the C reply is looked at as well.
 #![allow(dead_code)]
 
 #[path = "src/calls.rs"]
 mod calls;
+#[path = "../bindings/rust/src/ffi.rs"]
+mod ffi;
 #[path = "src/text.rs"]
 mod text;
 
@@ -13,7 +16,7 @@ use std::io::{self, BufRead, Write};
 use calls::{Call, Fields, PREPARED};
 use tavitrozy::{
     Answer, ClipTime, Explicit, Fallback, LayerOffset, Prepared, Refusal, Resolver, Samples, StageTime, StandingSet,
-    State, Supplied, Template, TemplateTimes, Track,
+    State, Supplied, Template, TemplateTimes, Track, ValueRead, limit, mark,
 };
 use text::{Line, Words};
 
@@ -88,6 +91,77 @@ fn same_set(one: &StandingSet<'_>, other: &StandingSet<'_>) -> bool {
     (one.clips, one.start_clips) == (other.clips, other.start_clips)
         && manifest(one) == manifest(other)
         && lists(one) == lists(other)
+}
+
+/// What is lent where no set stands.
+const NO_SET: StandingSet<'static> = StandingSet {
+    clips: 0,
+    start_times: &[],
+    start_clips: &[],
+    knot_xs: &[],
+    knot_ys: &[],
+    blocks: &[],
+    fallback: Fallback::None,
+    interpolate: false,
+};
+
+/// A list at the front of one of full length.
+fn lent<T: Copy + Default, const LENGTH: usize>(list: &[T]) -> [T; LENGTH] {
+    let mut full = [T::default(); LENGTH];
+    full[..list.len()].copy_from_slice(list);
+    full
+}
+
+/// What stands, as the C library is lent it.
+fn lent_set(standing: Option<StandingSet<'_>>) -> (ffi::Shape, ffi::Lists) {
+    let set = standing.unwrap_or(NO_SET);
+    let (mark, value) = match set.fallback {
+        Fallback::Value(value) => (mark::VALUE, value),
+        Fallback::Block => (mark::BLOCK, 0.0),
+        Fallback::None => (mark::NONE, 0.0),
+    };
+    let counts = ffi::Counts { starts: set.start_times.len(), knots: set.knot_xs.len(), blocks: set.blocks.len() };
+    let manifest = ffi::Manifest { fallback: ffi::Marked { mark, value }, interpolate: set.interpolate };
+    let lists = ffi::Lists {
+        starts: lent(set.start_times),
+        numbers: lent(set.start_clips),
+        xs: lent(set.knot_xs),
+        ys: lent(set.knot_ys),
+        blocks: lent(set.blocks),
+    };
+    (ffi::Shape { stands: standing.is_some(), clips: set.clips, counts, manifest }, lists)
+}
+
+/// The C library's own reply, of which the crate hands on what counts.
+#[rustfmt::skip]
+fn c_reply(standing: Option<StandingSet<'_>>, samples: &Samples<'_>, StageTime(value): StageTime) -> ffi::ValueReply {
+    let (shape, lists) = lent_set(standing);
+    let Samples { times, values, marks, ends } = *samples;
+    // SAFETY: each pointer comes with its own list's length, and the lists are only read; the set is one that a call of the
+    // library made.
+    unsafe {
+        ffi::tavitrozy_lent_value(
+            shape, lists.starts.as_ptr(), lists.starts.len(), lists.numbers.as_ptr(), lists.numbers.len(),
+            lists.xs.as_ptr(), lists.xs.len(), lists.ys.as_ptr(), lists.ys.len(), lists.blocks.as_ptr(), lists.blocks.len(),
+            times.as_ptr(), times.len(), values.as_ptr(), values.len(), marks.as_ptr(), marks.len(), ends.as_ptr(), ends.len(),
+            ffi::AtStage { value },
+        )
+    }
+}
+
+/// All fields of a C reply: number, mark, value, whether there is a sample, its clip and place.
+type ReplyBits = (u8, u8, u64, bool, u64, u64);
+
+/// The C reply as the crate's says that it must be: all is 0 beside a number, clip and place where there is no sample.
+fn reply_bits(read: &Result<ValueRead, Refusal>) -> ReplyBits {
+    match read {
+        Err(refusal) => (refusal.number(), 0, 0, false, 0, 0),
+        Ok(ValueRead { value, sample }) => {
+            let (mark, value) = value.marked();
+            let (clip, place) = sample.map_or((0, 0), |sample| (sample.clip, sample.place));
+            (0, mark, value.to_bits(), sample.is_some(), clip, place)
+        }
+    }
 }
 
 /// A track to the bit: the head's mark and value, the times, values and marks of the changes.
@@ -168,6 +242,7 @@ impl Desk {
                 let answer = self.resolver.value(&self.samples(), StageTime(*t))?;
                 write_answer(out.word("value"), answer);
             }
+            Call::Read(t) => self.read(StageTime(*t), out)?,
             Call::Times(slots) => self.times(*slots as usize, out)?,
             Call::StageSamples(slots) => self.stage_samples(*slots as usize, out)?,
             Call::Untimed => {
@@ -217,6 +292,18 @@ impl Desk {
             }
             None => _ = out.word("empty"),
         }
+    }
+
+    fn read(&self, time: StageTime, out: &mut Line) -> Answered {
+        let samples = self.samples();
+        let read = self.resolver.value_read(&samples, time);
+        let reply = c_reply(self.resolver.standing(), &samples, time);
+        let told = (reply.number, reply.mark, reply.value.to_bits(), reply.sampled, reply.clip, reply.place);
+        assert_eq!(told, reply_bits(&read), "the C reply, to the bit");
+        let ValueRead { value, sample } = read?;
+        write_answer(out.word("read"), value);
+        out.sample(sample.map(|sample| (sample.clip, sample.place)));
+        Ok(())
     }
 
     fn times(&self, slots: usize, out: &mut Line) -> Answered {

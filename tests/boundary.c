@@ -1,5 +1,5 @@
 /* The library as a C program meets it: the worked figures, zeros, retimings in a row, every refusal number that is given, NULL and the limits, what a refused
- * call leaves, sets that are examined and installed, the odd readings, and the keys of the total order.
+ * call leaves, the samples that values were read from, sets that are examined and installed, the odd readings, and the keys of the total order.
  * It is built as C11 and as C++17, so it keeps to what both have. Prints what is not so; status 1 if anything is not. */
 #include <fenv.h>
 #include <math.h>
@@ -261,6 +261,149 @@ static void baked_after_two(void) {
   CHECK(b.number == 0 && b.value == 3 && b.count == 1 && t.times[0] == -200 && t.values[0] == 2);
 }
 
+/* ---- the sample that a value was read from */
+
+static bool read_from(tavitrozy_value_reply v, double value, uint64_t clip, uint64_t place) {
+  return v.number == 0 && v.mark == TAVITROZY_VALUE && same_bits(v.value, value) && v.sampled && v.clip == clip && v.place == place;
+}
+static bool of_no_sample(tavitrozy_value_reply v, uint8_t mark, double value) {
+  return v.number == 0 && v.mark == mark && same_bits(v.value, value) && !v.sampled && v.clip == 0 && v.place == 0;
+}
+
+/* A place counts from the clip's first sample, and a sample has its own where another says the same. */
+static void places(void) {
+  const double starts[] = {0, 10}, numbers[] = {0, 1};
+  static samples s;
+  tavitrozy_resolver r;
+  tavitrozy_fresh(&r);
+  add(&s, 0, 1), add(&s, 5, -0.0), end_clip(&s), add(&s, 10, 1), add(&s, 15, 1), end_clip(&s);
+  CHECK(accept(&r, 2, starts, numbers, 2, NULL, NULL, 0) == 0 && s.ends[0] == 2 && s.ends[1] == 4);
+  CHECK(read_from(tavitrozy_value(&r, LENT(&s), at(-1e300)), 1, 0, 0) && read_from(tavitrozy_value(&r, LENT(&s), at(0)), 1, 0, 0));
+  CHECK(read_from(tavitrozy_value(&r, LENT(&s), at(5)), -0.0, 0, 1) && read_from(tavitrozy_value(&r, LENT(&s), at(9.5)), -0.0, 0, 1));
+  CHECK(read_from(tavitrozy_value(&r, LENT(&s), at(10)), 1, 1, 0) && read_from(tavitrozy_value(&r, LENT(&s), at(14)), 1, 1, 0));
+  CHECK(read_from(tavitrozy_value(&r, LENT(&s), at(15)), 1, 1, 1) && read_from(tavitrozy_value(&r, LENT(&s), at(1e300)), 1, 1, 1));
+}
+
+/* The clip is the clip's number, and no start's place. */
+static void clip_and_not_start(void) {
+  const double starts[] = {0, 10}, threes[] = {3, 3};
+  static samples s;
+  tavitrozy_resolver r;
+  tavitrozy_fresh(&r);
+  add(&s, 0, 7), end_clip(&s), end_clip(&s), add(&s, 0, 8), end_clip(&s), add(&s, 0, 1), add(&s, 12, 2), end_clip(&s);
+  CHECK(accept(&r, 4, starts, threes, 2, NULL, NULL, 0) == 0);
+  CHECK(read_from(tavitrozy_value(&r, LENT(&s), at(5)), 1, 3, 0) && read_from(tavitrozy_value(&r, LENT(&s), at(10)), 1, 3, 0));
+  CHECK(read_from(tavitrozy_value(&r, LENT(&s), at(12)), 2, 3, 1));
+}
+
+/* Starts 0, 10 of clip 0; the second one is blocked by the manifest: clip 0 is read for the first. */
+static void read_at_another_start(void) {
+  const double starts[] = {0, 10}, numbers[] = {0, 0}, block[] = {10};
+  static samples s;
+  tavitrozy_resolver r;
+  tavitrozy_fresh(&r);
+  add(&s, 0, 1), add(&s, 12, 2), end_clip(&s);
+  CHECK(tavitrozy_accept(&r, 1, starts, 2, numbers, 2, NULL, 0, NULL, 0, block, 1, none, true) == 0);
+  CHECK(read_from(tavitrozy_value(&r, LENT(&s), at(13)), 1, 0, 0));
+  CHECK(tavitrozy_accept(&r, 1, starts, 2, numbers, 2, NULL, 0, NULL, 0, block, 1, none, false) == 0);
+  CHECK(read_from(tavitrozy_value(&r, LENT(&s), at(13)), 2, 0, 1));
+}
+
+/* The middle clip has no samples: the nearest start before, then the nearest after. */
+static void read_for_a_missing_one(void) {
+  const double starts[] = {0, 10, 20}, numbers[] = {0, 1, 2}, block[] = {0};
+  static samples s;
+  tavitrozy_resolver r;
+  tavitrozy_fresh(&r);
+  add(&s, 0, 1), end_clip(&s), end_clip(&s), add(&s, 20, 3), end_clip(&s);
+  CHECK(tavitrozy_accept(&r, 3, starts, 3, numbers, 3, NULL, 0, NULL, 0, NULL, 0, none, true) == 0);
+  CHECK(read_from(tavitrozy_value(&r, LENT(&s), at(15)), 1, 0, 0) && read_from(tavitrozy_value(&r, LENT(&s), at(20)), 3, 2, 0));
+  CHECK(tavitrozy_accept(&r, 3, starts, 3, numbers, 3, NULL, 0, NULL, 0, block, 1, none, true) == 0);
+  CHECK(read_from(tavitrozy_value(&r, LENT(&s), at(15)), 3, 2, 0) && read_from(tavitrozy_value(&r, LENT(&s), at(5)), 3, 2, 0));
+}
+
+/* Held from the lower neighbour, whose clip time is still below the second sample's by rounding; with one start it is read directly. */
+static void read_where_it_is_held_from(void) {
+  const double starts[] = {0, 1000}, numbers[] = {0, 0}, xs[] = {0, 3}, ys[] = {2, 10};
+  static samples s;
+  tavitrozy_resolver r;
+  tavitrozy_fresh(&r);
+  add(&s, 2, 1), add(&s, 7.6, 2), end_clip(&s);
+  CHECK(accept(&r, 1, starts, numbers, 2, xs, ys, 2) == 0);
+  CHECK(read_from(tavitrozy_value(&r, LENT(&s), at(2.5)), 1, 0, 0) && read_from(tavitrozy_value(&r, LENT(&s), at(3)), 2, 0, 1));
+  CHECK(accept(&r, 1, starts, numbers, 1, xs, ys, 2) == 0);
+  CHECK(read_from(tavitrozy_value(&r, LENT(&s), at(2.5)), 2, 0, 1));
+}
+
+/* Clip 0 has 7.0 and then a block, clip 1 nothing; the default is 7.0 or none. */
+static void read_from_no_sample(void) {
+  const double starts[] = {0, 10}, numbers[] = {0, 1}, block[] = {0};
+  static samples s;
+  tavitrozy_resolver r;
+  tavitrozy_fresh(&r);
+  add(&s, 0, 7), add(&s, 5, 7), end_clip(&s), end_clip(&s);
+  s.marks[1] = TAVITROZY_BLOCK;
+  CHECK(tavitrozy_accept(&r, 2, starts, 2, numbers, 2, NULL, 0, NULL, 0, NULL, 0, value_default(7), false) == 0);
+  CHECK(read_from(tavitrozy_value(&r, LENT(&s), at(0)), 7, 0, 0)); /* the number is the default's, and was read */
+  CHECK(of_no_sample(tavitrozy_value(&r, LENT(&s), at(5)), TAVITROZY_BLOCK, 0) && of_no_sample(tavitrozy_value(&r, LENT(&s), at(10)), TAVITROZY_VALUE, 7));
+  CHECK(accept(&r, 2, starts, numbers, 2, NULL, NULL, 0) == 0); /* no default: blocked, and nothing was read */
+  CHECK(of_no_sample(tavitrozy_value(&r, LENT(&s), at(10)), TAVITROZY_BLOCK, 0));
+  /* looked for at the first start: its 7.0; a block there; nothing, where both have none */
+  CHECK(tavitrozy_accept(&r, 2, starts, 2, numbers, 2, NULL, 0, NULL, 0, NULL, 0, none, true) == 0);
+  CHECK(read_from(tavitrozy_value(&r, LENT(&s), at(10)), 7, 0, 0));
+  s.marks[0] = TAVITROZY_BLOCK;
+  CHECK(of_no_sample(tavitrozy_value(&r, LENT(&s), at(10)), TAVITROZY_BLOCK, 0));
+  CHECK(tavitrozy_accept(&r, 2, starts, 2, numbers, 2, NULL, 0, NULL, 0, block, 1, none, true) == 0);
+  CHECK(of_no_sample(tavitrozy_value(&r, LENT(&s), at(10)), TAVITROZY_BLOCK, 0) && of_no_sample(tavitrozy_value(&r, LENT(&s), at(0)), TAVITROZY_BLOCK, 0));
+  CHECK(accept(&r, 2, NULL, NULL, 0, NULL, NULL, 0) == 0);
+  CHECK(of_no_sample(tavitrozy_value(&r, LENT(&s), at(0)), TAVITROZY_NONE, 0));
+}
+
+static uint64_t begin_of(const samples *s, uint64_t clip) { return clip ? s->ends[clip - 1] : 0; }
+
+/* The lent lists say at that place what was answered; and from a start up to the next every number is of one clip, or none is of a sample. */
+static bool as_lent(const samples *s, tavitrozy_value_reply v, tavitrozy_value_reply *of_window) {
+  if (v.number || v.mark != TAVITROZY_VALUE) return v.number == 0 && !v.sampled && v.clip == 0 && v.place == 0;
+  if (of_window->mark != TAVITROZY_VALUE) *of_window = v;
+  if (of_window->sampled != v.sampled || of_window->clip != v.clip) return false;
+  if (!v.sampled) return v.clip == 0 && v.place == 0;
+  const uint64_t place = begin_of(s, v.clip) + v.place;
+  return v.clip < s->clips && place < s->ends[v.clip] && s->marks[place] == TAVITROZY_VALUE && same_bits(s->values[place], v.value);
+}
+
+/* Eight clips, each value once; every third clip has no samples, and every fifth sample is a block. */
+static void eight_clips(samples *s) {
+  for (size_t clip = 0; clip < 8; clip++) {
+    for (size_t i = 0; clip % 3 != 1 && i < clip + 2; i++) {
+      add(s, (double)(5 * i + clip), (double)s->len);
+      if (s->len % 5 == 0) s->marks[s->len - 1] = TAVITROZY_BLOCK;
+    }
+    end_clip(s);
+  }
+}
+
+static void as_the_lists_have_it(void) {
+  const double starts[] = {0, 10, 20, 30, 40, 50, 60, 70, 80, 90}, numbers[] = {3, 0, 1, 2, 2, 7, 4, 5, 6, 1};
+  const double xs[] = {-10, 15, 25, 25, 64, 95}, ys[] = {0, 40, 0, 30, 5, 33}, blocks[] = {20, 50, 0};
+  static samples s;
+  tavitrozy_resolver r;
+  int sampled = 0;
+  tavitrozy_fresh(&r), eight_clips(&s);
+  for (unsigned i = 0; i < 8; i++) { /* with knots or without, interpolate on or off, a default or none */
+    const size_t knots = i & 1 ? 6 : 0;
+    CHECK(tavitrozy_accept(&r, 8, starts, 10, numbers, 10, xs, knots, ys, knots, blocks, 3, i & 4 ? value_default(3) : none, (i & 2) != 0) == 0);
+    for (double start = 0; start < 100; start += 10) {
+      tavitrozy_value_reply of_window = tavitrozy_value(&r, LENT(&s), at(start));
+      for (double t = start > 0 ? start : -20; t < start + 10; t += 0.125) {
+        tavitrozy_value_reply v = tavitrozy_value(&r, LENT(&s), at(t));
+        sampled += v.sampled;
+        if (!as_lent(&s, v, &of_window)) CHECK(as_lent(&s, v, &of_window));
+      }
+    }
+  }
+  CHECK(sampled > 1000);
+}
+
 /* ---- every refusal number that is given, and what it leaves: nothing is written */
 
 /* A resolver and outputs whose bytes a refused call must leave. */
@@ -346,6 +489,10 @@ static void refused_without_set(void) {
   CHECK(refuses(20, tavitrozy_bake(r, NO_SAMPLES, OUT(t, 64)).number));
 }
 
+static bool nothing_beside(uint8_t number, tavitrozy_value_reply v) {
+  return v.number == number && v.mark == 0 && same_bits(v.value, 0.0) && !v.sampled && v.clip == 0 && v.place == 0;
+}
+
 /* Each question that takes samples, refused alike for them. */
 static void refused_for_samples(uint8_t number, const samples *s) {
   const tavitrozy_resolver *r = &here.resolver;
@@ -402,6 +549,23 @@ static void refused_for_room_or_time(void) {
   CHECK(refuses(22, tavitrozy_template_clip_times(stepping(1, 3, 1, 0), false, t->times, 2).number));
 }
 
+/* Each number of the value question, with a set that has a value there. */
+static void refused_values(void) {
+  static samples s;
+  tavitrozy_resolver fresh;
+  tavitrozy_fresh(&fresh), set_up(&s);
+  const tavitrozy_resolver *r = &here.resolver;
+  CHECK(read_from(tavitrozy_value(r, LENT(&s), at(10)), 2, 1, 0));
+  CHECK(nothing_beside(20, tavitrozy_value(&fresh, LENT(&s), at(10))));
+  CHECK(nothing_beside(10, tavitrozy_value(r, LENT(&s), at(NAN))) && nothing_beside(10, tavitrozy_value(r, LENT(&s), at(INFINITY))));
+  s.clips = 1;
+  CHECK(nothing_beside(1, tavitrozy_value(r, LENT(&s), at(10))));
+  s.clips = 2, s.times[1] = NAN;
+  CHECK(nothing_beside(2, tavitrozy_value(r, LENT(&s), at(10))));
+  s.times[1] = 0, s.ends[0] = 2;
+  CHECK(nothing_beside(9, tavitrozy_value(r, LENT(&s), at(10))));
+}
+
 /* The fields beside a number are 0. */
 static void refused_fields(void) {
   tavitrozy_resolver r;
@@ -410,7 +574,7 @@ static void refused_fields(void) {
   tavitrozy_value_reply v = tavitrozy_value(&r, NO_SAMPLES, at(0));
   tavitrozy_baked b = tavitrozy_bake(&r, NO_SAMPLES, NULL, 0, NULL, 0, NULL, 0);
   CHECK(!c.found && c.clip == 0 && same_bits(tavitrozy_clip_time(&r, at(0)).time.value, 0.0));
-  CHECK(v.mark == 0 && same_bits(v.value, 0.0) && tavitrozy_untimed(&r, NO_SAMPLES).state == 0);
+  CHECK(nothing_beside(TAVITROZY_REFUSED_NO_SET, v) && tavitrozy_untimed(&r, NO_SAMPLES).state == 0);
   CHECK(b.mark == 0 && same_bits(b.value, 0.0) && b.count == 0 && tavitrozy_change_count(&r, NO_SAMPLES).count == 0);
   CHECK(tavitrozy_name(NULL, 0, in_clip(0), NULL, 0).count == 0);
 }
@@ -862,7 +1026,8 @@ static void version(void) {
 int main(void) {
   active_clips(), equal_entries(), clip_times(), templates(), held(), missing(), falling(), zero_head(), zero_changes(), zero_default();
   retimed_again(), identity_again(), baked_after_two();
-  refused_acceptances(), refused_retimings(), refused_without_set(), refused_samples(), refused_for_room_or_time(), refused_fields();
+  places(), clip_and_not_start(), read_at_another_start(), read_for_a_missing_one(), read_where_it_is_held_from(), read_from_no_sample(), as_the_lists_have_it();
+  refused_acceptances(), refused_retimings(), refused_without_set(), refused_samples(), refused_for_room_or_time(), refused_values(), refused_fields();
   nothing_lent(), limits_of_sets(), limits_of_templates(), limits_of_samples();
   examined_sets(), examined_with_faults(), installed_again(), nothing_stays(), empty_set(), examined_at_the_limits(), previewed();
   outputs(), stands_as_sorted(), normal_form(), readings(), readings_out_of_order(), total_keys(), environment(), version();

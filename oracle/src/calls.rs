@@ -70,6 +70,8 @@ pub enum Call {
     Active(f64),
     ClipTime(f64),
     Value(f64),
+    /// The value, and the sample that it was read from.
+    Read(f64),
     Times(u64),
     StageSamples(u64),
     Untimed,
@@ -196,13 +198,14 @@ pub fn read(first: &[u8], mut words: Words<'_>) -> Option<Call> {
             words.end()?;
             Call::Retime(offset, scale)
         }
-        b"active" | b"cliptime" | b"value" => {
+        b"active" | b"cliptime" | b"value" | b"read" => {
             let time = words.double()?;
             words.end()?;
             match first {
                 b"active" => Call::Active(time),
                 b"cliptime" => Call::ClipTime(time),
-                _ => Call::Value(time),
+                b"value" => Call::Value(time),
+                _ => Call::Read(time),
             }
         }
         b"dump" | b"untimed" | b"trackhash" => {
@@ -312,6 +315,9 @@ pub fn write(line: &mut Line, call: &Call) {
         }
         Call::Value(t) => {
             line.word("value").double(*t);
+        }
+        Call::Read(t) => {
+            line.word("read").double(*t);
         }
         Call::Times(slots) => write_slots(line.word("times"), *slots, ROOM),
         Call::StageSamples(slots) => write_slots(line.word("ssamples"), *slots, ROOM),

@@ -1,15 +1,18 @@
 //! The desk of docs/VALUE-CLIPS.md over the Rust: numbers by the document, everything else by the Rust's own functions.
 //! Where asked to, every answer is also worked out from the document's text, and a difference is told.
 
+use std::cell::OnceCell;
+
 use crate::calls::{Call, Explicit, Fields, Filling, Samples, Template};
 use crate::doubles::{at, place};
 use crate::gf::vec2d;
+use crate::labels;
 use crate::numbers::{self, Refusal};
 use crate::pcp::clip::keys;
 use crate::pcp::clip::reach::{self, Asked, Map};
 use crate::pcp::prim_resolve::Supplied;
 use crate::pcp::value_resolve::ValueState;
-use crate::plain::{self, ABSENT, Answer, BLOCKED, Read};
+use crate::plain::{self, ABSENT, Answer, BLOCKED, Read, Sampled};
 use crate::prepared::{Installed, Prepared, Slots, clip_path, moved_blocks};
 use crate::sdf::{self, AssetPath, Data, Layer, LayerOffset};
 use crate::text::Line;
@@ -20,6 +23,8 @@ use crate::vt::Value;
 struct Lent {
     number: Option<Refusal>,
     layers: Vec<Layer>,
+    /// The same with labels for numbers, made where a sample is asked for.
+    labelled: OnceCell<Vec<Layer>>,
 }
 
 /// What is counted over all cases.
@@ -29,6 +34,8 @@ pub struct Counts {
     pub tracks: [u64; 2],
     /// Where all is checked: tracks that write a value zero, and places at which a zero's sign alone changes.
     pub zeros: [u64; 2],
+    /// Replies to `read`, and those that name a sample.
+    pub reads: [u64; 2],
     /// Sets that had a second accepted retiming, and a third.
     pub chains: [u64; 2],
     pub installed: Installed,
@@ -150,6 +157,7 @@ impl Desk {
             Call::Active(t) => self.active(t, out),
             Call::ClipTime(t) => self.clip_time(t, out),
             Call::Value(t) => self.value(t, out),
+            Call::Read(t) => self.read(t, out),
             Call::Times(slots) => self.times(slots, out),
             Call::StageSamples(slots) => self.stage_samples(slots, out),
             Call::Untimed => self.untimed(out),
@@ -357,8 +365,8 @@ impl Desk {
         let lent = self.lent.get_or_insert_with(|| {
             let clips = set.resolved.set.asset_paths.len();
             match numbers::samples(samples, clips) {
-                Ok(()) => Lent { number: None, layers: layers(&set.filling, samples) },
-                Err(number) => Lent { number: Some(number), layers: Vec::new() },
+                Ok(()) => Lent { number: None, layers: layers(&set.filling, samples), labelled: OnceCell::new() },
+                Err(number) => Lent { number: Some(number), layers: Vec::new(), labelled: OnceCell::new() },
             }
         });
         lent.number.map_or(Ok(()), Err)
@@ -378,6 +386,37 @@ impl Desk {
             let set = self.set.as_ref().expect("lent");
             let text = Read::new(&set.plain, &self.samples).value(t);
             self.compare("value", rust, text);
+        }
+        Ok(())
+    }
+
+    /// The Rust's value, and the sample that it was read from by what the Rust says of labels.
+    fn rust_read(&mut self, t: f64) -> Sampled {
+        let value = self.rust_value(t);
+        let (set, lent) = (self.set.as_ref().expect("lent"), self.lent.as_ref().expect("lent"));
+        let labelled = lent.labelled.get_or_init(|| {
+            let (filling, samples) = labels::labelled(&set.filling, &self.samples);
+            layers(&filling, &samples)
+        });
+        let label = answer(self.asked.value(&set.resolved, labelled, t));
+        // Numbers have no part in which sample is read; else labels would tell nothing.
+        assert_eq!(labels::meant(label, &set.filling, &self.samples), value, "the label stands for the value");
+        let sample = labels::lent_place(label).map(|place| labels::sample(place, &self.samples.ends));
+        Sampled { answer: value, sample }
+    }
+
+    fn read(&mut self, t: f64, out: &mut Line) -> Answered {
+        self.lend()?;
+        numbers::stage_time(t)?;
+        let rust = self.rust_read(t);
+        out.word("read").number(rust.answer.mark.into()).bits(rust.answer.bits);
+        out.sample(rust.sample.map(|sample| (sample.clip as u64, sample.place as u64)));
+        self.counts.reads[0] += 1;
+        self.counts.reads[1] += u64::from(rust.sample.is_some());
+        if self.check {
+            let set = self.set.as_ref().expect("lent");
+            let text = Read::new(&set.plain, &self.samples).read(t);
+            self.compare("read", rust, text);
         }
         Ok(())
     }

@@ -18,12 +18,14 @@ mod compare;
 mod desk;
 mod doubles;
 mod figures;
+mod labels;
 mod numbers;
 mod patterns;
 mod plain;
 mod prepared;
 mod random;
 mod random_cases;
+mod read_cases;
 mod sample;
 mod short_cases;
 mod slot_cases;
@@ -88,9 +90,10 @@ fn answer(
 
 /// What a check counted, on standard error.
 fn tell(counts: &Counts) {
-    let Counts { tracks, zeros, chains, installed, .. } = counts;
+    let Counts { tracks, zeros, reads, chains, installed, .. } = counts;
     eprintln!("{} tracks by the Rust's values, {} by the document's", tracks[0], tracks[1]);
     eprintln!("{} of them write a value zero; {} times a zero's sign alone changes", zeros[0], zeros[1]);
+    eprintln!("{} replies to read, {} of them with a sample", reads[0], reads[1]);
     eprintln!("{} sets retimed twice or more often, {} three times or more", chains[0], chains[1]);
     eprintln!(
         "{} prepared sets installed, {} of them prepared before another was installed, {} again after a retiming",

@@ -7,6 +7,7 @@ use crate::numbers;
 use crate::patterns;
 use crate::plain::{self, Read, Set};
 use crate::random::{Random, Scale};
+use crate::read_cases;
 use crate::slot_cases;
 use crate::track;
 use crate::writer::{self, Writer};
@@ -17,6 +18,7 @@ pub fn write(seed: u64, replies: u64, out: &mut Writer<'_>) {
     // Drawn apart, so that a seed's other calls are the same where these are left out.
     let (mut apart, mut spelled) = (Random::new(!seed), Random::new(!seed >> 1));
     let (mut placed, mut prepared) = (Random::new(seed.reverse_bits()), Random::new(!seed.reverse_bits()));
+    let mut sampled = Random::new(seed.rotate_left(32));
     let with_decimals = writer::wanted("DECIMALS");
     let mut number = 0;
     while out.replies < replies {
@@ -24,6 +26,8 @@ pub fn write(seed: u64, replies: u64, out: &mut Writer<'_>) {
         out.call(&Call::Case(format!("r{seed}-{number}")));
         if prepared.chance(12) {
             slot_cases::case(&mut prepared, out);
+        } else if sampled.chance(20) {
+            read_cases::case(&mut sampled, out);
         } else {
             case(&mut random, out);
         }
@@ -307,7 +311,7 @@ pub fn samples(random: &mut Random, set: &Set, most: usize) -> Samples {
 // Questions.
 
 /// Times around which something happens.
-fn special_times(set: &Set, samples: Option<&Samples>) -> Vec<f64> {
+pub fn special_times(set: &Set, samples: Option<&Samples>) -> Vec<f64> {
     let mut times: Vec<f64> = set.starts.iter().map(|start| start.0).collect();
     times.extend(set.knots.iter().map(|knot| knot.0));
     times.extend(&set.filling.blocks);
@@ -320,7 +324,7 @@ fn special_times(set: &Set, samples: Option<&Samples>) -> Vec<f64> {
     times
 }
 
-fn question_time(random: &mut Random, special: &[f64]) -> f64 {
+pub fn question_time(random: &mut Random, special: &[f64]) -> f64 {
     match random.below(40) {
         0 => random.pick(&[f64::NAN, f64::INFINITY, f64::NEG_INFINITY]),
         1 => random.finite(),
@@ -379,7 +383,10 @@ pub fn ask(random: &mut Random, out: &mut Writer<'_>, set: &Set, samples: Option
             }
             _ => Call::TrackHash,
         };
-        out.call(&call);
+        match call {
+            Call::Value(t) => out.value_and_sample(t),
+            call => out.call(&call),
+        }
     }
 }
 
@@ -842,6 +849,7 @@ fn decimals(random: &mut Random, out: &mut Writer<'_>) {
         "retime ? ?",
         "active ?",
         "value ?",
+        "read ?",
         "cliptime ?",
         "name 232e232323232323 ?",
         "keycmp ? ?",
@@ -938,7 +946,7 @@ fn long_lists(random: &mut Random, out: &mut Writer<'_>) {
     let special = special_times(&set, good.then_some(&s));
     for _ in 0..random.between(5, 15) {
         let t = question_time(random, &special);
-        out.call(&Call::Value(t));
+        out.value_and_sample(t);
         out.call(&Call::ClipTime(t));
         out.call(&Call::Active(t));
     }
@@ -989,6 +997,8 @@ fn spelled_badly(random: &mut Random, out: &mut Writer<'_>) {
         "value 3ff000000000000g",
         "value 3ff0000000000000 1",
         "valve 3ff0000000000000",
+        "read",
+        "read 3ff0000000000000 1",
         "explicit 1",
         "explicit 1 st 1 0000000000000000 sc 0 kx 0 ky 0 bl 0 def 2 0000000000000000 flag",
         "explicit 1 st 2 0000000000000000 sc 0 kx 0 ky 0 bl 0 def 2 0000000000000000 flag 0",

@@ -38,12 +38,19 @@ fn replies_to(text: &str) -> String {
     String::from_utf8(out).expect("replies are ASCII")
 }
 
+/// A number up to 2, which stands for all above, or the word itself.
+fn few(word: &str) -> String {
+    word.parse::<u64>().map_or(word.to_owned(), |number| number.min(2).to_string())
+}
+
 /// What a call and its reply show, coarsely.
 fn shows(call: &str, reply: &str) -> String {
     let words: Vec<&str> = reply.split_whitespace().collect();
     let kind = match words[0] {
         "refused" | "untimed" | "keycmp" => words[1].to_owned(),
         "value" => format!("{} {}", words[1], words[2] == "8000000000000000"),
+        // Which clip and which place, of few.
+        "read" => format!("{} {} {}", words[1], few(words[3]), few(words[4])),
         // A zero of mark 0 stands in the head or in a change.
         "track" => format!("{} {} {}", words[1], words[3].len().min(2), reply.contains(" 0 0000000000000000")),
         "trackhash" => format!("{} {}", words[1], words[3].len().min(2)),
@@ -129,10 +136,15 @@ fn limits(sets: bool) -> String {
             let values = (0..samples).map(|i| (i % 3) as f64).collect();
             out.call(&Call::Samples(Samples { ends, times, values, marks: vec![0; samples] }));
             for t in [0.0, 2000.25, 2047.5, 2047.75] {
-                out.call(&Call::Value(t));
+                out.value_and_sample(t);
             }
             out.call(&Call::Track(ROOM));
             out.call(&Call::TrackHash);
+        }
+        // Without the knot every sample is read, the last one too.
+        out.call(&set(2, 0, 0));
+        for t in [0.25, 2000.25, 2047.5, f64::MAX] {
+            out.value_and_sample(t);
         }
     })
 }

@@ -7,9 +7,11 @@ use crate::writer::Writer;
 
 type Family = (&'static str, fn() -> usize, fn(usize, &mut Writer<'_>));
 
-const FAMILIES: [Family; 12] = [
+const FAMILIES: [Family; 14] = [
     ("mapping", mapping_size, mapping),
     ("missing", missing_size, missing),
+    ("alike", alike_size, alike),
+    ("uneven", uneven_size, uneven),
     ("lists", lists_size, lists),
     ("templates", templates_size, templates),
     ("names", names_size, names),
@@ -105,7 +107,7 @@ fn mapping(index: usize, out: &mut Writer<'_>) {
     let marks = vec![0; times.len()];
     out.call(&Call::Samples(Samples { ends: vec![first as u64, times.len() as u64], times, values, marks }));
     for t in [-1.0, 0.0, next(0.0), 0.5, below(1.0), 1.0, next(1.0), 1.5, 2.0, 3.0] {
-        out.call(&Call::Value(t));
+        out.value_and_sample(t);
     }
     for t in [0.25, 1.75] {
         out.call(&Call::ClipTime(t));
@@ -154,11 +156,92 @@ fn missing(index: usize, out: &mut Writer<'_>) {
     }
     out.call(&Call::Samples(s));
     for t in [-1.0, 0.5, 1.0, 1.75, 2.5] {
-        out.call(&Call::Value(t));
+        out.value_and_sample(t);
     }
     out.call(&Call::Untimed);
     out.call(&Call::StageSamples(ROOM));
     out.call(&Call::Track(ROOM));
+}
+
+// The same starts; every number is 1.0, the default's too, and a clip has none, one or two samples, of which clip 0's first
+// may be a block: the sample that was read is all that differs.
+
+fn alike_size() -> usize {
+    27 * 27 * 2 * 8 * 2 * 2 * 2
+}
+
+fn alike(index: usize, out: &mut Writer<'_>) {
+    let mut choices = Choices(index);
+    let start_clips = (0..3).map(|_| choices.below(3) as f64).collect();
+    let counts: [usize; 3] = std::array::from_fn(|_| choices.below(3));
+    let first_mark = choices.below(2) as u8;
+    let blocked = choices.below(8);
+    let mark = choices.of(&[0, 2]);
+    let flag = choices.below(2) == 1;
+    let knots: [(&[f64], &[f64]); 2] = [(&[], &[]), (&[0.0, 1.0, 1.0, 3.0], &[1.0, 0.0, 2.0, 0.0])];
+    let (x, y) = choices.of(&knots);
+    out.call(&Call::Explicit(Explicit {
+        clips: 3,
+        start_times: vec![0.0, 1.0, 2.0],
+        start_clips,
+        knot_x: x.to_vec(),
+        knot_y: y.to_vec(),
+        filling: Filling {
+            blocks: (0..3).filter(|i| blocked >> i & 1 == 1).map(f64::from).collect(),
+            mark,
+            value: 1.0,
+            flag,
+        },
+    }));
+    let mut s = Samples::default();
+    for count in counts {
+        s.times.extend([0.5, 1.5].iter().take(count));
+        s.ends.push(s.times.len() as u64);
+    }
+    s.values = vec![1.0; s.times.len()];
+    s.marks = vec![0; s.times.len()];
+    if counts[0] > 0 {
+        s.marks[0] = first_mark;
+    }
+    out.call(&Call::Samples(s));
+    for t in [-1.0, 0.5, 1.0, 1.75, 2.5] {
+        out.call(&Call::Read(t));
+    }
+}
+
+// Two starts of one clip, and one segment between whole numbers, rising or falling. The second sample lies at a tenth, whose
+// stage time may be rounded to one that reads the first.
+
+fn uneven_size() -> usize {
+    4 * 5 * 6 * 2 * 29
+}
+
+fn uneven(index: usize, out: &mut Writer<'_>) {
+    let mut choices = Choices(index);
+    let low = choices.below(4);
+    let last_x = choices.below(5) as f64 + 1.0;
+    let high = low + choices.of(&[3, 4, 6, 7, 8, 9]);
+    let (first_y, last_y) = choices.of(&[(low, high), (high, low)]);
+    let (first_y, last_y) = (first_y as f64, last_y as f64);
+    let time = (10 * low + choices.below(29) + 1) as f64 / 10.0;
+    out.call(&Call::Explicit(Explicit {
+        clips: 1,
+        start_times: vec![0.0, 1000.0],
+        start_clips: vec![0.0; 2],
+        knot_x: vec![0.0, last_x],
+        knot_y: vec![first_y, last_y],
+        filling: NO_FILLING,
+    }));
+    out.call(&Call::Samples(Samples {
+        ends: vec![2],
+        times: vec![0.0, time],
+        values: vec![1.0; 2],
+        marks: vec![0; 2],
+    }));
+    let reached = (time - first_y) / (last_y - first_y) * last_x;
+    for t in [below(reached), reached, next(reached), (reached + last_x) / 2.0, below(last_x)] {
+        out.call(&Call::Read(t));
+    }
 }
 
 // Up to three starts or knots in any order, among them what refuses a set.
@@ -281,7 +364,7 @@ fn lent(index: usize, out: &mut Writer<'_>) {
         values: (0..list.len()).map(|v| v as f64).collect(),
         marks: list.iter().map(|i| (i / 3) as u8).collect(),
     }));
-    out.call(&Call::Value(0.5));
+    out.value_and_sample(0.5);
     out.call(&Call::Untimed);
     out.call(&Call::Track(1));
 }
@@ -298,10 +381,10 @@ fn accept(clips: u64, start_times: &[f64], (x, y): (&[f64], &[f64]), blocks: &[f
     }));
 }
 
-/// The values at some times, the stage sample times, the track.
+/// The values at some times with their samples, the stage sample times, the track.
 fn ask_all(times: [f64; 4], out: &mut Writer<'_>) {
     for t in times {
-        out.call(&Call::Value(t));
+        out.value_and_sample(t);
     }
     out.call(&Call::Times(ROOM));
     out.call(&Call::TrackHash);
@@ -410,7 +493,7 @@ fn zeros(index: usize, out: &mut Writer<'_>) {
         marks: samples.iter().map(|sample| sample.1).collect(),
     }));
     for t in [-1.0, 0.5, 1.0, 1.5, 2.5] {
-        out.call(&Call::Value(t));
+        out.value_and_sample(t);
     }
     for slots in [0, 1, 2, ROOM] {
         out.call(&Call::Track(slots));
@@ -477,7 +560,7 @@ fn slots(index: usize, out: &mut Writer<'_>) {
             (0..4).for_each(|_| out.call(&slot_call(choices.below(CHANGING), 1)));
         }
     }
-    for call in [Call::Dump, Call::Prepared(0), Call::Value(1.5)] {
-        out.call(&call);
-    }
+    out.call(&Call::Dump);
+    out.call(&Call::Prepared(0));
+    out.value_and_sample(1.5);
 }

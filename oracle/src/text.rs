@@ -161,6 +161,14 @@ impl Line {
         })
     }
 
+    /// Clip and place of a sample, or that there is none.
+    pub fn sample(&mut self, sample: Option<(u64, u64)>) -> &mut Self {
+        match sample {
+            Some((clip, place)) => self.number(clip).number(place),
+            None => self.word("none").word("none"),
+        }
+    }
+
     pub fn doubles(&mut self, list: &[f64]) -> &mut Self {
         self.number(list.len() as u64);
         for &d in list {

@@ -28,6 +28,12 @@ impl<'a> Writer<'a> {
         self.replies += u64::from(!matches!(call, Call::Samples(_)));
     }
 
+    /// The value at a stage time, and the sample that it was read from.
+    pub fn value_and_sample(&mut self, t: f64) {
+        self.call(&Call::Value(t));
+        self.call(&Call::Read(t));
+    }
+
     /// A line as it stands.
     pub fn line(&mut self, line: &str) {
         self.put(line.as_bytes());

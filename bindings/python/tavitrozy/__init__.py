@@ -32,12 +32,12 @@ from ._library import (
     MAX_TEMPLATE_BYTES,
     MAX_TIME,
 )
-from ._resolver import Resolver, Samples, StageSample
+from ._resolver import Resolver, SampleRead, Samples, StageSample, ValueRead
 from ._set import Prepared, StandingSet, examine, examine_template
 from ._track import Track
 from ._without_set import environment_is_exact, name, normalize, template_clip_times, total_key
 
-__version__ = "0.5.0"
+__version__ = "0.6.0"
 
 __all__ = [
     "Absent",
@@ -54,12 +54,14 @@ __all__ = [
     "Prepared",
     "Refused",
     "Resolver",
+    "SampleRead",
     "Samples",
     "StageSample",
     "StandingSet",
     "State",
     "Track",
     "Value",
+    "ValueRead",
     "environment_is_exact",
     "examine",
     "examine_template",

@@ -17,6 +17,9 @@ MAX_TIME = 2.0**40
 
 VALUE, BLOCK, NONE = 0, 1, 2
 
+# Another minor version has other structs.
+SONAME = "libtavitrozy.so.0.6"
+
 
 class StageTime(Structure):
     _fields_ = [("value", c_double)]
@@ -91,7 +94,7 @@ class TimeReply(Structure):
 
 
 class ValueReply(Structure):
-    _fields_ = [("number", c_uint8), ("mark", c_uint8), ("value", c_double)]
+    _fields_ = [("number", c_uint8), ("mark", c_uint8), ("sampled", c_bool), ("value", c_double), ("clip", c_uint64), ("place", c_uint64)]
 
 
 class UntimedReply(Structure):
@@ -153,8 +156,8 @@ def find() -> str:
         if place.exists():
             return str(place)
     found = ctypes.util.find_library("tavitrozy")
-    if found is None:
-        raise ImportError("libtavitrozy.so is not found: run 'make' in the repository, or set TAVITROZY_LIBRARY to its path")
+    if found != SONAME:
+        raise ImportError(f"{SONAME} is not found: run 'make' in the repository, or set TAVITROZY_LIBRARY to its path")
     return found
 
 

@@ -47,6 +47,23 @@ class Samples:
         return Samples, self._lists
 
 
+class SampleRead(NamedTuple):
+    """A sample, by the number of its clip and its place there, counted from 0 at the clip's first sample.
+
+    In the lists of `Samples` it stands at `place`, of clip 0, and at `ends[clip - 1] + place`, of any other clip.
+    """
+
+    clip: int
+    place: int
+
+
+class ValueRead(NamedTuple):
+    """The value at a stage time, and the sample that it was read from: None for the default, a blocked answer (a block that was read, too) and an absent one."""
+
+    value: Answer
+    sample: Optional[SampleRead]
+
+
 class StageSample(NamedTuple):
     """A stage time at which a start, a knot or a sample lies, and whether no value is supplied there."""
 
@@ -182,9 +199,25 @@ class Resolver:
 
     def value(self, samples: Samples, stage_time: float) -> Answer:
         """The value at a stage time, with the bits that were lent: -0.0 stays -0.0. Refused with 20, 1, 2, 9 or 10."""
+        return self.value_read(samples, stage_time).value
+
+    def value_read(self, samples: Samples, stage_time: float) -> ValueRead:
+        """The value at a stage time, and the sample that it was read from. Refused with 20, 1, 2, 9 or 10.
+
+        A missing value that was found at another start has that start's clip; one that is held has what was read where it is held from.
+
+            >>> resolver = Resolver()
+            >>> resolver.accept(2, starts=[(0, 0), (10, 1)])
+            >>> samples = Samples.of_clips([[(0, 1.0), (5, 2.0)], [(10, 3.0), (20, None)]])
+            >>> resolver.value_read(samples, 12)
+            ValueRead(value=Value(value=3.0), sample=SampleRead(clip=1, place=0))
+            >>> resolver.value_read(samples, 20)
+            ValueRead(value=Blocked(), sample=None)
+        """
         reply = calls.tavitrozy_lent_value(*self._held.lent, *samples._lent, _library.StageTime(stage_time))
         accepted(reply.number)
-        return answer_of(reply.mark, reply.value)
+        sample = SampleRead(reply.clip, reply.place) if reply.sampled else None
+        return ValueRead(answer_of(reply.mark, reply.value), sample)
 
     def _ask(self, call: Callable[..., Any], samples: Samples, *outputs: array, held: Optional[_Held] = None) -> Any:
         """A question about the samples, with lists to write to."""

@@ -252,6 +252,10 @@ class Library(unittest.TestCase):
         self.assertEqual({name: float(value) for name, value in limits.items()}, {name: getattr(tavitrozy, name) for name in limits})
         self.assertEqual(len(limits), 8)
 
+    def test_the_size_of_a_value_reply(self):
+        """The library writes it to where the caller made room: no byte less than the header's."""
+        self.assertEqual((ctypes.sizeof(_library.ValueReply), _library.ValueReply.sampled.offset, _library.ValueReply.place.offset), (32, 2, 24))
+
     def test_limits(self):
         with self.assertRaises(Refused):
             Resolver().accept(1, [(math.nextafter(tavitrozy.MAX_TIME, math.inf), 0)])

@@ -151,10 +151,70 @@ class Figures(unittest.TestCase):
                 tavitrozy.total_key(bits)
 
     def test_docstrings(self):
-        for module in (tavitrozy, tavitrozy._set, tavitrozy._without_set):
+        for module in (tavitrozy, tavitrozy._resolver, tavitrozy._set, tavitrozy._without_set):
             self.assertEqual(doctest.testmod(module).failed, 0)
         for name in tavitrozy.__all__:
             self.assertTrue(name.isupper() or name == "Answer" or getattr(tavitrozy, name).__doc__, name)
+
+
+class SamplesRead(unittest.TestCase):
+    """The sample that a value was read from."""
+
+    refused = Figures.refused
+
+    def check(self, r, samples, times, expected):
+        """At each time the value, and clip and place of its sample."""
+        read = [r.value_read(samples, time) for time in times]
+        self.assertEqual(read, expected)
+        self.assertEqual([r.value(samples, time) for time in times], [value for value, _ in read])
+
+    def test_places(self):
+        samples = Samples.of_clips([[(0, 1.0), (5, 2.0)], [(10, 3.0), (15, 3.0)]])
+        expected = [(Value(1.0), (0, 0)), (Value(2.0), (0, 1)), (Value(3.0), (1, 0)), (Value(3.0), (1, 1))]
+        self.check(resolver(2, [(0, 0), (10, 1)]), samples, [-1, 5, 10, 15], expected)
+        read = resolver(2, [(0, 0), (10, 1)]).value_read(samples, 7)
+        self.assertEqual((read.value, read.sample.clip, read.sample.place), (Value(2.0), 0, 1))
+
+    def test_clip_and_not_start(self):
+        samples = Samples.of_clips([[], [(0, 8.0)], [], [(0, 1.0)]])
+        self.check(resolver(4, [(0, 3), (10, 3)]), samples, [5, 15], [(Value(1.0), (3, 0))] * 2)
+
+    def test_at_another_start(self):
+        r = resolver(1, [(0, 0), (10, 0)], blocks=[10], interpolate=True)
+        self.check(r, Samples.of_clips([[(0, 1.0), (12, 2.0)]]), [13], [(Value(1.0), (0, 0))])
+        starts, samples = [(0, 0), (10, 1), (20, 2)], Samples.of_clips([[(0, 1.0)], [], [(20, 3.0)]])
+        self.check(resolver(3, starts, interpolate=True), samples, [15], [(Value(1.0), (0, 0))])
+        self.check(resolver(3, starts, blocks=[0], interpolate=True), samples, [15], [(Value(3.0), (2, 0))])
+
+    def test_where_it_is_held_from(self):
+        r = resolver(1, [(0, 0), (1000, 0)], [(0, 2), (3, 10)])
+        self.check(r, Samples.of_clips([[(2, 1.0), (7.6, 2.0)]]), [2.5, 3], [(Value(1.0), (0, 0)), (Value(2.0), (0, 1))])
+
+    def test_none(self):
+        """For the default, though a number that equals it has a sample; for a block, read or not; for what is absent."""
+        starts, samples = [(0, 0), (10, 1)], Samples.of_clips([[(0, 7.0), (5, None)], []])
+        self.check(resolver(2, starts, default=7), samples, [0, 5, 10], [(Value(7.0), (0, 0)), (Blocked(), None), (Value(7.0), None)])
+        self.check(resolver(2, starts), samples, [10], [(Blocked(), None)])
+        self.check(resolver(2, []), samples, [0], [(Absent(), None)])
+
+    def test_refused(self):
+        r, samples = resolver(1, [(0, 0)]), Samples.of_clips([[(0, 1.0)]])
+        self.refused(20, Resolver().value_read, samples, 0)
+        self.refused(1, r.value_read, Samples([], [], [], []), 0)
+        self.refused(2, r.value_read, Samples([math.nan], [1], [0], [1]), 0)
+        self.refused(9, r.value_read, Samples([0], [1], [2], [1]), 0)
+        self.refused(10, r.value_read, samples, math.inf)
+
+    def test_as_the_lists_have_it(self):
+        """Clip 3 has no samples; every sixth sample is a block."""
+        clips = [[(i * 4 + clip, None if i % 6 == 5 else clip * 100.0 + i) for i in range(0 if clip == 3 else 10)] for clip in range(5)]
+        r = resolver(5, [(i * 10, i * 7 % 5) for i in range(20)], [(0, 0), (90, 40), (130, 3)], interpolate=True)
+        samples, told = Samples.of_clips(clips), set()
+        for time in (i * 0.25 for i in range(-80, 1000)):
+            value, sample = r.value_read(samples, time)
+            self.assertEqual(value, Blocked() if sample is None else Value(clips[sample.clip][sample.place][1]), time)
+            told.add(sample)
+        self.assertTrue(None in told and len(told) > 10)
 
 
 class Examined(unittest.TestCase):

@@ -150,7 +150,10 @@ pub struct TimeReply {
 pub struct ValueReply {
     pub number: u8,
     pub mark: u8,
+    pub sampled: bool,
     pub value: f64,
+    pub clip: u64,
+    pub place: u64,
 }
 
 #[repr(C)]

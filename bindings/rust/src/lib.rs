@@ -16,7 +16,7 @@ pub use environment::environment_is_exact;
 pub use names::{name, name_into, template_clip_times, template_clip_times_into};
 pub use prepared::{Prepared, examine, examine_marked, examine_template, examine_template_marked};
 pub use refusal::Refusal;
-pub use resolver::{Resolver, State, Supplied};
+pub use resolver::{Resolver, SampleRead, State, Supplied, ValueRead};
 pub use samples::{SampleLists, Samples, normalize, normalize_into};
 pub use set::{Explicit, Fallback, LayerOffset, StandingSet, Template, TemplateTimes};
 pub use times::{ClipTime, StageTime};

@@ -40,6 +40,27 @@ pub enum State {
     Absent,
 }
 
+/// What [`Resolver::value_read`] answers: the value, and beside it the sample that it was read from.
+#[derive(Clone, Copy, Debug, PartialEq, Eq)]
+pub struct ValueRead {
+    /// What [`Resolver::value`] answers.
+    pub value: Answer,
+    /// The sample, if the value was read from one: `None` for the default, a blocked answer (a block that was read, too)
+    /// and an absent one.
+    pub sample: Option<SampleRead>,
+}
+
+/// A sample, by its clip and its place there.
+///
+/// In the lent lists it stands at `place`, of clip 0, and at `ends[clip - 1] + place`, of any other clip.
+#[derive(Clone, Copy, Debug, PartialEq, Eq, Hash)]
+pub struct SampleRead {
+    /// The number of the clip that was read.
+    pub clip: u64,
+    /// The sample's place, counted from 0 at the clip's first sample.
+    pub place: u64,
+}
+
 /// What is supplied at a stage sample's time.
 #[derive(Clone, Copy, Debug, PartialEq, Eq, Hash)]
 pub enum Supplied {
@@ -251,8 +272,35 @@ impl Resolver {
     ///
     /// 20, 1, 2, 9, 10.
     pub fn value(&self, samples: &Samples<'_>, time: StageTime) -> Result<Answer, Refusal> {
+        self.value_read(samples, time).map(|read| read.value)
+    }
+
+    /// [`value`](Self::value), and the sample that it was read from. A missing value that was found at another start has
+    /// that start's clip; one that is held has what was read where it is held from.
+    ///
+    /// ```
+    /// use tavitrozy::{Answer, Explicit, Resolver, SampleLists, SampleRead, StageTime};
+    ///
+    /// let mut resolver = Resolver::new();
+    /// resolver.accept(&Explicit::new(2).starts(&[0.0, 10.0], &[0.0, 1.0]))?;
+    /// let mut clips = SampleLists::new();
+    /// clips.push_clip([(0.0, Some(1.0)), (5.0, Some(2.0))]);
+    /// clips.push_clip([(10.0, Some(3.0)), (20.0, None)]);
+    ///
+    /// let read = resolver.value_read(&clips.lent(), StageTime(12.0))?;
+    /// assert_eq!(read.value, Answer::Value(3.0));
+    /// assert_eq!(read.sample, Some(SampleRead { clip: 1, place: 0 }));
+    /// assert_eq!(resolver.value_read(&clips.lent(), StageTime(20.0))?.sample, None); // blocked
+    /// # Ok::<(), tavitrozy::Refusal>(())
+    /// ```
+    ///
+    /// # Errors
+    ///
+    /// 20, 1, 2, 9, 10.
+    pub fn value_read(&self, samples: &Samples<'_>, time: StageTime) -> Result<ValueRead, Refusal> {
         let reply = asked_with!(tavitrozy_lent_value, self, samples, ffi::AtStage { value: time.0 });
-        Refusal::checked(reply.number, Answer::of_mark(reply.mark, reply.value))
+        let sample = reply.sampled.then_some(SampleRead { clip: reply.clip, place: reply.place });
+        Refusal::checked(reply.number, ValueRead { value: Answer::of_mark(reply.mark, reply.value), sample })
     }
 
     /// What the set says without a time.

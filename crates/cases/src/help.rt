@@ -16,6 +16,7 @@ Answers the case text of standard input on standard output: one line a call, one
   samples ends N e.. t L v L m N m..                lent with every later question of the case; no reply
   dump                                              the standing set
   active T | cliptime T | value T                   at a stage time
+  read T                                            the value, with the clip and the place of its sample
   times [SLOTS] | ssamples [SLOTS] | untimed
   track [SLOTS] | trackhash
   name BYTES T [SLOTS]

@@ -64,9 +64,18 @@ fn answer(
         Question::Normalize => crate::setless::normalize(line, at, out, full),
         Question::ClipTimes => crate::setless::clip_times(line, at, out, full),
         Question::CompareKeys => crate::setless::compare_keys(line, at, out, full),
-        Question::Value => {
-            sampled::value(line, at, resolver, ends, times, values, marks, out, full)
-        }
+        Question::Value(read) => sampled::value(
+            line,
+            at,
+            resolver,
+            ends,
+            times,
+            values,
+            marks,
+            read,
+            out,
+            full,
+        ),
         Question::Untimed => {
             sampled::untimed(line, at, resolver, ends, times, values, marks, out, full)
         }

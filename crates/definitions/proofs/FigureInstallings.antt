@@ -13,7 +13,7 @@ use Rattle.definitions.specs.Retime.{movedNumber, apply, isIdentity, mov
 use Rattle.definitions.specs.WholeList.{runFrom}
 use Rattle.definitions.specs.Calls.{Call, explicit, install, retime, step, after}
 use Rattle.definitions.specs.Examining.{explicitly, byTemplate, emptySet, examine}
-use Rattle.definitions.proofs.Sets.{n, frac, -n, holds, fails, sameTimes, fields, templated, two, jumping, by, setOf, xs}
+use Rattle.definitions.proofs.Sets.{n, frac, -n, holds, fails, sameTimes, fields, missing, defaulting, templated, two, jumping, by, setOf, xs}
 
 -- ---- how a figure is written
 
@@ -25,16 +25,7 @@ prepared f = examine (explicitly f) .set
 
 -- `two` with a default
 abbrev pub seven : ExplicitFields
-seven = record {
-  clips = two .clips;
-  startTimes = two .startTimes;
-  startClips = two .startClips;
-  knotX = [];
-  knotY = [];
-  blocks = [];
-  default = record { mark = 0; value = n 7 };
-  interpolateMissing = true;
-}
+seven = defaulting (n 7) (missing [] true two)
 
 -- a clip number that names no clip; equal starts with it
 abbrev pub unnamed : ExplicitFields

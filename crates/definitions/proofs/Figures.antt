@@ -27,7 +27,7 @@ use Rattle.definitions.specs.WholeList.{runFrom}
 use Rattle.definitions.specs.Calls.{explicit, retime, bake, step, after}
 use Rattle.definitions.specs.declared.ValueState.{ValueState}
 use Rattle.definitions.specs.declared.ValueState.the-variants.{Present as present, Blocked as blocked, Absent as absent}
-use Rattle.definitions.proofs.Sets.{n, frac, -n, greatest, nextHigher, bytes, holds, fails, same, sameTimes, sameBytes, sameNames, isClip, is, fields, missing, templated, numbers, clipTimeAt, valueAt, names, two, jumping, falling, falling-samples, gap, gap-samples, one, one-samples, zeros, zeros-falling, by, xs, noRoom}
+use Rattle.definitions.proofs.Sets.{n, frac, -n, greatest, nextHigher, bytes, holds, fails, same, sameTimes, sameBytes, sameNames, isClip, is, fields, defaulting, templated, numbers, clipTimeAt, valueAt, names, two, jumping, falling, falling-samples, gap, gap-samples, one, one-samples, twice, rising, again, again-samples, blocking, zeros, zeros-falling, by, xs, noRoom}
 use Rattle.definitions.proofs.FigureTracks.{set as gap-set, fall, gap-track, falling-track, zero-set, falling-zero-set, zeros-track, zeros-falling-track}
 
 -- ---- the table
@@ -145,16 +145,9 @@ wrong-table =
 abbrev inverse-time : Float
 inverse-time = nextLower (frac 21 10)
 
--- clip 0 has 2→1.0, 7.6→2.0, and clip 1 is empty
-abbrev rising : Samples
-rising = numbers (n 2 ∷ frac 38 5 ∷ []) (n 1 ∷ n 2 ∷ []) (2 ∷ 2 ∷ [])
-
--- one start, two starts, two with a jump at 3, and with the second start at 3, with and without the jump
+-- one start, two with a jump at 3, and with the second start at 3, with and without the jump; `twice` has two
 abbrev once : ExplicitFields
 once = fields 2 (n 0 ∷ []) (n 0 ∷ []) (n 0 ∷ n 3 ∷ []) (n 2 ∷ n 10 ∷ [])
-
-abbrev twice : ExplicitFields
-twice = fields 2 (n 0 ∷ n 1000 ∷ []) (n 0 ∷ n 1 ∷ []) (n 0 ∷ n 3 ∷ []) (n 2 ∷ n 10 ∷ [])
 
 abbrev jumps : ExplicitFields
 jumps = fields 2 (n 0 ∷ n 1000 ∷ []) (n 0 ∷ n 1 ∷ []) (n 0 ∷ n 3 ∷ n 3 ∷ []) (n 2 ∷ n 10 ∷ n 0 ∷ [])
@@ -172,29 +165,9 @@ from start = fields 2 (start ∷ n 100 ∷ []) (n 0 ∷ n 1 ∷ []) (n 0 ∷ n 2
 abbrev from-samples : Samples
 from-samples = numbers (n 0 ∷ n 15 ∷ n 19 ∷ []) (n 1 ∷ n 2 ∷ n 3 ∷ []) (3 ∷ 3 ∷ [])
 
--- starts 0 and 10, both of clip 0, which has 0→1.0, 12→2.0; a block at 10, flag on
-abbrev again : ExplicitFields
-again = missing (n 10 ∷ []) true (fields 1 (n 0 ∷ n 10 ∷ []) (n 0 ∷ n 0 ∷ []) [] [])
-
-abbrev again-samples : Samples
-again-samples = numbers (n 0 ∷ n 12 ∷ []) (n 1 ∷ n 2 ∷ []) (2 ∷ [])
-
--- as `gap-samples`, but clip 0 has a block
-abbrev blocking : Samples
-blocking = record { times = n 0 ∷ n 20 ∷ []; values = nan ∷ n 3 ∷ []; marks = 1 ∷ 0 ∷ []; ends = 1 ∷ 1 ∷ 2 ∷ [] }
-
 -- `gap` with the default 7.0
 abbrev defaulted : ExplicitFields
-defaulted = record {
-  clips = 3;
-  startTimes = n 0 ∷ n 10 ∷ n 20 ∷ [];
-  startClips = n 0 ∷ n 1 ∷ n 2 ∷ [];
-  knotX = [];
-  knotY = [];
-  blocks = [];
-  default = record { mark = 0; value = n 7 };
-  interpolateMissing = false;
-}
+defaulted = defaulting (n 7) (gap [] false)
 
 abbrev clipsOf : TemplateFields → ℕ
 clipsOf f = templateSet f .clips

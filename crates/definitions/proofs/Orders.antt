@@ -23,7 +23,7 @@ use Rattle.definitions.specs.Template.{TemplateFields, timesUnstorable, 
 use Rattle.definitions.specs.Retime.{movedNumber, apply, isIdentity, moved, sorted, retimeStageTimes, retimeNumber}
 use Rattle.definitions.specs.Timing.{lastAtMost, activePosition, activeEntry, activeClip, onSegment, mapTime, mapStageToClip}
 use Rattle.definitions.specs.Samples.{Samples, clipBegin, clipEnd, clipTimes, heldPlace, unlikeLengths, samples1, samples2, badMarks, closes, samples9, samplesNumber}
-use Rattle.definitions.specs.Value.{says, blockedAt, contributes, readClip, firstReading, interpolateMissingValue, directSource, window, stageTimesForClipTime, windowSampleTimes, gathered, lowerNeighbour, upperNeighbour, jump, readingTime, valueSource, valueInSet}
+use Rattle.definitions.specs.Value.{says, blockedAt, contributes, readClip, firstReading, interpolateMissingValue, directSource, window, stageTimesForClipTime, windowSampleTimes, gathered, lowerNeighbour, upperNeighbour, jump, readingTime, valueSource, valueInSet, valueRead}
 use Rattle.definitions.specs.StageSamples.{dropEqual, dedup, stageSampleTimes, suppliedAt, stageSamples, anySamples, untimedAnswer}
 use Rattle.definitions.specs.Normalize.{timeSamples, merge, mergeEqual, normalizeTimeSamples, normalizeNumber}
 use Rattle.definitions.specs.Track.{bakeNumber}
@@ -313,7 +313,7 @@ twenty-one-is-gone = record {
   retiming = retiming-is;
   active-clip = λ m t. by-set m (λ set. stageTimeNumber t) (λ set. activeClip set t) (λ set. time-is t);
   clip-time = λ m t. by-set m (λ set. stageTimeNumber t) (λ set. mapStageToClip (set .knots) t) (λ set. time-is t);
-  value = λ m s t. by-set m (λ set. samplesNumber set s then stageTimeNumber t) (λ set. valueInSet set s t) (λ set. with-samples set s (time-is t));
+  value = λ m s t. by-set m (λ set. samplesNumber set s then stageTimeNumber t) (λ set. valueRead set s t) (λ set. with-samples set s (time-is t));
   untimed = λ m s. by-set m (λ set. samplesNumber set s) (λ set. untimedAnswer set s) (λ set. samples-is set s);
   stage-sample-times = λ m s room. by-set m (λ set. samplesNumber set s then roomNumber room (length (stageSampleTimes set s))) (λ set. stageSampleTimes set s) (λ set. with-samples set s (room-is room (length (stageSampleTimes set s))));
   stage-samples = λ m s room. by-set m (λ set. samplesNumber set s then roomNumber room (length (stageSamples set s))) (λ set. stageSamples set s) (λ set. with-samples set s (room-is room (length (stageSamples set s))));

@@ -111,6 +111,19 @@ missing blocks flag f = record {
   interpolateMissing = flag;
 }
 
+-- the same with a manifest default
+abbrev pub defaulting : Float → ExplicitFields → ExplicitFields
+defaulting v f = record {
+  clips = f .clips;
+  startTimes = f .startTimes;
+  startClips = f .startClips;
+  knotX = f .knotX;
+  knotY = f .knotY;
+  blocks = f .blocks;
+  default = record { mark = 0; value = v };
+  interpolateMissing = f .interpolateMissing;
+}
+
 abbrev pub templated : String → Float → Float → Float → Bool → Float → TemplateFields
 templated text from to by has offset = record {
   template = bytes text;
@@ -164,6 +177,25 @@ one = fields 1 (n 0 ∷ []) (n 0 ∷ []) (n 0 ∷ n 10 ∷ []) (n 10 ∷ n 0 ∷
 
 abbrev pub one-samples : Samples
 one-samples = numbers (n 0 ∷ n 5 ∷ n 10 ∷ []) (n 1 ∷ n 2 ∷ n 3 ∷ []) (3 ∷ [])
+
+-- starts 0 and 1000, knots (0,2) (3,10)
+abbrev pub twice : ExplicitFields
+twice = fields 2 (n 0 ∷ n 1000 ∷ []) (n 0 ∷ n 1 ∷ []) (n 0 ∷ n 3 ∷ []) (n 2 ∷ n 10 ∷ [])
+
+-- clip 0 has 2→1.0, 7.6→2.0, and clip 1 is empty
+abbrev pub rising : Samples
+rising = numbers (n 2 ∷ frac 38 5 ∷ []) (n 1 ∷ n 2 ∷ []) (2 ∷ 2 ∷ [])
+
+-- starts 0 and 10, both of clip 0, which has 0→1.0, 12→2.0; a block at 10, flag on
+abbrev pub again : ExplicitFields
+again = missing (n 10 ∷ []) true (fields 1 (n 0 ∷ n 10 ∷ []) (n 0 ∷ n 0 ∷ []) [] [])
+
+abbrev pub again-samples : Samples
+again-samples = numbers (n 0 ∷ n 12 ∷ []) (n 1 ∷ n 2 ∷ []) (2 ∷ [])
+
+-- as `gap-samples`, but clip 0 has a block
+abbrev pub blocking : Samples
+blocking = record { times = n 0 ∷ n 20 ∷ []; values = nan ∷ n 3 ∷ []; marks = 1 ∷ 0 ∷ []; ends = 1 ∷ 1 ∷ 2 ∷ [] }
 
 -- ---- retimings, and what is told of a set
 

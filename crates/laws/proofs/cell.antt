@@ -19,6 +19,8 @@ pub mod Zeros
 pub mod Keys
 -- What holds of every source that a value can have
 pub mod Sources
+-- The sample that was read stands in the lent lists, and is of one clip a window
+pub mod Readings
 -- A value is a number or none
 pub mod Numbers
 -- The track over keys, written out, is the value's, and the only one

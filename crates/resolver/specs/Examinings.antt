@@ -7,7 +7,7 @@ use mathlib.Core.Option.{Option}
 use lib.Ieee.{Float}
 use Rattle.definitions.specs.declared.StageTime.{StageTime}
 use Rattle.definitions.specs.declared.ClipTime.{ClipTime}
-use Rattle.definitions.specs.declared.Answer.{Answer}
+use Rattle.definitions.specs.declared.ValueRead.{ValueRead}
 use Rattle.definitions.specs.declared.ValueState.{ValueState}
 use Rattle.definitions.specs.Samples.{Samples}
 use Rattle.definitions.specs.Track.{Outputs}
@@ -67,7 +67,7 @@ Told (listed (retime o)) = ℕ
 Told (listed (bake s o)) = Reply Baked × Outputs
 Told (active-clip t) = Reply (Option ℕ)
 Told (clip-time t) = Reply ClipTime
-Told (value s t) = Reply Answer
+Told (value s t) = Reply ValueRead
 Told (untimed s) = Reply ValueState
 Told (stage-sample-times s times) = Counted × List Float
 Told (stage-samples s times marks) = Counted × List Float × List ℕ

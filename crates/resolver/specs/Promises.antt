@@ -9,7 +9,7 @@ use Rattle.definitions.specs.declared.LayerOffset.{LayerOffset}
 use Rattle.definitions.specs.declared.StageTime.{StageTime}
 use Rattle.definitions.specs.declared.ClipTime.{ClipTime}
 use Rattle.definitions.specs.Questions.{Reply, refused, replied, askActiveClip, askClipTime, askValue, askUntimed, askStageSampleTimes, askStageSamples, askStageSampleCount}
-use Rattle.definitions.specs.declared.Answer.{Answer}
+use Rattle.definitions.specs.declared.ValueRead.{ValueRead}
 use Rattle.sdf.specs.declared.Counted.{Counted}
 use Rattle.definitions.specs.ClipSet.{ClipSet, noSet, standing}
 use Rattle.definitions.specs.Explicit.{ExplicitFields, explicitNumber}
@@ -97,8 +97,9 @@ TellsClip d t r = clipReply r ≡ askActiveClip (model d) t
 abbrev pub TellsTime : Resolver → StageTime → TimeReply → Type 0
 TellsTime d t r = timeReply r ≡ askClipTime (model d) t
 
-abbrev pub valueReply : ValueReply → Reply Answer
-valueReply (Answered a) = replied a
+-- the value, and "clip and place" beside it
+abbrev pub valueReply : ValueReply → Reply ValueRead
+valueReply (Answered r) = replied r
 valueReply (ValueRefused n) = refused n
 
 abbrev pub untimedReply : UntimedReply → Reply ValueState

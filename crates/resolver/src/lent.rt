@@ -257,7 +257,7 @@ pub fn active_clip<'a>(
     }
 }
 
-// The value at a stage time.
+// The value at a stage time, and the sample that it was read from.
 pub fn value<'a>(
     shape: Shape,
     starts: &'a [f64],

@@ -3,13 +3,13 @@ pub mod lent;
 
 use clip::ClipSet;
 use clip::Prepared;
-use definitions::Answer;
 use definitions::ClipTime;
 use definitions::Default;
 use definitions::LayerOffset;
 use definitions::Missing;
 use definitions::StageTime;
 use definitions::TemplateTimes;
+use definitions::ValueRead;
 use definitions::ValueState;
 use definitions::refusal;
 use sdf::Counted;
@@ -67,7 +67,7 @@ pub enum TimeReply {
 }
 
 pub enum ValueReply {
-    Answered(Answer),
+    Answered(ValueRead),
     Refused(u8),
 }
 
@@ -221,7 +221,7 @@ impl Resolver {
         )
     }
 
-    // The value at a stage time.
+    // The value at a stage time, and the sample that it was read from.
     pub fn value(
         self,
         times: &[f64],

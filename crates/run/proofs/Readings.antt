@@ -20,7 +20,7 @@ use Rattle.laws.specs.cell.Knots as Knots
 use Rattle.laws.specs.list.Places.{Fits}
 use Rattle.laws.proofs.list.Every.{every-getD}
 use Rattle.laws.proofs.cell.Numbers.{marked-numeric}
-use Rattle.window.proofs.Parts.{last-short}
+use Rattle.laws.proofs.cell.Places.{last-short}
 use Rattle.cell.specs.declared.step.line.Line.{Line}
 use Rattle.cell.specs.step.Lines.{lineIs, placeOn}
 use Rattle.run.specs.Readings.{Reads, LeftOnce, entryAt, readingAt}

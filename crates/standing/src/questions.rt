@@ -1,9 +1,9 @@
 // The questions that are asked of a standing set. Each is lent whole arrays, of which it lends on the entries that count.
 use crate::Counts;
-use definitions::Answer;
 use definitions::ClipTime;
 use definitions::Missing;
 use definitions::StageTime;
+use definitions::ValueRead;
 use definitions::ValueState;
 use definitions::refusal;
 use sdf::Counted;
@@ -17,7 +17,7 @@ ghost use lib.Ieee.Scale.{finite};
 ghost use Rattle.definitions.specs.ClipSet.{maxActive, maxKnots};
 ghost use Rattle.definitions.specs.StageSamples.{stageSamples};
 ghost use Rattle.definitions.specs.Timing.{activeEntry, clipOf, mapStageToClip};
-ghost use Rattle.definitions.specs.Value.{valueInSet};
+ghost use Rattle.definitions.specs.Value.{valueRead};
 ghost use Rattle.definitions.specs.Moments.{was, after, outsWere, outsLeft};
 ghost use Rattle.laws.specs.list.Every.{Every};
 ghost use Rattle.laws.specs.list.Places.{Ascending};
@@ -54,7 +54,7 @@ pub fn map_stage_to_clip<'a>(xs: &'a [f64], ys: &'a [f64], n: usize, t: StageTim
     lists::map_time(&xs[..n], &ys[..n], t)
 }
 
-// The value at a stage time: the Rust's `value_in_set`.
+// The value at a stage time, the Rust's `value_in_set`, and the sample that it was read from.
 pub fn value<'a>(
     starts: &'a [f64],
     numbers: &'a [u64],
@@ -68,14 +68,14 @@ pub fn value<'a>(
     marks: &[u8],
     ends: &[u64],
     t: StageTime,
-) -> Answer
+) -> ValueRead
     requires { ⌜ Asked counts (now starts) (now numbers) (now xs) (now ys) (now blocks) m (now times) (now values) (now marks) (now ends) ⌝ ∗ ⌜ T (finite (t .0)) ⌝ }
-    ensures { λ r. ⌜ r ≡ valueInSet (setWas counts starts numbers xs ys blocks m ends) (samplesWere times values marks ends) t ⌝ }
+    ensures { λ r. ⌜ r ≡ valueRead (setWas counts starts numbers xs ys blocks m ends) (samplesWere times values marks ends) t ⌝ }
 {
     let n = counts.starts;
     let k = counts.knots;
     let b = counts.blocks;
-    value::value::value_in_set(
+    value::value::value_read(
         &starts[..n],
         &numbers[..n],
         &xs[..k],

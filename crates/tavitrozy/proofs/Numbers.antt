@@ -3,6 +3,8 @@ use Prim.Native.Nat.{ℕ, zero, suc, min}
 use mathlib.Core.Path.{_≡_, refl, sym, ap, _∙_}
 use mathlib.Core.List.{List}
 use lib.ListN.{length}
+use lib.Ieee.{Float}
+use Rattle.gf.specs.Doubles.{0·0}
 use Rattle.definitions.specs.Examining.{Fields, explicitly, byTemplate, Examined, examine}
 use Rattle.definitions.specs.Questions.{Reply, refused, replied, reply, numberOf, askStageSampleTimes, askStageSamples, askStageSampleCount, askClipTimes}
 use Rattle.definitions.specs.Track.{slots, bakeNumber}
@@ -14,7 +16,10 @@ use Rattle.names.specs.declared.Named.the-variants as named
 use Rattle.names.specs.Named as names
 use Rattle.sdf.specs.declared.Counted.{Counted}
 use Rattle.sdf.specs.Counted.{counted}
+use Rattle.definitions.specs.declared.Answer.{Answer}
 use Rattle.definitions.specs.declared.Answer.the-variants as answer
+use Rattle.definitions.specs.declared.SampleRead.{SampleRead}
+use Rattle.definitions.specs.declared.SampleRead.the-variants as sample
 use Rattle.track.specs.declared.bake.Baked.{Baked}
 use Rattle.track.specs.Bakes.{bakeCode}
 use Rattle.resolver.specs.declared.ClipReply.{ClipReply}
@@ -31,7 +36,7 @@ use Rattle.tavitrozy.specs.declared.ClipCode.{ClipCode}
 use Rattle.tavitrozy.specs.declared.TimeCode.{TimeCode}
 use Rattle.tavitrozy.specs.declared.ValueCode.{ValueCode}
 use Rattle.tavitrozy.specs.declared.UntimedCode.{UntimedCode}
-use Rattle.tavitrozy.specs.Codes.{clipCode, timeCode, valueCode, untimedCode, nameCode}
+use Rattle.tavitrozy.specs.Codes.{clipCode, timeCode, sampleCode, answerCode, valueCode, untimedCode, nameCode}
 use Rattle.tavitrozy.specs.Numbers.{RepliedByNone, TwentyOneIsNotReplied}
 
 -- ---- the number in a code is the reply's
@@ -45,10 +50,17 @@ time-number : (r : TimeReply) → numberOf (timeReply r) ≡ timeCode r .number
 time-number (time.Time t) = refl
 time-number (time.Refused n) = refl
 
+sample-number : (mark : ℕ) (v : Float) (x : SampleRead) → 0 ≡ sampleCode mark v x .number
+sample-number mark v (sample.Of c i) = refl
+sample-number mark v sample.Nothing = refl
+
+answer-number : (a : Answer) (x : SampleRead) → 0 ≡ answerCode a x .number
+answer-number (answer.Value v) x = sample-number 0 v x
+answer-number answer.Blocked x = sample-number 1 0·0 x
+answer-number answer.Absent x = sample-number 2 0·0 x
+
 value-number : (r : ValueReply) → numberOf (valueReply r) ≡ valueCode r .number
-value-number (value.Answered (answer.Value v)) = refl
-value-number (value.Answered answer.Blocked) = refl
-value-number (value.Answered answer.Absent) = refl
+value-number (value.Answered r) = answer-number (r .answer) (r .sample)
 value-number (value.Refused n) = refl
 
 untimed-number : (r : UntimedReply) → numberOf (untimedReply r) ≡ untimedCode r .number

@@ -5,12 +5,13 @@ use mathlib.Core.Path.{_≡_}
 use mathlib.Core.Bool.{true, false}
 use mathlib.Core.List.{List}
 use Rattle.gf.specs.Doubles.{0·0}
+use lib.Ieee.{Float}
 use Rattle.definitions.specs.declared.Answer.{Answer}
 use Rattle.definitions.specs.declared.Answer.the-variants as answer
+use Rattle.definitions.specs.declared.SampleRead.{SampleRead}
+use Rattle.definitions.specs.declared.SampleRead.the-variants as sample
 use Rattle.definitions.specs.declared.StageTime.{StageTime}
 use Rattle.definitions.specs.declared.ClipTime.{ClipTime}
-use Rattle.definitions.specs.declared.Answer.{Answer}
-use Rattle.definitions.specs.declared.Answer.the-variants as answer
 use Rattle.definitions.specs.ClipSet.{markValue, markBlock, markNone}
 use Rattle.definitions.specs.ClipSet as sets
 use Rattle.definitions.specs.Samples.{Samples}
@@ -46,15 +47,20 @@ abbrev pub timeCode : TimeReply → TimeCode
 timeCode (time.Time t) = record { number = 0; time = t }
 timeCode (time.Refused n) = record { number = n; time = sets.clip 0·0 }
 
+-- "clip and place: those of the sample read, .. else none": a yes or no of their own, and 0 where there are none
+abbrev pub sampleCode : (mark : ℕ) → Float → SampleRead → ValueCode
+sampleCode mark v (sample.Of c i) = record { number = 0; mark = mark; sampled = true; value = v; clip = c; place = i }
+sampleCode mark v sample.Nothing = record { number = 0; mark = mark; sampled = false; value = v; clip = 0; place = 0 }
+
 -- "a number has mark 0, a blocked value 1, an absent one 2". A number has the bits that the question gives, whatever a track would write; where there is none stands 0.0.
-abbrev pub answerCode : Answer → ValueCode
-answerCode (answer.Value v) = record { number = 0; mark = markValue; value = v }
-answerCode answer.Blocked = record { number = 0; mark = markBlock; value = 0·0 }
-answerCode answer.Absent = record { number = 0; mark = markNone; value = 0·0 }
+abbrev pub answerCode : Answer → SampleRead → ValueCode
+answerCode (answer.Value v) = sampleCode markValue v
+answerCode answer.Blocked = sampleCode markBlock 0·0
+answerCode answer.Absent = sampleCode markNone 0·0
 
 abbrev pub valueCode : ValueReply → ValueCode
-valueCode (value.Answered a) = answerCode a
-valueCode (value.Refused n) = record { number = n; mark = 0; value = 0·0 }
+valueCode (value.Answered r) = answerCode (r .answer) (r .sample)
+valueCode (value.Refused n) = record { number = n; mark = 0; sampled = false; value = 0·0; clip = 0; place = 0 }
 
 abbrev pub stateCode : ValueState → ℕ
 stateCode state.Present = 0

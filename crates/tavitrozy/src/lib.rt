@@ -7,6 +7,7 @@ use definitions::Answer;
 use definitions::ClipTime;
 use definitions::Default;
 use definitions::LayerOffset;
+use definitions::SampleRead;
 use definitions::StageTime;
 use definitions::TemplateTimes;
 use definitions::ValueState;
@@ -34,7 +35,7 @@ ghost use Rattle.normal_form.specs.Normalizes.{Normalizes};
 ghost use Rattle.cell.specs.step.Entries.{entryIs};
 ghost use Rattle.resolver.specs.State.{Made, lentState, stateWas, stateLeft, settledState};
 ghost use Rattle.resolver.specs.Promises.{BeginsLent, Accepts, Expands, Installs, Retimes, BakesTrack, TellsTimes, TellsSamples, TellsSampleCount, TellsChangeCount};
-ghost use Rattle.tavitrozy.specs.Codes.{clipCode, timeCode, valueCode, untimedCode, TellsClip, TellsTime, TellsValue, TellsUntimed, nameCode, SaysName};
+ghost use Rattle.tavitrozy.specs.Codes.{clipCode, timeCode, sampleCode, answerCode, valueCode, untimedCode, TellsClip, TellsTime, TellsValue, TellsUntimed, nameCode, SaysName};
 
 // A clip is active, unless `found` is false.
 #[repr(C)]
@@ -50,12 +51,15 @@ pub struct TimeCode {
     pub time: ClipTime,
 }
 
-// Mark 0: the value; 1: blocked; 2: absent.
+// Mark 0: the value; 1: blocked; 2: absent. It was read from a sample, the one at a place of a clip, unless `sampled` is false.
 #[repr(C)]
 pub struct ValueCode {
     pub number: u8,
     pub mark: u8,
+    pub sampled: bool,
     pub value: f64,
+    pub clip: u64,
+    pub place: u64,
 }
 
 // State 0: present; 1: blocked; 2: absent.
@@ -99,31 +103,55 @@ fn time_code(r: TimeReply) -> TimeCode
     }
 }
 
+fn sample_code(mark: u8, value: f64, sample: SampleRead) -> ValueCode
+    ensures { λ a. ⌜ a ≡ sampleCode mark value sample ⌝ }
+{
+    match sample {
+        SampleRead::Of(clip, place) => ValueCode {
+            number: 0,
+            mark,
+            sampled: true,
+            value,
+            clip,
+            place,
+        },
+        SampleRead::Nothing => ValueCode {
+            number: 0,
+            mark,
+            sampled: false,
+            value,
+            clip: 0,
+            place: 0,
+        },
+    }
+}
+
+fn answer_code(answer: Answer, sample: SampleRead) -> ValueCode
+    ensures { λ a. ⌜ a ≡ answerCode answer sample ⌝ }
+{
+    match answer {
+        Answer::Value(v) => sample_code(0, v, sample),
+        Answer::Blocked => sample_code(1, 0.0, sample),
+        Answer::Absent => sample_code(2, 0.0, sample),
+    }
+}
+
 fn value_code(r: ValueReply) -> ValueCode
     ensures { λ a. ⌜ a ≡ valueCode r ⌝ }
 {
     match r {
-        ValueReply::Answered(a) => match a {
-            Answer::Value(v) => ValueCode {
-                number: 0,
-                mark: 0,
-                value: v,
-            },
-            Answer::Blocked => ValueCode {
-                number: 0,
-                mark: 1,
-                value: 0.0,
-            },
-            Answer::Absent => ValueCode {
-                number: 0,
-                mark: 2,
-                value: 0.0,
-            },
-        },
+        ValueReply::Answered(read) => {
+            let answer = read.answer;
+            let sample = read.sample;
+            answer_code(answer, sample)
+        }
         ValueReply::Refused(n) => ValueCode {
             number: n,
             mark: 0,
+            sampled: false,
             value: 0.0,
+            clip: 0,
+            place: 0,
         },
     }
 }

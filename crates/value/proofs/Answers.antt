@@ -1,25 +1,22 @@
 -- What a source says by the lent lists, and that a sample that is read lies in them. Assumes nothing.
-use mathlib.Core.Path.{_≡_, refl, sym, _∙_}
-use mathlib.Core.List.{List, [], _∷_}
-use Prim.Native.Nat.{ℕ, _+_, _-_, _≤_, _<_}
+use mathlib.Core.Path.{_≡_, refl, sym, ap, ap₂, _∙_}
+use mathlib.Core.List.{List}
+use Prim.Native.Nat.{ℕ, _+_}
 use native.Mathlib.Omega.{arith}
-use lib.ListN.{length, drop, length-drop}
-use lib.Seq.{length-take-le}
+use lib.ListN.{length}
 use lib.Ieee.{Float}
 use Rattle.definitions.specs.declared.Missing.{Missing}
-use Rattle.definitions.specs.declared.Start.{Start}
 use Rattle.definitions.specs.declared.StageTime.{StageTime}
-use Rattle.definitions.specs.declared.ClipTime.{ClipTime}
 use Rattle.definitions.specs.declared.Source.{Source}
 use Rattle.definitions.specs.declared.Source.the-variants.{Sample as sample, Default as default, Blocked as blocked, Absent as absent}
+use Rattle.definitions.specs.declared.Answer.{Answer}
 use Rattle.definitions.specs.declared.Answer.the-variants.{Value, Blocked, Absent}
+use Rattle.definitions.specs.declared.SampleRead.{SampleRead}
 use Rattle.definitions.specs.ClipSet.{ClipSet}
-use Rattle.definitions.specs.Timing.{mapStageToClip}
-use Rattle.definitions.specs.Samples.{Samples, clipBegin, clipEnd, clipTimes, heldPlace}
-use Rattle.definitions.specs.Value.{_orElse_, says, sampleOf, readClip, manifestDefault, gapSource, directSource, valueSource}
-use Rattle.laws.proofs.cell.Sources.{IfRead, Sourced, stand-in-sourced, direct-sourced, value-sourced}
+use Rattle.definitions.specs.Samples.{Samples, clipBegin}
+use Rattle.definitions.specs.Value.{says, valueSource, valueInSet, sampleRead, valueRead}
+use Rattle.laws.proofs.cell.Readings.{Placed, value-placed}
 use Rattle.laws.specs.cell.Lent.{setOf, samplesOf, AcceptedLists}
-use Rattle.window.proofs.Parts.{last-short}
 use Rattle.sdf.specs.look.Reads.{markedAt}
 use Rattle.value.specs.Answers.{answerIn, Answerable}
 
@@ -45,11 +42,6 @@ module _ (m : Missing) (values : List Float) (marks ends : List ℕ) (r : Source
 
 -- ---- what is read lies in the lists
 
-held-in : (n : ℕ) (ends : List ℕ) (c : ℕ) (l : List Float) (u : ClipTime) → c < length ends → clipBegin ends c + length l ≤ n → IfRead (Answerable n ends) (sampleOf c (heldPlace l u))
-unfolding heldPlace
-held-in n ends c [] u h k = tt
-held-in n ends c (x ∷ l) u h k = (h, omega (arith, last-short (x ∷ l) (u .0) (omega arith)))
-
 module _ {starts : List Float} {clips : List ℕ} {xs ys blocks : List Float} {m : Missing} {times values : List Float} {marks ends : List ℕ} (R : AcceptedLists starts clips xs ys blocks m times values marks ends) where
   abbrev set : ClipSet
   set = setOf (length ends) starts clips xs ys blocks m
@@ -67,27 +59,23 @@ module _ {starts : List Float} {clips : List ℕ} {xs ys blocks : List Float} {m
   pub ready-marks : length marks ≡ length values
   ready-marks = R .accepted .marks ∙ sym (R .accepted .values)
 
-  read-in : (c : ℕ) (t : StageTime) → c < length ends → IfRead (Answerable (length values) ends) (readClip set s c t)
-  unfolding setOf readClip clipTimes
-  read-in c t h =
-      let f = R .accepted .from c h in
-      let i = R .accepted .inside c h in
-      let v = R .accepted .values in
-      held-in (length values) ends c (clipTimes s c) (mapStageToClip (set .knots) t) h
-      (omega (arith, length-take-le (clipEnd ends c - clipBegin ends c) (drop (clipBegin ends c) times) (omega (arith, length-drop (clipBegin ends c) times))))
-
-  abbrev Named : Start → Type 0
-  Named a = a .clip < length ends
-
-  sourced : Sourced (setOf (length ends) starts clips xs ys blocks m) (samplesOf times values marks ends) (Answerable (length values) ends) Named
-  unfolding setOf
-  sourced = record { starts = R .sound .named; reads = λ a t h. read-in (a .clip) t h; default = λ e. tt; blocked = tt; absent = tt }
-
-  pub stand-in-in : (p : ℕ) → Answerable (length values) ends (manifestDefault set orElse gapSource set s p)
-  stand-in-in p = stand-in-sourced (Answerable (length values) ends) Named sourced p
-
-  pub direct-in : (t : StageTime) → Answerable (length values) ends (directSource set s t)
-  direct-in t = direct-sourced (Answerable (length values) ends) Named sourced t
-
   pub value-in : (t : StageTime) → Answerable (length values) ends (valueSource set s t)
-  value-in t = value-sourced (Answerable (length values) ends) Named sourced t
+  unfolding setOf
+  value-in t = go (valueSource set s t) (value-placed set s (R .sound) (R .accepted) t)
+    where
+      go : (r : Source) → Placed ends r → Answerable (length values) ends r
+      go (sample c i) p = (p .0, omega (arith, p .1, R .accepted .inside c (p .0), R .accepted .values))
+      go default p = tt
+      go blocked p = tt
+      go absent p = tt
+
+  -- ---- the value, and beside it its sample, by the source that was found
+
+  module _ (t : StageTime) (r : Source) (found : r ≡ valueSource set s t) where
+    answers-value : answerIn m values marks ends r ≡ valueInSet set s t
+    unfolding valueInSet
+    answers-value = says-ready r ∙ ap (says set s) found
+
+    pub reads-value : (a : Answer) (x : SampleRead) → a ≡ answerIn m values marks ends r → x ≡ sampleRead a r → record { answer = a; sample = x } ≡ valueRead set s t
+    unfolding valueRead
+    reads-value a x e f = let q = e ∙ answers-value in ap₂ (λ (b : Answer) (y : SampleRead). record { answer = b; sample = y }) q (f ∙ ap₂ sampleRead q found)

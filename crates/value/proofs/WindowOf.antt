@@ -8,32 +8,32 @@ use lib.Dec.{T, eqb, ltb}
 use lib.ListN.{length, getD, getElem?, take, drop}
 use lib.Ieee.{Float, nan, inf, eq, lt, le}
 use borrow.Author.Tests.{ltb-true, ltb-false, lt-ltb, le-ltb, eqb-false}
-use Rattle.gf.proofs.KeyLaws.{key→le, key→lt, le-trans, finite-no-nan}
+use Rattle.gf.proofs.KeyLaws.{key→le, key→lt, finite-no-nan}
 use Rattle.gf.specs.declared.interval.Interval.{Interval}
 use Rattle.definitions.specs.declared.Missing.{Missing}
 use Rattle.definitions.specs.declared.Source.the-variants.{Sample as sample}
 use Rattle.definitions.specs.Lists.{any, keep}
 use Rattle.definitions.specs.Doubles.{FiniteDouble}
 use Rattle.definitions.specs.ClipSet.{ClipSet, stage}
-use Rattle.definitions.specs.Timing.{lastAtMost, mapTime, mapStageToClip}
+use Rattle.definitions.specs.Timing.{lastAtMost, activePosition, mapTime, mapStageToClip}
 use Rattle.definitions.specs.Samples.{Samples, clipBegin, clipEnd}
 use Rattle.definitions.specs.Value.{startOf, gathered, directSource}
-use Rattle.laws.proofs.list.Tests.{is-true, holds}
+use Rattle.laws.proofs.list.Tests.{is-true}
 use Rattle.laws.specs.list.Every.{Every}
-use Rattle.laws.proofs.list.Every.{every-at, every-by}
+use Rattle.laws.proofs.list.Every.{every-at}
 use Rattle.laws.specs.list.Places.{Ascending, Fits}
-use Rattle.laws.proofs.list.Places.{atMost, at-most-length, at-most-is, beyond, last-is}
-use Rattle.laws.proofs.cell.Places.{Clear, place-same}
-use Rattle.laws.proofs.cell.Window.{inf-below, inf-above}
+use Rattle.laws.proofs.cell.Places.{Clear}
+use Rattle.laws.proofs.cell.Window.{inf-below, inf-above, window-below}
 use Rattle.laws.specs.cell.Neighbours.{IsLower}
+use Rattle.laws.proofs.cell.Lent.{sound-set, sound-samples}
 use Rattle.laws.specs.cell.Lent.{activeOf, knotsOf, setOf, samplesOf, AcceptedLists}
 use Rattle.window.specs.Bounds.{inside}
 use Rattle.window.specs.Inverses.{inversesOf}
 use Rattle.window.specs.Parts.{partOf}
-use Rattle.window.proofs.Parts.{ready-starts, ready-clip, ready-readable}
+use Rattle.window.proofs.Parts.{ready-starts, ready-clip, ready-readable, ready-position}
 use Rattle.window.specs.Windows.{minOf, maxOf, windowOf, windowPart, ifOwn}
 use Rattle.window.proofs.Windows.{next-is, next-none, gathered-is}
-use Rattle.window.proofs.nearest.Beside.{finite-number, number-at, climb, next-above, last-reached}
+use Rattle.window.proofs.nearest.Beside.{finite-number, number-at, next-above, last-reached}
 use Rattle.value.proofs.direct.ReadsLaws.{read-none, read-some}
 use Rattle.value.specs.direct.Sources.{standIn}
 use Rattle.value.proofs.direct.Sources.{reads-own, reads-empty, reads-out}
@@ -199,24 +199,13 @@ module _ {starts : List Float} {clips : List ℕ} {xs ys blocks : List Float} {m
         }
 
       -- a lower neighbour is read in the same window
-      pub window-held : Fits t → (l : Float) → IsLower (gathered set s p) t l → directSource set s (stage l) ≡ windowSource xs ys times w l
-      unfolding windowTimes
-      window-held ft l L =
-          W .direct l
-          (place-same l t (L .fits) ft (L .upto) starts (every-by Fits starts nan (λ i h. finite-start i h .fitting)) (every-by (Clear l t) starts nan clear) ∙ sym at)
-        where
-          first : T (le (getD starts p nan) t) → T (le (getD starts p nan) l)
-          first = subst (λ (x : Float). T (le x t) → T (le x l)) (W .start) (subst (Every (λ (x : Float). T (le x t) → T (le x l))) window-gathered (L .last) .0)
+      lower-place : Fits t → (l : Float) → IsLower (gathered set s p) t l → lastAtMost starts l ≡ p
+      unfolding setOf activePosition
+      lower-place ft l L =
+          let q = ready-position R t p at in
+          sym (ready-position R l (lastAtMost starts l) refl)
+          ∙ window-below set s (sound-set set (R .sound)) (sound-samples set s (R .accepted)) l t (L .fits) ft (L .upto) (subst (λ (i : ℕ). Every (Clear l t) (gathered set s i)) (sym q) (L .last))
+          ∙ q
 
-          clear : (i : ℕ) → i < length starts → Clear l t (getD starts i nan)
-          clear i h u =
-              let a = ready-starts R in
-              let x = number-at starts a i h in
-              let y = number-at starts a p (W .place) in
-              let b = beyond t ft nan starts a i h (is-true (le (getD starts i nan) t) u) in
-              let k = climb starts a i p (omega (arith, last-is t ft starts a, at)) (W .place) in
-              let v = holds-at p (omega (arith, last-is t ft starts a, at)) in
-              le-trans (getD starts i nan) (getD starts p nan) l (x .0) (y .0) (L .fits) (key→le (getD starts i nan) (getD starts p nan) (x .0) (y .0) (x .1) (y .1) k) (first v)
-            where
-              holds-at : (j : ℕ) → j < atMost starts t → T (le (getD starts j nan) t)
-              holds-at j b = holds (le (getD starts j nan) t) (at-most-is t ft nan starts (ready-starts R) j (omega (arith, at-most-length starts t)) ∙ lt-ltb j (atMost starts t) b)
+      pub window-held : Fits t → (l : Float) → IsLower (gathered set s p) t l → directSource set s (stage l) ≡ windowSource xs ys times w l
+      window-held ft l L = W .direct l (lower-place ft l L)

@@ -1,6 +1,7 @@
 // The direct value: the active clip's held reading at the clip time, or what stands in for it.
 
 use definitions::Missing;
+use definitions::SampleRead;
 use definitions::Source;
 use definitions::StageTime;
 use sdf::look::HeldPlace;
@@ -19,12 +20,6 @@ ghost use Rattle.window.specs.Parts.{Readable};
 ghost use Rattle.sdf.specs.look.Reads.{heldIs};
 ghost use Rattle.value.specs.direct.Reads.{readingIs, heldPart, readStart, firstRead, SearchAsks};
 ghost use Rattle.value.specs.direct.Sources.{standIn};
-
-// A sample that is read: its clip, and its place counted from the clip's first.
-pub enum Reading {
-    Of(u64, u64),
-    Nothing,
-}
 
 // 1 where a block equals the start, else 0.
 fn equal_found(block: f64, start: f64) -> u64
@@ -95,13 +90,13 @@ fn read_start(
     marks: &[u8],
     ends: &[u64],
     i: usize,
-) -> Reading
+) -> SampleRead
     requires { ⌜ SearchAsks (now starts) (now clips) (now xs) (now ys) (now times) (now values) (now marks) (now ends) ⌝ ∗ ⌜ i < length (now starts) ⌝ }
     ensures { λ r. ⌜ readingIs r ≡ readStart (was blocks) (was xs) (was ys) (was times) (was ends) (start (getD (was starts) i nan) (getD (was clips) i 0)) ⌝ }
 {
     let time = starts[i];
     if blocked_at(blocks, time) {
-        return Reading::Nothing;
+        return SampleRead::Nothing;
     }
     let clip = clips[i];
     let HeldPlace::At(place, _) = read_clip(
@@ -114,9 +109,9 @@ fn read_start(
         clip,
         StageTime(time),
     ) else {
-        return Reading::Nothing;
+        return SampleRead::Nothing;
     };
-    Reading::Of(clip, place as u64)
+    SampleRead::Of(clip, place as u64)
 }
 
 // The nearest reading of a start before the place `p`.
@@ -131,7 +126,7 @@ fn nearest_before(
     marks: &[u8],
     ends: &[u64],
     p: usize,
-) -> Reading
+) -> SampleRead
     requires { ⌜ SearchAsks (now starts) (now clips) (now xs) (now ys) (now times) (now values) (now marks) (now ends) ⌝ ∗ ⌜ p ≤ length (now starts) ⌝ }
     ensures { λ r. ⌜ readingIs r ≡ firstRead (was blocks) (was xs) (was ys) (was times) (was ends) (reverse (take p (activeOf (was starts) (was clips)))) ⌝ }
 {
@@ -150,11 +145,11 @@ fn nearest_before(
             ends,
             left,
         );
-        if let Reading::Of(clip, place) = found {
-            return Reading::Of(clip, place);
+        if let SampleRead::Of(clip, place) = found {
+            return SampleRead::Of(clip, place);
         }
     }
-    Reading::Nothing
+    SampleRead::Nothing
 }
 
 // The nearest reading of a start from the place `p` on.
@@ -169,19 +164,19 @@ fn nearest_from(
     marks: &[u8],
     ends: &[u64],
     p: usize,
-) -> Reading
+) -> SampleRead
     requires { ⌜ SearchAsks (now starts) (now clips) (now xs) (now ys) (now times) (now values) (now marks) (now ends) ⌝ ∗ ⌜ p ≤ length (now starts) ⌝ }
     ensures { λ r. ⌜ readingIs r ≡ firstRead (was blocks) (was xs) (was ys) (was times) (was ends) (drop p (activeOf (was starts) (was clips))) ⌝ }
 {
     let mut i = p;
     while i < starts.len() {
         let found = read_start(starts, clips, xs, ys, blocks, times, values, marks, ends, i);
-        if let Reading::Of(clip, place) = found {
-            return Reading::Of(clip, place);
+        if let SampleRead::Of(clip, place) = found {
+            return SampleRead::Of(clip, place);
         }
         i += 1;
     }
-    Reading::Nothing
+    SampleRead::Nothing
 }
 
 // What stands in for the reading of the start at the place `p`: the manifest default, then a value of the starts before it, then of those after it.
@@ -209,7 +204,7 @@ pub fn interpolate_missing_value(
         return Source::Blocked;
     }
     let back = nearest_before(starts, clips, xs, ys, blocks, times, values, marks, ends, p);
-    if let Reading::Of(clip, place) = back {
+    if let SampleRead::Of(clip, place) = back {
         return Source::Sample(clip, place);
     }
     let next = p + 1;
@@ -225,7 +220,7 @@ pub fn interpolate_missing_value(
         ends,
         next,
     );
-    if let Reading::Of(clip, place) = on {
+    if let SampleRead::Of(clip, place) = on {
         return Source::Sample(clip, place);
     }
     Source::Blocked

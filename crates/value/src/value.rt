@@ -5,8 +5,10 @@ use super::windowed::source_in;
 use super::windowed::window_of;
 use definitions::Answer;
 use definitions::Missing;
+use definitions::SampleRead;
 use definitions::Source;
 use definitions::StageTime;
+use definitions::ValueRead;
 use sdf::part::clip_begin;
 use sdf::part::clip_end;
 use window::Bound;
@@ -16,7 +18,7 @@ ghost use mathlib.Core.Path.{_≡_};
 ghost use lib.Dec.{T};
 ghost use lib.ListN.{length};
 ghost use lib.Ieee.Scale.{finite};
-ghost use Rattle.definitions.specs.Value.{valueSource, valueInSet};
+ghost use Rattle.definitions.specs.Value.{valueSource, valueInSet, sampleRead, valueRead};
 ghost use Rattle.definitions.specs.Moments.{was};
 ghost use Rattle.laws.specs.cell.Lent.{AcceptedLists, setWas, samplesWere};
 ghost use Rattle.value.specs.Answers.{answerIn, Answerable};
@@ -114,7 +116,58 @@ pub fn answer_of(
     }
 }
 
-// The value at the stage time `t`.
+// The sample that a number was read from. A block that is read is a reading, but no number.
+fn sample_read(answer: Answer, source: Source) -> SampleRead
+    ensures { λ r. ⌜ r ≡ sampleRead answer source ⌝ }
+{
+    match answer {
+        Answer::Value(_) => match source {
+            Source::Sample(clip, place) => SampleRead::Of(clip, place),
+            Source::Default => SampleRead::Nothing,
+            Source::Blocked => SampleRead::Nothing,
+            Source::Absent => SampleRead::Nothing,
+        },
+        Answer::Blocked => SampleRead::Nothing,
+        Answer::Absent => SampleRead::Nothing,
+    }
+}
+
+// The value at the stage time `t`, and the sample that it was read from.
+pub fn value_read(
+    starts: &[f64],
+    clips: &[u64],
+    xs: &[f64],
+    ys: &[f64],
+    blocks: &[f64],
+    m: Missing,
+    times: &[f64],
+    values: &[f64],
+    marks: &[u8],
+    ends: &[u64],
+    t: StageTime,
+) -> ValueRead
+    requires { ⌜ AcceptedLists (now starts) (now clips) (now xs) (now ys) (now blocks) m (now times) (now values) (now marks) (now ends) ⌝ ∗ ⌜ T (finite (t .0)) ⌝ }
+    ensures { λ r. ⌜ r ≡ valueRead (setWas starts clips xs ys blocks m ends) (samplesWere times values marks ends) t ⌝ }
+{
+    let source = value_source(
+        starts,
+        clips,
+        xs,
+        ys,
+        blocks,
+        m,
+        times,
+        values,
+        marks,
+        ends,
+        t,
+    );
+    let answer = answer_of(m, times, values, marks, ends, source);
+    let sample = sample_read(answer, source);
+    ValueRead { answer, sample }
+}
+
+// The value alone.
 pub fn value_in_set(
     starts: &[f64],
     clips: &[u64],
@@ -131,7 +184,7 @@ pub fn value_in_set(
     requires { ⌜ AcceptedLists (now starts) (now clips) (now xs) (now ys) (now blocks) m (now times) (now values) (now marks) (now ends) ⌝ ∗ ⌜ T (finite (t .0)) ⌝ }
     ensures { λ r. ⌜ r ≡ valueInSet (setWas starts clips xs ys blocks m ends) (samplesWere times values marks ends) t ⌝ }
 {
-    let source = value_source(
+    let read = value_read(
         starts,
         clips,
         xs,
@@ -144,5 +197,5 @@ pub fn value_in_set(
         ends,
         t,
     );
-    answer_of(m, times, values, marks, ends, source)
+    read.answer
 }

@@ -1,14 +1,12 @@
 -- A clip's part of the lent times, what a reading asks of the lent lists, and what lists that are ready tell. Assumes nothing.
 use mathlib.Core.Path.{_≡_, sym, ap, _∙_, subst}
-use mathlib.Core.Bool.{Bool, true, false, cond}
-use mathlib.Core.List.{List, [], _∷_}
-use Prim.Native.Nat.{ℕ, suc, _-_, _<_}
+use mathlib.Core.List.{List}
+use Prim.Native.Nat.{ℕ, _<_}
 use native.Mathlib.Omega.{arith}
 use lib.ListN.{length, getD}
-use lib.Ieee.{Float, nan, le}
+use lib.Ieee.{Float, nan}
 use Rattle.definitions.specs.declared.Missing.{Missing}
 use Rattle.definitions.specs.declared.Start.{Start}
-use Rattle.definitions.specs.Lists.{any}
 use Rattle.definitions.specs.ClipSet.{ClipSet, stage, clip}
 use Rattle.definitions.specs.Timing.{lastAtMost, activePosition}
 use Rattle.definitions.specs.Samples.{Samples, clipTimes}
@@ -20,19 +18,6 @@ use Rattle.laws.specs.cell.Lent.{start, activeOf, knotsOf, setOf, samplesOf, Ac
 use Rattle.laws.proofs.cell.Lent.{zip-length, active-times, knot-times, sound-set}
 use Rattle.window.proofs.SoundSegments.{segments}
 use Rattle.window.specs.Parts.{Readable}
-
--- ---- a clip's part of the lent times
-
--- the place of the last time at most t is a place, if there are any
-pub last-short : (l : List Float) (t : Float) → 0 < length l → lastAtMost l t < length l
-unfolding lastAtMost
-last-short [] t h = absurd (omega arith)
-last-short (x ∷ []) t h = omega arith
-last-short (x ∷ y ∷ l) t h = go (any (λ (z : Float). le z t) (y ∷ l)) (last-short (y ∷ l) t (omega arith))
-  where
-    go : (b : Bool) → lastAtMost (y ∷ l) t < length (y ∷ l) → cond b (suc (lastAtMost (y ∷ l) t)) 0 < suc (length (y ∷ l))
-    go true k = omega arith
-    go false k = omega arith
 
 -- ---- of lists that are ready
 

@@ -10,7 +10,8 @@ pub(crate) enum Question {
     Dump,
     Active,
     ClipTime,
-    Value,
+    // Whether the sample is asked for too.
+    Value(bool),
     Times,
     StageSamples,
     Untimed,
@@ -74,7 +75,11 @@ pub(crate) fn call_of(line: &[u8]) -> Call {
 fn question_of(line: &[u8]) -> Call {
     let at = crate::text::after(line, 0, b"value");
     if at != crate::text::NOWHERE {
-        return Call::Asking(Question::Value, at);
+        return Call::Asking(Question::Value(false), at);
+    }
+    let at = crate::text::after(line, 0, b"read");
+    if at != crate::text::NOWHERE {
+        return Call::Asking(Question::Value(true), at);
     }
     let at = crate::text::after(line, 0, b"active");
     if at != crate::text::NOWHERE {

@@ -243,7 +243,7 @@ fn clip_times(line: &[u8], at: usize) -> Walk {
 
 fn asking(kind: Question, line: &[u8], at: usize) -> Walk {
     match kind {
-        Question::Value => step(line, begun(at), Kind::Double),
+        Question::Value(_) => step(line, begun(at), Kind::Double),
         Question::Active => step(line, begun(at), Kind::Double),
         Question::ClipTime => step(line, begun(at), Kind::Double),
         Question::Name => name(line, at),

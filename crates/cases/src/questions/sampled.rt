@@ -5,23 +5,46 @@ use crate::lines::slots::least;
 use crate::lines::slots::slots;
 use crate::lines::written;
 use definitions::Answer;
+use definitions::SampleRead;
 use definitions::StageTime;
+use definitions::ValueRead;
 use definitions::ValueState;
 use resolver::Resolver;
 use resolver::UntimedReply;
 use resolver::ValueReply;
 ghost use Rattle.resolver.specs.State.{Made};
 
-fn answer(a: Answer, out: &mut [u8], full: usize) -> usize {
+// Mark and value, behind the word of the call.
+fn answer(word: &[u8], a: Answer, out: &mut [u8], full: usize) -> usize {
     match a {
-        Answer::Value(x) => {
-            let n = crate::text::put(out, full, b"value 0");
-            let n = reply::double(x, out, n);
-            crate::text::put_byte(out, n, b'\n')
-        }
-        Answer::Blocked => crate::text::put(out, full, b"value 1 0000000000000000\n"),
-        Answer::Absent => crate::text::put(out, full, b"value 2 0000000000000000\n"),
+        Answer::Value(x) => reply::head(word, 0, x, out, full),
+        Answer::Blocked => reply::head(word, 1, 0.0, out, full),
+        Answer::Absent => reply::head(word, 2, 0.0, out, full),
     }
+}
+
+// Clip and place.
+fn sample(s: SampleRead, out: &mut [u8], full: usize) -> usize {
+    match s {
+        SampleRead::Of(clip, place) => {
+            let n = reply::decimal(clip, out, full);
+            reply::decimal(place, out, n)
+        }
+        SampleRead::Nothing => crate::text::put(out, full, b" none none"),
+    }
+}
+
+// `read` says the sample too, `value` the answer alone.
+fn answered(r: ValueRead, sampled: bool, out: &mut [u8], full: usize) -> usize {
+    let a = r.answer;
+    if sampled {
+        let s = r.sample;
+        let n = answer(b"read", a, out, full);
+        let n = sample(s, out, n);
+        return crate::text::put_byte(out, n, b'\n');
+    }
+    let n = answer(b"value", a, out, full);
+    crate::text::put_byte(out, n, b'\n')
 }
 
 pub(super) fn value(
@@ -32,6 +55,7 @@ pub(super) fn value(
     times: &[f64],
     values: &[f64],
     marks: &[u8],
+    sampled: bool,
     out: &mut [u8],
     full: usize,
 ) -> usize
@@ -42,7 +66,7 @@ pub(super) fn value(
         return crate::text::NOWHERE;
     }
     match resolver.value(times, values, marks, ends, StageTime(t.value)) {
-        ValueReply::Answered(a) => answer(a, out, full),
+        ValueReply::Answered(r) => answered(r, sampled, out, full),
         ValueReply::Refused(number) => reply::refused(number, out, full),
     }
 }

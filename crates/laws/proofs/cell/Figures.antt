@@ -13,10 +13,10 @@ use Rattle.definitions.specs.ClipSet.{ClipSet, stage, nanDefault, equalKnots}
 use Rattle.definitions.specs.Timing.{lastAtMost, activePosition, onSegment, mapTime, mapStageToClip}
 use Rattle.definitions.specs.Samples.{Samples, clipBegin, clipEnd, clipTimes, heldPlace, unlikeLengths, samples1, samples2, badMarks, closes, samples9, samplesNumber}
 use Rattle.definitions.specs.declared.Source.the-variants.{Sample as sample}
-use Rattle.definitions.specs.Value.{blockedAt, contributes, readClip, directSource, window, stageTimesForClipTime, windowSampleTimes, gathered, lowerNeighbour, upperNeighbour, jump, valueInSet}
+use Rattle.definitions.specs.Value.{says, blockedAt, contributes, readClip, directSource, window, stageTimesForClipTime, windowSampleTimes, gathered, lowerNeighbour, upperNeighbour, jump, readingTime, valueSource, valueInSet, valueRead}
 use Rattle.definitions.specs.StageSamples.{stageSampleTimes}
 use Rattle.definitions.specs.Facts.{StageSampleTimesAre, valueInOrder}
-use Rattle.laws.specs.Facts.{Given}
+use Rattle.laws.specs.Facts.{Given, clipRead, Stands}
 use Rattle.laws.specs.cell.Knots.{flat, segment, lineOf}
 use Rattle.laws.proofs.cell.Direct.{SoundSet, SoundSamples}
 use Rattle.laws.specs.cell.Stretches.{heldFrom}
@@ -25,6 +25,7 @@ use Rattle.laws.proofs.set.Accepted.{accepted}
 use Rattle.laws.proofs.cell.Numbers.{SoundValues, sound-values}
 use Rattle.laws.proofs.cell.StageTimes.{stage-sample-times}
 use Rattle.laws.proofs.cell.InOrder.{value-in-order}
+use Rattle.laws.proofs.cell.Readings.{sample-stands, one-clip}
 
 abbrev frac : ℕ → ℕ → Float
 frac a b = round binary64 false a b
@@ -102,6 +103,15 @@ times-so = stage-sample-times (set two saw) samples given
 value-so : valueInSet (set two saw) samples (stage (frac 5 2)) ≡ valueInOrder (set two saw) samples (stage (frac 5 2))
 unfolding fits round
 value-so = value-in-order (set two saw) samples given (stage (frac 5 2)) (record { fitting = tt; finitely = tt })
+
+-- at 2.5 the second sample is read, at 1 the first: they stand in the lent lists, and are of one clip
+sample-so : Stands samples 0 1 (valueRead (set two saw) samples (stage (frac 5 2)) .answer)
+unfolding valueRead valueInSet says valueSource directSource readingTime readClip mapStageToClip mapTime onSegment lerp share heldPlace activePosition lastAtMost gathered windowSampleTimes window stageTimesForClipTime lowerNeighbour upperNeighbour jump round add sub mul div neg ofBits eq lt le blockedAt contributes clipBegin clipEnd clipTimes
+sample-so = sample-stands (set two saw) samples given (stage (frac 5 2)) 0 1 refl
+
+clip-so : clipRead (valueRead (set two saw) samples (stage (frac 5 2)) .sample) ≡ clipRead (valueRead (set two saw) samples (stage (frac 1 1)) .sample)
+unfolding valueRead valueInSet says valueSource directSource readingTime readClip mapStageToClip mapTime onSegment lerp share heldPlace activePosition lastAtMost gathered windowSampleTimes window stageTimesForClipTime lowerNeighbour upperNeighbour jump round add sub mul div neg ofBits eq lt le blockedAt contributes clipBegin clipEnd clipTimes fits
+clip-so = one-clip (set two saw) samples given (stage (frac 5 2)) (stage (frac 1 1)) (record { fitting = tt; finitely = tt }) (record { fitting = tt; finitely = tt }) refl (frac 2 1) (frac 1 1) refl refl
 
 -- ---- the cells at 2.5. The inverse time of 7.6 is 2.0999999999999996, whose clip time is below 7.6.
 

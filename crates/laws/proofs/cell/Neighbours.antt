@@ -118,6 +118,14 @@ module _ (times : List Float) (fit : Every Fits times) (t : Float) (ft : Fits t)
   unfolding lowerNeighbour
   lower-fits m q = maximum-one Fits m earlier (every-keep Fits (λ (x : Float). le x t) times fit) q
 
+  pub lower-upto : (m : Float) → lowerNeighbour times t ≡ some m → T (le m t)
+  unfolding lowerNeighbour
+  lower-upto m q = maximum-one (λ (x : Float). T (le x t)) m earlier (kept-pass (λ (x : Float). le x t) times) q
+
+  pub lower-last : (m : Float) → lowerNeighbour times t ≡ some m → Every (λ (x : Float). T (le x t) → T (le x m)) times
+  unfolding lowerNeighbour
+  lower-last m q = every-kept (λ (x : Float). T (le x m)) (λ (x : Float). le x t) times (maximum-all m earlier earlier-number q)
+
   pub lower-none : Every (λ (x : Float). T (le x t) → ⊥) times → lowerNeighbour times t ≡ none
   unfolding lowerNeighbour
   lower-none h =

@@ -3,8 +3,10 @@ use mathlib.Core.Path.{_≡_, refl, ap₂}
 use mathlib.Core.Logic.{inl, inr}
 use mathlib.Core.Bool.{Bool, true, false, not, _||_, cond}
 use mathlib.Core.List.{List, [], _∷_}
-use Prim.Native.Nat.{ℕ, suc, _≤_, zero-le, suc-le-suc}
+use Prim.Native.Nat.{ℕ, suc, _≤_, _<_, zero-le, suc-le-suc}
+use native.Mathlib.Omega.{arith}
 use lib.Dec.{T, T-not, not-T}
+use lib.ListN.{length}
 use lib.Ieee.{Float, isNan, lt, le}
 use Rattle.gf.proofs.KeyLaws.{same-test, le-trans, le-or-lt, le-lt-trans, lt-not-le, le-no-nan, lt→le}
 use Rattle.definitions.specs.Lists.{any, keep}
@@ -19,6 +21,17 @@ Clear t u x = T (le x u) → T (le x t)
 
 pub not-le-lt : (x y : Float) → Fits x → Fits y → T (not (isNan x)) → T (not (isNan y)) → T (not (le x y)) → T (lt y x)
 not-le-lt x y fx fy nx ny h = elim (le-or-lt x y fx fy nx ny) [ inl k ↦ absurd (T-not (le x y) h k) | inr k ↦ k ]
+
+-- the place of the last time at most t is a place, if there are any
+pub last-short : (l : List Float) (t : Float) → 0 < length l → lastAtMost l t < length l
+unfolding lastAtMost
+last-short [] t h = absurd (omega arith)
+last-short (x ∷ []) t h = omega arith
+last-short (x ∷ y ∷ l) t h = go (any (λ (z : Float). le z t) (y ∷ l)) (last-short (y ∷ l) t (omega arith))
+  where
+    go : (b : Bool) → lastAtMost (y ∷ l) t < length (y ∷ l) → cond b (suc (lastAtMost (y ∷ l) t)) 0 < suc (length (y ∷ l))
+    go true k = omega arith
+    go false k = omega arith
 
 cond-mono : (a b : Bool) (m n : ℕ) → (T a → T b) → m ≤ n → cond a (suc m) 0 ≤ cond b (suc n) 0
 cond-mono true true m n f h = suc-le-suc h

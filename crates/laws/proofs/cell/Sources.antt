@@ -73,7 +73,7 @@ module _ {set : ClipSet} {s : Samples} (P : Source → Type 0) (Q : Start → Ty
       go true e = H .default (e tt)
       go false e = tt
 
-  pub stand-in-sourced : (p : ℕ) → P (manifestDefault set orElse gapSource set s p)
+  stand-in-sourced : (p : ℕ) → P (manifestDefault set orElse gapSource set s p)
   stand-in-sourced p = or-else P (manifestDefault set) (gapSource set s p) default-sourced (gap-sourced p)
 
   source-sourced : (t : StageTime) (p : ℕ) (o : Option Start) → ((a : Start) → o ≡ some a → Q a) → P (sourceAt set s t p o)
@@ -84,7 +84,7 @@ module _ {set : ClipSet} {s : Samples} (P : Source → Type 0) (Q : Start → Ty
       go true = H .reads a t (h a refl)
       go false = tt
 
-  pub direct-sourced : (t : StageTime) → P (directSource set s t)
+  direct-sourced : (t : StageTime) → P (directSource set s t)
   unfolding directSource
   direct-sourced t = let p = activePosition (set .active) t in source-sourced t p (getElem? (set .active) p) (λ a e. every-elem Q (set .active) p a (H .starts) e)
 

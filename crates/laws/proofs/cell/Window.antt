@@ -23,10 +23,10 @@ use Rattle.definitions.specs.Timing.{lastAtMost}
 use Rattle.definitions.specs.Samples.{Samples, clipTimes}
 use Rattle.definitions.specs.Value.{contains, timeOr, window, spans, inverse, onPair, stageTimesForClipTime, startOf, windowSampleTimes, contributes, contributedTimes, gathered, lowerNeighbour, upperNeighbour, maximum, minimum}
 use Rattle.laws.specs.list.Every.{Every}
-use Rattle.laws.proofs.list.Tests.{both, both-l, both-r, or-not, nor-l}
-use Rattle.laws.proofs.list.Every.{every-map, every-zip, every-append, every-left, every-right, every-keep, every-kept, every-gather, every-to-map}
+use Rattle.laws.proofs.list.Tests.{holds, both, both-l, both-r, or-not, nor-l}
+use Rattle.laws.proofs.list.Every.{every-map, any-every, every-zip, every-append, every-left, every-right, every-keep, every-kept, every-gather, every-to-map}
 use Rattle.laws.specs.list.Places.{Fits}
-use Rattle.laws.proofs.cell.Places.{Clear, not-le-lt, any-le, keep-le-same, keep-lt-same}
+use Rattle.laws.proofs.cell.Places.{Clear, not-le-lt, any-le, place-same, keep-le-same, keep-lt-same}
 use Rattle.laws.specs.cell.Knots.{SoundKnot}
 use Rattle.laws.proofs.cell.Knots.{knots-fit}
 use Rattle.laws.proofs.cell.Direct.{SoundSet, SoundSamples, starts-fit, clip-fit}
@@ -142,6 +142,35 @@ module _ (t u : Float) (ft : Fits t) (fu : Fits u) (h : T (le t u)) where
       go false true d m n k r = absurd (n (not-T (le (b .time) u) (λ w. T-not (le (b .time) t) (k tt) (d .0 w))))
       go false false d m n k r = refl
 
+  -- ---- and if the one that is active at u is not passed
+
+  starts-clear : (active : List Start) → Every Fits (activeTimes active) → T (ascending (activeTimes active)) → Every (Clear t u) (startOf (getElem? active (at u active))) → Every (Clear t u) (activeTimes active)
+  unfolding lastAtMost
+  starts-clear [] f a c = tt
+  starts-clear (x ∷ []) f a c = c
+  starts-clear (x ∷ b ∷ rest) f a c = go (reach u (b ∷ rest)) refl (starts-clear (b ∷ rest) (f .1) r) c
+    where
+      l : T (lt (x .time) (b .time))
+      l = both-l (lt (x .time) (b .time)) (all (λ (p : Float × Float). lt (p .0) (p .1)) (pairsFrom (b .time) (activeTimes rest))) a
+
+      r : T (ascending (activeTimes (b ∷ rest)))
+      r = both-r (lt (x .time) (b .time)) (all (λ (p : Float × Float). lt (p .0) (p .1)) (pairsFrom (b .time) (activeTimes rest))) a
+
+      reached : (d : Bool) → (T (not d) → ⊥) → T d
+      reached true h = tt
+      reached false h = absurd (h tt)
+
+      go : (q : Bool) → reach u (b ∷ rest) ≡ q → (Every (Clear t u) (startOf (getElem? (b ∷ rest) (at u (b ∷ rest)))) → Every (Clear t u) (activeTimes (b ∷ rest)))
+          → Every (Clear t u) (startOf (getElem? (x ∷ b ∷ rest) (cond q (suc (at u (b ∷ rest))) 0))) → Every (Clear t u) (activeTimes (x ∷ b ∷ rest))
+      go true e later d =
+          let k = later d in
+          let m = reached (le (b .time) u) (λ n. T-not (reach u (b ∷ rest)) (none-reached b rest (f .1) r n) (holds (reach u (b ∷ rest)) e)) in
+          (λ q. lt→le (x .time) t (lt-le-trans (x .time) (b .time) t (f .0) (f .1 .0) ft l (k .0 m)), k)
+      go false e later d = (d .0, every-map (λ (y : Float). le y u ≡ false) (Clear t u) (λ y n q. absurd (subst T n q)) (activeTimes (b ∷ rest)) (any-every (λ (y : Float). le y u) (activeTimes (b ∷ rest)) e))
+
+  stays-below : (active : List Start) → Every Fits (activeTimes active) → T (ascending (activeTimes active)) → Every (Clear t u) (startOf (getElem? active (at u active))) → at t active ≡ at u active
+  stays-below active f a c = place-same t u ft fu h (activeTimes active) f (starts-clear active f a c)
+
 -- ---- the gathered times are doubles
 
 pairs-fit : (knots : List Knot) (c : Float) → Every Fits (gather (onPair c) (pairs knots))
@@ -193,6 +222,16 @@ module _ (set : ClipSet) (s : Samples) (S : SoundSet set) (A : SoundSamples s) w
       (every-keep Fits (inside p) (knotTimes (set .knots)) (knots-fit (set .knots) (S .knots)))
       (every-keep Fits (inside p) (inverses p) (every-gather Fits Fits (λ (c : Float). stageTimesForClipTime (set .knots) (clip c)) (λ c f. stage-fit (set .knots) c f) (contributedTimes set s (getElem? (set .active) p)) (contributed-fit (getElem? (set .active) p))))))
       (fs (suc p)))
+
+  gathered-start : (P : Float → Type 0) (p : ℕ) → Every P (gathered set s p) → Every P (startOf (getElem? (set .active) p))
+  gathered-start P p h =
+      let rest = keep (inside p) (knotTimes (set .knots)) ++ keep (inside p) (inverses p) in
+      every-left P (startOf (getElem? (set .active) p)) rest
+      (every-left P (startOf (getElem? (set .active) p) ++ rest) (startOf (getElem? (set .active) (suc p))) (subst (λ (l : List Float). Every P l) (parts p) h))
+
+  -- a lower neighbour of u lies in u's window: of the gathered times none is passed from it to u
+  pub window-below : (t u : Float) → Fits t → Fits u → T (le t u) → Every (Clear t u) (gathered set s (at u (set .active))) → at t (set .active) ≡ at u (set .active)
+  window-below t u ft fu h c = stays-below t u ft fu h (set .active) (starts-fit set S) (S .ascends) (gathered-start (Clear t u) (at u (set .active)) c)
 
   -- ---- no gathered time is passed from t to u
 

@@ -38,7 +38,8 @@ use Rattle.window.specs.declared.Bound.the-variants.{At, Nothing}
 use Rattle.window.specs.Bounds.{NeighboursAre}
 use Rattle.window.specs.SoundSegments.{SoundSegment}
 use Rattle.window.specs.Parts.{partOf}
-use Rattle.window.proofs.Parts.{last-short, ready-clip, ready-readable, ready-starts}
+use Rattle.laws.proofs.cell.Places.{last-short}
+use Rattle.window.proofs.Parts.{ready-clip, ready-readable, ready-starts}
 use Rattle.window.specs.Windows.{ifOwn}
 use Rattle.window.proofs.nearest.Beside.{finite-number}
 use Rattle.cell.specs.declared.step.line.Line.{Line}

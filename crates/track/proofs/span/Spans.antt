@@ -31,7 +31,8 @@ use Rattle.laws.proofs.cell.Cells as Cells-laws
 use Rattle.laws.specs.cell.Keys.{Keys, entryAtKey}
 use Rattle.laws.proofs.cell.Keys.{NonePassed, cellPlaceAt, sourceAtKey, cell-source}
 use Rattle.laws.specs.cell.Lent.{AcceptedLists, setOf, samplesOf}
-use Rattle.window.proofs.Parts.{ready-readable, last-short}
+use Rattle.laws.proofs.cell.Places.{last-short}
+use Rattle.window.proofs.Parts.{ready-readable}
 use Rattle.window.specs.declared.Bound.{Bound}
 use Rattle.cell.specs.declared.step.line.Line.{Line}
 use Rattle.cell.specs.step.Lines.{lineIs, placeOn}

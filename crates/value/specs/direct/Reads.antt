@@ -3,7 +3,7 @@ use mathlib.Core.Path.{_≡_}
 use mathlib.Core.Bool.{cond}
 use mathlib.Core.List.{List, [], _∷_}
 use mathlib.Core.Option.{Option, none, some}
-use Prim.Native.Nat.{ℕ, _-_, _<_}
+use Prim.Native.Nat.{ℕ, _<_}
 use lib.ListN.{length, getD}
 use lib.Ieee.{Float, eq}
 use Rattle.definitions.specs.declared.Start.{Start}
@@ -19,12 +19,12 @@ use Rattle.definitions.specs.Value.{sampleOf}
 use Rattle.laws.specs.cell.Lent.{knotsOf}
 use Rattle.window.specs.Parts.{partOf, Readable}
 use Rattle.sdf.specs.look.Reads.{heldReading}
-use Rattle.value.specs.declared.direct.Reading.{Reading}
-use Rattle.value.specs.declared.direct.Reading.the-variants.{Of, Nothing}
+use Rattle.definitions.specs.declared.SampleRead.{SampleRead}
+use Rattle.definitions.specs.declared.SampleRead.the-variants.{Of, Nothing}
 
 -- ---- a reading of the code
 
-abbrev pub readingIs : Reading → Option Source
+abbrev pub readingIs : SampleRead → Option Source
 readingIs (Of c i) = some (sample c i)
 readingIs Nothing = none
 

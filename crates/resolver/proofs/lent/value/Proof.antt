@@ -6,7 +6,7 @@ use borrow.Author.Tests.{not-true, not-false}
 use Rattle.definitions.specs.ClipSet.{ClipSet}
 use Rattle.definitions.specs.Samples.{Samples}
 use Rattle.laws.specs.cell.Lent.{samplesOf}
-use Rattle.definitions.specs.Value.{valueInSet}
+use Rattle.definitions.specs.Value.{valueRead}
 use Rattle.definitions.specs.Questions.{askValue, replied, stageTimeNumber}
 use denote.Ref.{now}
 use Rattle.resolver.specs.declared.Resolver.{Resolver}
@@ -32,7 +32,7 @@ returns-2 : tie.Need-returns-2
 unfolding askValue
 returns-2 c =
     let s = entry (c .before .before) in
-    samples-refused (lent s) (λ (x : ClipSet). stageTimeNumber (s .args .t)) (λ (x : ClipSet). valueInSet x (lent s) (s .args .t)) (state s) (not-false _ (c .before .before .if1 .left))
+    samples-refused (lent s) (λ (x : ClipSet). stageTimeNumber (s .args .t)) (λ (x : ClipSet). valueRead x (lent s) (s .args .t)) (state s) (not-false _ (c .before .before .if1 .left))
     _ (judged-number (state s) (c .before .samples-number .ensures)) (c .if2 .taken)
 
 returns-3 : tie.Need-returns-3
@@ -41,7 +41,7 @@ returns-3 c =
     let p = c .before .before in
     let s = entry (p .before .before) in
     not-finite (s .args .t) _ (sym (c .before .is-finite .ensures) ∙ not-true _ (c .if3 .taken))
-    ∙ samples-passed (lent s) (λ (x : ClipSet). stageTimeNumber (s .args .t)) (λ (x : ClipSet). valueInSet x (lent s) (s .args .t)) (state s) (not-false _ (p .before .before .if1 .left))
+    ∙ samples-passed (lent s) (λ (x : ClipSet). stageTimeNumber (s .args .t)) (λ (x : ClipSet). valueRead x (lent s) (s .args .t)) (state s) (not-false _ (p .before .before .if1 .left))
     (sym (judged-number (state s) (p .before .samples-number .ensures)) ∙ p .if2 .left)
 
 value-requires : tie.Need-value-requires
@@ -57,9 +57,9 @@ returns-4 c =
     let p = f .before .before in
     let s = entry (p .before .before) in
     let stands = not-false _ (p .before .before .if1 .left) in
-    ap replied (c .value .ensures ∙ ap (λ (x : ClipSet). valueInSet x (lent s) (s .args .t)) (lent-is (state s) (s .pre) stands (p .before .samples-number .ensures) (p .if2 .left)))
+    ap replied (c .value .ensures ∙ ap (λ (x : ClipSet). valueRead x (lent s) (s .args .t)) (lent-is (state s) (s .pre) stands (p .before .samples-number .ensures) (p .if2 .left)))
     ∙ is-finite (s .args .t) _ (sym (f .before .is-finite .ensures) ∙ not-false _ (f .if3 .left))
-    ∙ samples-passed (lent s) (λ (x : ClipSet). stageTimeNumber (s .args .t)) (λ (x : ClipSet). valueInSet x (lent s) (s .args .t)) (state s) stands
+    ∙ samples-passed (lent s) (λ (x : ClipSet). stageTimeNumber (s .args .t)) (λ (x : ClipSet). valueRead x (lent s) (s .args .t)) (state s) stands
     (sym (judged-number (state s) (p .before .samples-number .ensures)) ∙ p .if2 .left)
 
 pub value-spec : {M : Type 1} → statement M

@@ -4,7 +4,8 @@ use Prim.Native.Nat.{_<_}
 use native.Mathlib.Omega.{arith}
 use lib.ListN.{length}
 use denote.Ref.{now}
-use Rattle.window.proofs.Parts.{last-short, ready-starts, ready-clip, ready-readable}
+use Rattle.laws.proofs.cell.Places.{last-short}
+use Rattle.window.proofs.Parts.{ready-starts, ready-clip, ready-readable}
 use Rattle.sdf.specs.look.Reads.{heldIs}
 use Rattle.stage.proofs.Marks.{mark-none, mark-read, mark-gap}
 use borrow.Author.Needs.{needs}

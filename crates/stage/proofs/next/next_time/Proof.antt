@@ -6,7 +6,7 @@ use lib.Dec.{T}
 use lib.ListN.{length}
 use lib.Ieee.{binary64, fits}
 use denote.Ref.{now}
-use Rattle.window.proofs.Parts.{last-short}
+use Rattle.laws.proofs.cell.Places.{last-short}
 use Rattle.stage.proofs.Times.{next-none}
 use Rattle.stage.proofs.Zeros.{windows-sampled}
 use Rattle.stage.proofs.Around.{next-searched}

@@ -7,7 +7,8 @@ use lib.ListN.{length}
 use lib.Ieee.{binary64, fits}
 use denote.Ref.{now}
 use borrow.Author.Needs.{needs}
-use Rattle.window.proofs.Parts.{last-short, ready-starts, ready-readable}
+use Rattle.laws.proofs.cell.Places.{last-short}
+use Rattle.window.proofs.Parts.{ready-starts, ready-readable}
 use Rattle.value.proofs.direct.Sources.{reads-absent}
 use Rattle.value.proofs.WindowOf.{window-lent}
 use Rattle.value.proofs.Values.{value-few, value-asks, value-in}
