@@ -1,6 +1,6 @@
 # Builds, installs and tests the library.
 #
-#   make                                target/lib: libtavitrozy.a, libtavitrozy.so.0.6.0 with its links, tavitrozy.pc
+#   make                                target/lib: libtavitrozy.a, libtavitrozy.so.0.7.0 with its links, tavitrozy.pc
 #   make install PREFIX=.. [DESTDIR=..] header, libraries, pkg-config file, licence and documents
 #   make uninstall PREFIX=.. [DESTDIR=..]
 #   make examples                       target/examples: the C and C++ programs of examples/
@@ -8,7 +8,7 @@
 #
 # The first build proves the library (needs rt, the Rattle toolchain). With TAVITROZY_ARCHIVE=path that archive is taken instead.
 
-VERSION = 0.6.0
+VERSION = 0.7.0
 # Before 1.0 a minor version may change a struct, so a program loads its own alone.
 SOVERSION = $(basename $(VERSION))
 PREFIX ?= /usr/local
@@ -73,13 +73,14 @@ $(lib)/tavitrozy.pc: packaging/tavitrozy.pc.in Makefile
 
 # ---- examples
 
-programs = $(addprefix target/examples/,sheet_c sheet_cpp preview_c figure)
+programs = $(addprefix target/examples/,sheet_c sheet_cpp preview_c hinge_c figure)
 warnings = -Wall -Wextra -pedantic -Wconversion
 
 examples: all $(programs)
 
 target/examples/sheet_c: examples/sheet.c
 target/examples/preview_c: examples/preview.c
+target/examples/hinge_c: examples/hinge.c
 target/examples/figure: examples/figure.c
 target/examples/sheet_cpp: examples/sheet.cpp
 $(programs): $(static) include/tavitrozy.h

@@ -27,6 +27,7 @@ mod track;
 
 mod bake;
 mod check;
+mod dispatcher;
 mod limits;
 mod measure;
 mod rust;
@@ -277,6 +278,11 @@ fn main() {
             sorts::sort_table();
             sorts::call_table();
         }
+        ["dispatcher"] => {
+            machine();
+            dispatcher::value_table();
+            dispatcher::call_table();
+        }
         _ => {
             machine();
             let cases: Vec<Case> = limits::cases().into_iter().chain(sets::everyday()).collect();
@@ -287,6 +293,8 @@ fn main() {
             read_table(&cases);
             sorts::sort_table();
             sorts::call_table();
+            dispatcher::value_table();
+            dispatcher::call_table();
         }
     }
 }

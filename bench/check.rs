@@ -81,6 +81,10 @@ pub fn by_replies(cases: &str, replies: &str) {
             samples = lent;
             continue;
         }
+        // A dispatcher's are lent without a reply too, and its tracks are the desk's.
+        if call.as_ref().is_some_and(|call| !call.has_reply()) {
+            continue;
+        }
         let told = replies.next().expect("a reply");
         match (call, told == b"ok") {
             (Some(Call::Case(_)), _) => (set, samples, slots) = (None, Samples::default(), Default::default()),

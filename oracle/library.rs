@@ -8,12 +8,14 @@
 mod calls;
 #[path = "../bindings/rust/src/ffi.rs"]
 mod ffi;
+mod library_dispatcher;
 #[path = "src/text.rs"]
 mod text;
 
 use std::io::{self, BufRead, Write};
 
 use calls::{Call, Fields, PREPARED};
+use library_dispatcher::Sets;
 use tavitrozy::{
     Answer, ClipTime, Explicit, Fallback, LayerOffset, Prepared, Refusal, Resolver, Samples, StageTime, StandingSet,
     State, Supplied, Template, TemplateTimes, Track, ValueRead, limit, mark,
@@ -22,8 +24,10 @@ use text::{Line, Words};
 
 type Answered = Result<(), Refusal>;
 
+#[derive(Default)]
 struct Desk {
     resolver: Resolver,
+    sets: Sets,
     slots: [Option<Prepared>; PREPARED],
     samples: calls::Samples,
 }
@@ -112,16 +116,21 @@ fn lent<T: Copy + Default, const LENGTH: usize>(list: &[T]) -> [T; LENGTH] {
     full
 }
 
-/// What stands, as the C library is lent it.
-fn lent_set(standing: Option<StandingSet<'_>>) -> (ffi::Shape, ffi::Lists) {
-    let set = standing.unwrap_or(NO_SET);
-    let (mark, value) = match set.fallback {
+/// A default as the C library is lent it.
+fn marked_fallback(fallback: Fallback) -> ffi::Marked {
+    let (mark, value) = match fallback {
         Fallback::Value(value) => (mark::VALUE, value),
         Fallback::Block => (mark::BLOCK, 0.0),
         Fallback::None => (mark::NONE, 0.0),
     };
+    ffi::Marked { mark, value }
+}
+
+/// What stands, as the C library is lent it.
+fn lent_set(standing: Option<StandingSet<'_>>) -> (ffi::Shape, ffi::Lists) {
+    let set = standing.unwrap_or(NO_SET);
     let counts = ffi::Counts { starts: set.start_times.len(), knots: set.knot_xs.len(), blocks: set.blocks.len() };
-    let manifest = ffi::Manifest { fallback: ffi::Marked { mark, value }, interpolate: set.interpolate };
+    let manifest = ffi::Manifest { fallback: marked_fallback(set.fallback), interpolate: set.interpolate };
     let lists = ffi::Lists {
         starts: lent(set.start_times),
         numbers: lent(set.start_clips),
@@ -190,19 +199,19 @@ fn write_hash(out: &mut Line, track: &Track) {
 }
 
 impl Desk {
-    fn new() -> Self {
-        Desk { resolver: Resolver::new(), slots: [const { None }; PREPARED], samples: calls::Samples::default() }
-    }
-
     fn samples(&self) -> Samples<'_> {
         let s = &self.samples;
         Samples::new(&s.times, &s.values, &s.marks, &s.ends)
     }
 
-    /// The reply, or what refuses the call.
+    /// The reply, or what refuses the call; what is lent has no reply.
     fn answer(&mut self, call: &Call, out: &mut Line) -> Answered {
         match call {
-            Call::Case(_) | Call::Samples(_) => {}
+            Call::Case(name) => {
+                *self = Desk::default();
+                out.word("case").word(name);
+            }
+            Call::Samples(samples) => self.samples = samples.clone(),
             Call::Explicit(e) => {
                 let accepted = self.resolver.accept_marked(&explicit(e), e.filling.mark);
                 self.accepted(accepted, &examine_explicit(e), out)?;
@@ -264,6 +273,7 @@ impl Desk {
             Call::KeyCompare(first, second) => {
                 out.word("keycmp").order(tavitrozy::total_key(*first).cmp(&tavitrozy::total_key(*second)));
             }
+            Call::Dispatcher(call) => self.sets.answer(call, &self.slots, out)?,
         }
         Ok(())
     }
@@ -388,7 +398,7 @@ fn clip_times(numbers: TemplateTimes, slots: usize, out: &mut Line) -> Answered 
 
 fn main() -> io::Result<()> {
     let (mut input, mut output) = (io::stdin().lock(), io::BufWriter::new(io::stdout().lock()));
-    let mut desk = Desk::new();
+    let mut desk = Desk::default();
     let mut line = Vec::new();
     while input.read_until(b'\n', &mut line)? > 0 {
         let mut words = Words::new(&line);
@@ -396,17 +406,14 @@ fn main() -> io::Result<()> {
             let mut out = Line::default();
             match calls::read(first, words) {
                 None => out.word("unreadable").end(),
-                Some(Call::Case(name)) => {
-                    desk = Desk::new();
-                    out.word("case").word(&name).end();
-                }
-                Some(Call::Samples(samples)) => desk.samples = samples,
                 Some(call) => {
                     if let Err(refusal) = desk.answer(&call, &mut out) {
                         out.0.clear();
                         out.word("refused").number(refusal.number().into());
                     }
-                    out.end();
+                    if call.has_reply() {
+                        out.end();
+                    }
                 }
             }
             output.write_all(&out.0)?;

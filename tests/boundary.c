@@ -1,5 +1,6 @@
 /* The library as a C program meets it: the worked figures, zeros, retimings in a row, every refusal number that is given, NULL and the limits, what a refused
- * call leaves, the samples that values were read from, sets that are examined and installed, the odd readings, and the keys of the total order.
+ * call leaves, the samples that values were read from, sets that are examined and installed, several sets under their names, the odd readings, and the keys of
+ * the total order.
  * It is built as C11 and as C++17, so it keeps to what both have. Prints what is not so; status 1 if anything is not. */
 #include <fenv.h>
 #include <math.h>
@@ -943,6 +944,557 @@ static void previewed(void) {
   CHECK(second.number == 0 && second.value == 2 && second.count == 1 && drawn.times[0] == 10 && drawn.values[0] == 1);
 }
 
+/* ---- several sets on one part */
+
+/* The samples of all sets, as they are lent. */
+typedef struct {
+  uint64_t counts[20], ends[4200];
+  double times[66000], values[66000];
+  uint8_t marks[66000];
+  size_t sets, clips, len;
+} all_samples;
+
+static void add_set(all_samples *a, const samples *s) {
+  a->counts[a->sets++] = s->len;
+  memcpy(a->ends + a->clips, s->ends, s->clips * sizeof *s->ends), a->clips += s->clips;
+  memcpy(a->times + a->len, s->times, s->len * sizeof *s->times), memcpy(a->values + a->len, s->values, s->len * sizeof *s->values);
+  memcpy(a->marks + a->len, s->marks, s->len), a->len += s->len;
+}
+static tavitrozy_set_samples lent_sets(const all_samples *a) {
+  tavitrozy_set_samples l;
+  l.counts = a->counts, l.counts_len = a->sets, l.ends = a->ends, l.ends_len = a->clips;
+  l.times = a->times, l.times_len = a->len, l.values = a->values, l.values_len = a->len, l.marks = a->marks, l.marks_len = a->len;
+  return l;
+}
+
+/* Up to so many names, as they are lent. */
+typedef struct { uint8_t names[66000]; uint64_t ends[300]; size_t len, count; } name_list;
+
+static void add_name(name_list *l, const char *name, size_t len) {
+  memcpy(l->names + l->len, name, len), l->len += len, l->ends[l->count++] = l->len;
+}
+static tavitrozy_order lent_names(const name_list *l) {
+  tavitrozy_order o;
+  o.names = l->names, o.names_len = l->len, o.ends = l->ends, o.ends_len = l->count;
+  return o;
+}
+/* A list of words with a blank between them; the last word stays for the call. */
+static const tavitrozy_order *listing(const char *words) {
+  static name_list list;
+  static tavitrozy_order order;
+  list.len = 0, list.count = 0;
+  for (const char *end; *words; words = *end ? end + 1 : end) end = words + strcspn(words, " "), add_name(&list, words, (size_t)(end - words));
+  order = lent_names(&list);
+  return &order;
+}
+
+#define NAME(TEXT) (const uint8_t *)(TEXT), strlen(TEXT)
+
+/* What a call to the dispatcher must leave where it is refused: its bytes, the outputs and what is lent. */
+typedef struct { tavitrozy_dispatcher sets; track_lists track; all_samples lent; } part;
+static part here_part, before_part;
+
+static bool part_refuses(uint8_t expected, uint8_t number) {
+  bool kept = memcmp(&here_part, &before_part, sizeof here_part) == 0;
+  memcpy(&here_part, &before_part, sizeof here_part);
+  return expected == number && kept;
+}
+
+/* Fresh, nothing lent, outputs painted. */
+static void clear_part(void) {
+  memset(&here_part, 0xA5, sizeof here_part);
+  memset(&here_part.lent, 0, sizeof here_part.lent);
+  tavitrozy_dispatcher_fresh(&here_part.sets);
+}
+
+/* A set with a start 0 (or without: 'e') of one clip, which has the one value; it declares unless its kind is 'n'. */
+static void put_set(const char *name, size_t len, char kind, double value) {
+  const double start[] = {0}, clip[] = {0};
+  static samples s;
+  s.len = 0, s.clips = 0, add(&s, 0, value), end_clip(&s), add_set(&here_part.lent, &s);
+  const size_t starts = kind == 'e' ? 0 : 1;
+  const uint8_t number = tavitrozy_dispatcher_accept(&here_part.sets, (const uint8_t *)name, len, kind != 'n', 1, start, starts, clip, starts,
+    NULL, 0, NULL, 0, NULL, 0, none, false);
+  CHECK(number == 0);
+}
+/* Sets by kind and name, as "ycoarse nfine"; the i-th has the value i. */
+static void put_sets(const char *words) {
+  clear_part();
+  for (const char *end; *words; words = *end ? end + 1 : end) {
+    end = words + strcspn(words, " ");
+    put_set(words + 1, (size_t)(end - words) - 1, *words, (double)here_part.lent.sets);
+  }
+  memcpy(&before_part, &here_part, sizeof here_part);
+}
+
+/* The set with this value answers, at this place; the track has it as its head and no change, and no slot is written. */
+static bool answers(const tavitrozy_order *order, double value, uint64_t place) {
+  const tavitrozy_set_samples lent = lent_sets(&here_part.lent);
+  const tavitrozy_placed_value v = tavitrozy_dispatcher_value(&here_part.sets, order, &lent, at(5));
+  const tavitrozy_placed_baked b = tavitrozy_dispatcher_bake(&here_part.sets, order, &lent, OUT(&here_part.track, 64));
+  return read_from(v.reply, value, 0, 0) && v.placed && v.set == place
+    && b.reply.number == 0 && b.reply.mark == TAVITROZY_VALUE && same_bits(b.reply.value, value) && b.reply.count == 0 && b.placed && b.set == place
+    && memcmp(&here_part, &before_part, sizeof here_part) == 0;
+}
+/* No set answers: nothing is there, and no place. */
+static bool nobody_answers(const tavitrozy_order *order) {
+  const tavitrozy_set_samples lent = lent_sets(&here_part.lent);
+  const tavitrozy_placed_value v = tavitrozy_dispatcher_value(&here_part.sets, order, &lent, at(5));
+  const tavitrozy_placed_baked b = tavitrozy_dispatcher_bake(&here_part.sets, order, &lent, OUT(&here_part.track, 64));
+  return of_no_sample(v.reply, TAVITROZY_NONE, 0.0) && !v.placed && v.set == 0
+    && b.reply.number == 0 && b.reply.mark == TAVITROZY_NONE && same_bits(b.reply.value, 0.0) && b.reply.count == 0 && !b.placed && b.set == 0
+    && memcmp(&here_part, &before_part, sizeof here_part) == 0;
+}
+
+static void ordered_by_list(void) {
+  put_sets("yfine ycoarse");
+  CHECK(answers(NULL, 1, 0) && answers(listing("fine coarse"), 0, 0) && answers(listing("coarse"), 1, 0) && answers(listing("fine"), 0, 0));
+  CHECK(nobody_answers(listing("")) && nobody_answers(listing("Fine coars coarsee")));
+  CHECK(answers(listing("x fine y coarse"), 0, 0)); /* unknown names are passed over */
+  put_sets("ycoarse nfine");
+  CHECK(answers(NULL, 0, 0) && answers(listing("fine coarse"), 0, 1) && answers(listing("coarse fine"), 0, 0) && nobody_answers(listing("fine")));
+  /* unknown ones are not counted, a repeated one once, unfit ones are */
+  put_sets("nA yB");
+  CHECK(answers(listing("x A A B"), 1, 1) && answers(listing("x A x A A B B"), 1, 1) && answers(NULL, 1, 1) && answers(listing("B A"), 1, 0));
+  /* a set without starts is as unfit as one that does not declare, and so is one that is both */
+  put_sets("ea nb ec yd ye");
+  CHECK(answers(NULL, 3, 3) && answers(listing("c b d"), 3, 2) && answers(listing("a e d"), 4, 1) && answers(listing("c a c b a e"), 4, 3));
+  CHECK(nobody_answers(listing("a b c")) && nobody_answers(listing("c c c z")));
+  put_sets("ea nb");
+  CHECK(nobody_answers(NULL) && nobody_answers(listing("b a")));
+  /* no set at all */
+  put_sets("");
+  CHECK(nobody_answers(NULL) && nobody_answers(listing("")) && nobody_answers(listing("a b")));
+}
+
+/* Bytes count as 0 to 255, and a name comes before the longer ones that begin with it; the empty one comes first. */
+static void ordered_by_name(void) {
+  const char ascending[][4] = {"", {0}, {0, 0}, "A", "a", {'a', 0}, {'a', 0, 'z'}, "aa", "ab", "b", "~", "\x7f", "\x80", "\x80" "a", "\xff", "\xff\xff"};
+  const size_t lengths[] = {0, 1, 2, 1, 1, 2, 3, 2, 2, 1, 1, 1, 1, 2, 1, 2};
+  for (size_t skipped = 0; skipped < 16; skipped++) { /* the first so many do not declare; accepted in an order of their own */
+    clear_part();
+    for (size_t i = 0; i < 16; i++) {
+      const size_t k = (i * 7 + skipped) % 16;
+      put_set(ascending[k], lengths[k], k < skipped ? 'n' : 'y', (double)k);
+    }
+    memcpy(&before_part, &here_part, sizeof here_part);
+    CHECK(answers(NULL, (double)skipped, skipped));
+    name_list l;
+    l.len = 0, l.count = 0;
+    for (size_t k = 16; k-- > 0;) add_name(&l, ascending[k], lengths[k]); /* and by a list, from the last on */
+    const tavitrozy_order order = lent_names(&l);
+    CHECK(answers(&order, 15, 0));
+  }
+}
+
+/* ---- a set under a name is what it is on a desk */
+
+/* Alike to the bit, in every field. */
+static bool same_value(tavitrozy_value_reply a, tavitrozy_value_reply b) {
+  return a.number == b.number && a.mark == b.mark && a.sampled == b.sampled && same_bits(a.value, b.value) && a.clip == b.clip && a.place == b.place;
+}
+
+/* The set at place k of the order answers as the resolver does: values at many times, the track, and 22 with a slot too few. */
+static bool as_the_desk(const tavitrozy_resolver *r, const samples *s, const tavitrozy_order *order, uint64_t k) {
+  static double times[8000], values[8000], own_times[8000], own_values[8000];
+  static uint8_t marks[8000], own_marks[8000];
+  const tavitrozy_set_samples lent = lent_sets(&here_part.lent);
+  for (double t = -300; t < 300; t += 0.625) {
+    const tavitrozy_placed_value v = tavitrozy_dispatcher_value(&here_part.sets, order, &lent, at(t));
+    if (!v.placed || v.set != k || !same_value(v.reply, tavitrozy_value(r, LENT(s), at(t)))) return false;
+  }
+  const tavitrozy_baked own = tavitrozy_bake(r, LENT(s), own_times, 8000, own_values, 8000, own_marks, 8000);
+  const tavitrozy_placed_baked b = tavitrozy_dispatcher_bake(&here_part.sets, order, &lent, times, 8000, values, 8000, marks, 8000);
+  if (own.number || b.reply.number || !b.placed || b.set != k) return false;
+  if (b.reply.mark != own.mark || !same_bits(b.reply.value, own.value) || b.reply.count != own.count) return false;
+  if (memcmp(times, own_times, own.count * sizeof *times) || memcmp(values, own_values, own.count * sizeof *values)) return false;
+  if (memcmp(marks, own_marks, own.count)) return false;
+  if (own.count == 0) return true;
+  const tavitrozy_placed_baked few = tavitrozy_dispatcher_bake(&here_part.sets, order, &lent, times, 8000, values, own.count - 1, marks, 8000);
+  return few.reply.number == TAVITROZY_REFUSED_NO_ROOM && few.reply.mark == 0 && few.reply.count == 0 && !few.placed && few.set == 0;
+}
+
+/* Eight sets of eight clips, with knots or without, interpolate on or off, a default or none; each answers in turn, before and after retimings. */
+static void as_on_a_desk(void) {
+  const double starts[] = {0, 10, 20, 30, 40, 50, 60, 70, 80, 90}, numbers[] = {3, 0, 1, 2, 2, 7, 4, 5, 6, 1};
+  const double xs[] = {-10, 15, 25, 25, 64, 95}, ys[] = {0, 40, 0, 30, 5, 33}, blocks[] = {20, 50, 0};
+  static tavitrozy_resolver desks[9];
+  static samples s[9];
+  char name[] = "h0";
+  clear_part();
+  for (unsigned i = 0; i < 8; i++) {
+    const size_t knots = i & 1 ? 6 : 0;
+    const tavitrozy_default fallback = i & 4 ? value_default(3) : none;
+    eight_clips(&s[i]), tavitrozy_fresh(&desks[i]);
+    for (size_t j = 0; j < s[i].len; j++) s[i].values[j] += (double)i / 8; /* so that no set's samples are another's */
+    name[1] = (char)('7' - i); /* the last in byte order comes first */
+    const bool flag = (i & 2) != 0;
+    CHECK(tavitrozy_accept(&desks[i], 8, starts, 10, numbers, 10, xs, knots, ys, knots, blocks, 3, fallback, flag) == 0);
+    CHECK(tavitrozy_dispatcher_accept(&here_part.sets, NAME(name), true, 8, starts, 10, numbers, 10, xs, knots, ys, knots, blocks, 3, fallback, flag) == 0);
+    add_set(&here_part.lent, &s[i]);
+  }
+  for (int i = 0; i < 24; i++) add(&s[8], i, i);
+  for (int i = 1; i <= 3; i++) s[8].ends[s[8].clips++] = (uint64_t)(8 * i);
+  for (size_t i = 0; i < 24; i++) s[8].times[i] = (double)(i % 8);
+  tavitrozy_fresh(&desks[8]), add_set(&here_part.lent, &s[8]);
+  CHECK(template_of(&desks[8], "f.#.usd", stepping(1, 3, 1, 0.5), true) == 0);
+  CHECK(tavitrozy_dispatcher_accept_template(&here_part.sets, NAME("template"), true, NAME("f.#.usd"), stepping(1, 3, 1, 0.5), true, NULL, 0, none, false) == 0);
+  CHECK(as_the_desk(&desks[7], &s[7], NULL, 0));
+  for (int round = 0; round < 3; round++) {
+    for (unsigned i = 0; i < 8; i++) {
+      name[1] = (char)('7' - i);
+      CHECK(as_the_desk(&desks[i], &s[i], listing(name), 0));
+    }
+    CHECK(as_the_desk(&desks[8], &s[8], listing("nobody template h3"), 0));
+    /* every other set is moved, with roundings and back to front; the others stay */
+    const tavitrozy_layer_offset o = moving(round ? -3 : 0.7, round ? 1.0 / 3 : -1.1);
+    for (unsigned i = 0; i < 8; i += 2) {
+      name[1] = (char)('7' - i);
+      CHECK(tavitrozy_retime(&desks[i], o) == 0 && tavitrozy_dispatcher_retime(&here_part.sets, NAME(name), o) == 0);
+    }
+    CHECK(tavitrozy_retime(&desks[8], o) == 0 && tavitrozy_dispatcher_retime(&here_part.sets, NAME("template"), o) == 0);
+  }
+  CHECK(as_the_desk(&desks[8], &s[8], listing("template"), 0) && as_the_desk(&desks[0], &s[0], listing("h7 h6"), 0));
+}
+
+/* A prepared set goes under several names, and stays as it was prepared; an acceptance is the examining and the installing, to the byte. */
+static void installed_under_names(void) {
+  static tavitrozy_dispatcher first, second;
+  const explicit_fields f = good_explicit();
+  const template_fields g = good_template();
+  const tavitrozy_examined e = tavitrozy_examine(EXPLICIT(&f)), t = tavitrozy_examine_template(TEMPLATE(&g)), empty = tavitrozy_examine(257, NULL, 0, NULL, 0,
+    NULL, 0, NULL, 0, NULL, 0, none, false);
+  tavitrozy_examined original;
+  memcpy(&original, &e, sizeof e);
+  tavitrozy_dispatcher_fresh(&first), tavitrozy_dispatcher_fresh(&second);
+  CHECK(memcmp(&first, &second, sizeof first) == 0);
+  CHECK(tavitrozy_dispatcher_accept(&first, NAME("one"), true, EXPLICIT(&f)) == 0 && tavitrozy_dispatcher_install(&second, NAME("one"), true, &e.set) == 0);
+  CHECK(tavitrozy_dispatcher_accept_template(&first, NAME("other"), false, TEMPLATE(&g)) == 0);
+  CHECK(tavitrozy_dispatcher_install(&second, NAME("other"), false, &t.set) == 0);
+  CHECK(tavitrozy_dispatcher_retime(&first, NAME("one"), moving(100, -2)) == 0 && tavitrozy_dispatcher_retime(&second, NAME("one"), moving(100, -2)) == 0);
+  CHECK(tavitrozy_dispatcher_accept(&first, NAME("again"), false, EXPLICIT(&f)) == 0 && tavitrozy_dispatcher_install(&second, NAME("again"), false, &e.set) == 0);
+  CHECK(tavitrozy_dispatcher_install(&second, NAME("one"), true, &e.set) == 23 && memcmp(&original, &e, sizeof e) == 0);
+  /* what counts of a set lies where the header says */
+  for (int i = 0; i < 2; i++) {
+    const tavitrozy_dispatcher *d = i ? &second : &first;
+    CHECK(d->counts[4096] == 3 && d->bytes[0] == 3 && memcmp(d->bytes + 1, "one", 3) == 0 && d->bytes[256] == 5 && memcmp(d->bytes + 257, "other", 5) == 0);
+    CHECK(d->bytes[4128] == 1 && d->bytes[4129] == 0 && d->bytes[4130] == 0 && d->bytes[4112] == 1 && d->bytes[4113] == 0 && d->bytes[4096] == TAVITROZY_VALUE);
+    CHECK(d->counts[4097] == 3 && d->counts[4113] == 3 && d->counts[4129] == 4 && d->counts[4145] == 3 && d->counts[4098] == 3 && d->counts[4130] == 5);
+    CHECK(d->numbers[0] == 80 && d->numbers[1] == 90 && d->numbers[2] == 100 && d->counts[0] == 1 && d->counts[1] == 2 && d->counts[2] == 0);
+    CHECK(same_bits(d->numbers[512], -0.0) && d->numbers[513] == 5 && d->counts[513] == 2 && same_bits(d->numbers[24576], -0.0) && d->numbers[24577] == 4);
+    CHECK(d->numbers[4096 + 1024] == 0 && d->numbers[4096 + 1027] == 20 && d->numbers[12288 + 1024] == 8);
+    CHECK(d->numbers[20480] == 80 && d->numbers[20480 + 512] == 10 && d->numbers[20480 + 513] == 0);
+    CHECK(d->counts[4161] == 2 && d->counts[4162] == 0 && d->counts[4163] == 1); /* again, one, other */
+  }
+  /* a refused examining's set may stand too: it has no starts */
+  CHECK(empty.number == 1 && tavitrozy_dispatcher_install(&second, NAME("empty"), true, &empty.set) == 0 && second.counts[4096] == 4);
+}
+
+/* ---- the dispatcher's refusals */
+
+static void spoil_name(const uint8_t **name, size_t *len, int kind) {
+  static const uint8_t long_name[256] = {'x'};
+  if (kind) *name = long_name, *len = 256; /* above the limit */
+  else *name = (const uint8_t *)"fine", *len = 4; /* taken */
+}
+
+/* 23 before every number of the fields; then as examining tells it. */
+static void refused_under_a_name(void) {
+  put_sets("yfine ycoarse");
+  tavitrozy_dispatcher *d = &here_part.sets;
+  const tavitrozy_examined good = tavitrozy_examine(0, NULL, 0, NULL, 0, NULL, 0, NULL, 0, NULL, 0, none, false);
+  for (int kind = 0; kind < 3; kind++) { /* a name that is taken, one that is too long, a good one */
+    const uint8_t *name = (const uint8_t *)"new";
+    size_t len = 3;
+    if (kind < 2) spoil_name(&name, &len, kind);
+    const bool named = kind == 2;
+    for (int i = 0; i < 6; i++)
+      for (int j = i; j < 6; j++) {
+        explicit_fields f = good_explicit();
+        spoil(&f, i), spoil(&f, j);
+        CHECK(part_refuses(named ? explicit_order[i] : 23, tavitrozy_dispatcher_accept(d, name, len, true, EXPLICIT(&f))));
+      }
+    for (int i = 0; i < 9; i++)
+      for (int j = i; j < 9; j++) {
+        if (i != j && spoils_times(i) && spoils_times(j)) continue;
+        template_fields f = good_template();
+        spoil_template(&f, i), spoil_template(&f, j);
+        CHECK(part_refuses(named ? template_order[i] : 23, tavitrozy_dispatcher_accept_template(d, name, len, true, TEMPLATE(&f))));
+      }
+    if (named) continue;
+    const explicit_fields f = good_explicit();
+    const template_fields g = good_template();
+    CHECK(part_refuses(23, tavitrozy_dispatcher_accept(d, name, len, true, EXPLICIT(&f))));
+    CHECK(part_refuses(23, tavitrozy_dispatcher_accept_template(d, name, len, false, TEMPLATE(&g))));
+    CHECK(part_refuses(23, tavitrozy_dispatcher_install(d, name, len, true, &good.set)));
+  }
+  /* a refused one takes no place */
+  CHECK(tavitrozy_dispatcher_install(d, NAME("new"), false, &good.set) == 0 && d->counts[4096] == 3);
+}
+
+static uint8_t retime_set(const char *name, double offset, double scale) {
+  return tavitrozy_dispatcher_retime(&here_part.sets, NAME(name), moving(offset, scale));
+}
+static uint8_t value_number(const tavitrozy_order *order, const tavitrozy_set_samples *lent, double time) {
+  return tavitrozy_dispatcher_value(&here_part.sets, order, lent, at(time)).reply.number;
+}
+static uint8_t bake_number(const tavitrozy_order *order, const tavitrozy_set_samples *lent, size_t slots) {
+  return tavitrozy_dispatcher_bake(&here_part.sets, order, lent, OUT(&here_part.track, slots)).reply.number;
+}
+
+static void refused_retimings_of_names(void) {
+  const double starts[] = {0, 10}, numbers[] = {0, 0}, xs[] = {0, 1, 2, 3}, ys[] = {0, 1, 2, 3};
+  static const uint8_t long_name[300] = {'x'};
+  put_sets("yfine ycoarse");
+  tavitrozy_dispatcher *d = &here_part.sets;
+  CHECK(part_refuses(20, retime_set("fin", 0, 1)) && part_refuses(20, retime_set("finer", NAN, 1)) && part_refuses(20, retime_set("", 0, 1)));
+  CHECK(part_refuses(20, tavitrozy_dispatcher_retime(d, long_name, 300, moving(NAN, NAN))));
+  CHECK(part_refuses(20, tavitrozy_dispatcher_retime(d, NULL, 0, moving(0, 1))));
+  CHECK(part_refuses(2, retime_set("fine", NAN, 1)) && part_refuses(2, retime_set("coarse", 0, INFINITY)));
+  CHECK(tavitrozy_dispatcher_accept(d, NAME("knots"), true, 1, starts, 1, numbers, 1, xs, 4, ys, 4, NULL, 0, none, false) == 0);
+  CHECK(tavitrozy_dispatcher_accept(d, NAME("starts"), true, 1, starts, 2, numbers, 2, xs, 4, ys, 4, NULL, 0, none, false) == 0);
+  memcpy(&before_part, &here_part, sizeof here_part);
+  CHECK(part_refuses(5, retime_set("knots", 0, 0)) && part_refuses(2, retime_set("knots", 2e12, 0)));
+  CHECK(part_refuses(4, retime_set("starts", 0, 0)) && part_refuses(2, retime_set("starts", 0, 1e12)));
+  /* the identity changes nothing; another leaves the other sets, and a refused second one what the first left */
+  CHECK(retime_set("starts", 0, 1) == 0 && memcmp(&here_part, &before_part, sizeof here_part) == 0);
+  CHECK(retime_set("starts", 5, -2) == 0 && d->numbers[768] == -15 && d->numbers[769] == 5 && d->numbers[512] == 0);
+  memcpy(&before_part, &here_part, sizeof here_part);
+  CHECK(part_refuses(4, retime_set("starts", 0, 0)));
+}
+
+/* A question with its faults: 23, 1, 2, 9, and then 10 of the value and 22 of the bake. */
+typedef struct { name_list names; bool given; tavitrozy_set_samples lent; double time; size_t slots; } question;
+enum { NO_FAULT, BAD_ORDER, BAD_SHAPE, BAD_NUMBER, BAD_CLIPS, BAD_LAST, FAULTS };
+static const uint8_t value_order[] = {0, 23, 1, 2, 9, 10}, bake_order[] = {0, 23, 1, 2, 9, 22};
+
+/* Three sets, the middle one answers: its track has one change. The last one does not qualify, and its samples are judged all the same. */
+static void put_three(void) {
+  const double start[] = {0}, clip[] = {0};
+  static samples s;
+  put_sets("nfirst");
+  s.len = 0, s.clips = 0, add(&s, 0, 7), add(&s, 3, 8), end_clip(&s), add_set(&here_part.lent, &s);
+  s.len = 0, s.clips = 0, add(&s, 0, 1), add(&s, 1, 2), end_clip(&s), end_clip(&s), add(&s, 5, 3), end_clip(&s), add_set(&here_part.lent, &s);
+  CHECK(tavitrozy_dispatcher_accept(&here_part.sets, NAME("middle"), true, 1, start, 1, clip, 1, NULL, 0, NULL, 0, NULL, 0, none, false) == 0);
+  CHECK(tavitrozy_dispatcher_accept(&here_part.sets, NAME("zlast"), false, 3, start, 1, clip, 1, NULL, 0, NULL, 0, NULL, 0, none, false) == 0);
+  memcpy(&before_part, &here_part, sizeof here_part);
+}
+
+static question good_question(void) {
+  question q;
+  q.names.len = 0, q.names.count = 0, q.given = true, q.lent = lent_sets(&here_part.lent), q.time = 5, q.slots = 1;
+  add_name(&q.names, "zlast", 5), add_name(&q.names, "", 0), add_name(&q.names, "middle", 6);
+  return q;
+}
+
+/* The kinds of each fault; each in lists of its own, so that what is lent stays as it was. */
+static all_samples spoiled;
+static bool spoil_question(question *q, int fault, int kind) {
+  all_samples *a = &spoiled;
+  const size_t n = a->len;
+  switch (fault) {
+    case BAD_ORDER:
+      if (kind == 0) q->names.ends[1] = 4; /* it falls */
+      else if (kind == 1) q->names.ends[2]++; /* it is not the list's end */
+      else if (kind == 2) q->names.ends[0] = UINT64_MAX;
+      else if (kind == 3) q->names.count = 0; /* bytes without a name */
+      else if (kind == 4) q->names.len--;
+      else return false;
+      return true;
+    case BAD_SHAPE:
+      if (kind == 0) a->counts[0]++; /* they do not add up */
+      else if (kind == 1) q->lent.counts_len--;
+      else if (kind == 2) q->lent.counts_len++;
+      else if (kind == 3) q->lent.ends_len--;
+      else if (kind == 4) q->lent.ends_len++;
+      else if (kind == 5) q->lent.values_len--;
+      else if (kind == 6) q->lent.marks_len++;
+      else if (kind == 7) q->lent.times_len--;
+      else if (kind == 8) a->counts[2] = UINT64_MAX;
+      else if (kind == 9) a->counts[0] = UINT64_MAX, a->counts[1] = 4; /* the sum comes round to the right number */
+      else return false;
+      return true;
+    case BAD_NUMBER:
+      if (kind == 0) a->times[n - 1] = NAN; /* of the last set */
+      else if (kind == 1) a->values[0] = NAN; /* of the first one */
+      else if (kind == 2) a->times[n - 2] = TAVITROZY_MAX_TIME + 1;
+      else return false;
+      return true;
+    case BAD_CLIPS:
+      if (kind == 0) a->marks[n - 2] = 2;
+      else if (kind == 1) a->ends[2] = 1, a->ends[3] = 0; /* of the last set, it falls */
+      else if (kind == 2) a->ends[1] = 3; /* counted from the first set's first sample, and not from its own */
+      else if (kind == 3) a->times[2] = 0, a->times[1] = 0; /* two equal ones of the middle set */
+      else if (kind == 4) a->ends[0] = 0;
+      else return false;
+      return true;
+    case BAD_LAST:
+      if (kind > 2) return false;
+      q->time = kind == 0 ? NAN : kind == 1 ? INFINITY : -INFINITY, q->slots = 0;
+      return true;
+    default: return kind == 0;
+  }
+}
+
+static bool refused_value(uint8_t number, const tavitrozy_placed_value *v) { return nothing_beside(number, v->reply) && !v->placed && v->set == 0; }
+static bool refused_bake(uint8_t number, const tavitrozy_placed_baked *b) {
+  return b->reply.number == number && b->reply.mark == 0 && same_bits(b->reply.value, 0.0) && b->reply.count == 0 && !b->placed && b->set == 0;
+}
+
+/* Each kind of each fault alone, and any two faults at once; nothing is written. */
+static void refused_questions(void) {
+  put_three();
+  int asked = 0;
+  for (int first = NO_FAULT; first < FAULTS; first++)
+    for (int second = first; second < FAULTS; second++)
+      for (int kinds = 0; kinds < 100; kinds++) {
+        memcpy(&spoiled, &here_part.lent, sizeof spoiled);
+        question q = good_question();
+        q.lent = lent_sets(&spoiled);
+        if (!spoil_question(&q, first, kinds / 10) || (first != second && !spoil_question(&q, second, kinds % 10))) continue;
+        if (first == second && kinds % 10) continue;
+        const int told = first == NO_FAULT ? second : first;
+        const tavitrozy_order order = lent_names(&q.names);
+        const tavitrozy_placed_value v = tavitrozy_dispatcher_value(&here_part.sets, &order, &q.lent, at(q.time));
+        const tavitrozy_placed_baked b = tavitrozy_dispatcher_bake(&here_part.sets, &order, &q.lent, OUT(&here_part.track, q.slots));
+        asked++;
+        if (told) {
+          CHECK(refused_value(value_order[told], &v) && part_refuses(bake_order[told], b.reply.number) && refused_bake(bake_order[told], &b));
+          continue;
+        }
+        CHECK(read_from(v.reply, 8, 0, 1) && v.placed && v.set == 1 && b.reply.number == 0 && b.reply.value == 7 && b.reply.count == 1 && b.placed && b.set == 1);
+        CHECK(here_part.track.times[0] == 3 && here_part.track.values[0] == 8 && here_part.track.marks[0] == 0);
+        memcpy(&here_part, &before_part, sizeof here_part);
+      }
+  CHECK(asked > 150);
+}
+
+/* Without a set: what is lent is still judged. */
+static void refused_without_sets(void) {
+  put_sets("");
+  const double t[] = {0};
+  const uint8_t m[] = {0};
+  const uint64_t one[] = {1};
+  tavitrozy_set_samples lent = lent_sets(&here_part.lent);
+  const tavitrozy_dispatcher *d = &here_part.sets;
+  tavitrozy_order order = *listing("a b");
+  CHECK(part_refuses(10, value_number(NULL, &lent, NAN)) && part_refuses(10, value_number(&order, &lent, INFINITY)));
+  lent.times = t, lent.values = t, lent.marks = m, lent.times_len = 1, lent.values_len = 1, lent.marks_len = 1;
+  CHECK(part_refuses(1, value_number(&order, &lent, NAN)) && part_refuses(1, bake_number(NULL, &lent, 0)));
+  lent = lent_sets(&here_part.lent), lent.counts = one, lent.counts_len = 1;
+  CHECK(part_refuses(1, value_number(NULL, &lent, 0)));
+  order.ends_len = 1;
+  CHECK(part_refuses(23, value_number(&order, &lent, 0)) && part_refuses(23, bake_number(&order, &lent, 0)));
+  /* NULL throughout */
+  tavitrozy_set_samples nothing;
+  tavitrozy_order no_names;
+  memset(&nothing, 0, sizeof nothing), memset(&no_names, 0, sizeof no_names);
+  CHECK(tavitrozy_dispatcher_value(d, NULL, &nothing, at(0)).reply.mark == TAVITROZY_NONE && value_number(&no_names, &nothing, 0) == 0);
+  CHECK(tavitrozy_dispatcher_bake(d, NULL, &nothing, NULL, 0, NULL, 0, NULL, 0).reply.mark == TAVITROZY_NONE);
+  /* a set without clips, with a sample: 9, as of a desk */
+  CHECK(tavitrozy_dispatcher_accept(&here_part.sets, NULL, 0, true, 0, NULL, 0, NULL, 0, NULL, 0, NULL, 0, NULL, 0, none, false) == 0);
+  lent.times = t, lent.values = t, lent.marks = m, lent.times_len = 1, lent.values_len = 1, lent.marks_len = 1;
+  CHECK(value_number(NULL, &lent, 0) == 9);
+  CHECK(tavitrozy_dispatcher_retime(&here_part.sets, NULL, 0, moving(1, 2)) == 0); /* the empty name is a name */
+}
+
+/* ---- the dispatcher's limits, and one over */
+
+static void limits_of_names(void) {
+  static char name[300];
+  memset(name, 'n', sizeof name);
+  clear_part();
+  put_set(name, 255, 'y', 4), put_set(name, 254, 'n', 5);
+  name[254] = 'm', put_set(name, 255, 'y', 6), name[254] = 'n';
+  memcpy(&before_part, &here_part, sizeof here_part);
+  const double start[] = {0};
+  tavitrozy_dispatcher *d = &here_part.sets;
+  CHECK(part_refuses(23, tavitrozy_dispatcher_accept(d, (const uint8_t *)name, 256, true, 1, start, 1, start, 1, NULL, 0, NULL, 0, NULL, 0, none, false)));
+  CHECK(part_refuses(20, tavitrozy_dispatcher_retime(d, (const uint8_t *)name, 256, moving(0, 1))));
+  CHECK(answers(NULL, 6, 1)); /* behind the shorter one, and m before n */
+  static name_list l;
+  const tavitrozy_set_samples lent = lent_sets(&here_part.lent);
+  for (size_t len = 254; len <= 256; len++) {
+    l.len = 0, l.count = 0, add_name(&l, "x", 1), add_name(&l, name, len), add_name(&l, name, 255);
+    const tavitrozy_order order = lent_names(&l);
+    if (len < 256) CHECK(answers(&order, 4, len == 254 ? 1 : 0));
+    else CHECK(part_refuses(23, value_number(&order, &lent, 0)));
+  }
+}
+
+static void limits_of_order_lists(void) {
+  static name_list l;
+  put_sets("yfine ycoarse");
+  const tavitrozy_set_samples lent = lent_sets(&here_part.lent);
+  for (int repeated = 0; repeated < 2; repeated++) { /* unknown and repeated names count */
+    l.len = 0, l.count = 0;
+    for (int i = 0; i < 254; i++) add_name(&l, repeated ? "coarse" : "unknown", repeated ? 6 : 7);
+    add_name(&l, "fine", 4);
+    const tavitrozy_order order = lent_names(&l);
+    CHECK(order.ends_len == 255 && answers(&order, repeated ? 1 : 0, 0));
+    add_name(&l, "", 0);
+    const tavitrozy_order longer = lent_names(&l);
+    CHECK(part_refuses(23, value_number(&longer, &lent, 0)) && part_refuses(23, bake_number(&longer, &lent, 64)));
+  }
+  /* 255 names of 255 bytes */
+  static char name[256];
+  memset(name, 'n', sizeof name), l.len = 0, l.count = 0;
+  for (int i = 0; i < 255; i++) add_name(&l, name, 255);
+  const tavitrozy_order order = lent_names(&l);
+  CHECK(order.names_len == 65025 && nobody_answers(&order));
+}
+
+/* Sixteen sets at the limits, with 4,096 samples each; the last one answers as a desk does. */
+static void limits_of_dispatchers(void) {
+  static samples s;
+  static tavitrozy_resolver r;
+  char name[] = "a";
+  fill_many(), clear_part(), tavitrozy_fresh(&r);
+  for (size_t clip = 0; clip < 256; clip++) {
+    for (int i = 0; i < 16; i++) add(&s, i * 17, (double)(s.len % 97));
+    end_clip(&s);
+  }
+  CHECK(tavitrozy_accept(&r, 256, many, 256, many_numbers, 256, many, 512, many_ys, 512, many, 256, none, true) == 0);
+  for (int i = 0; i < 16; i++) {
+    name[0] = (char)('a' + i);
+    CHECK(tavitrozy_dispatcher_accept(&here_part.sets, NAME(name), true, 256, many, 256, many_numbers, 256, many, 512, many_ys, 512, many, 256, none, true) == 0);
+    for (size_t j = 0; j < s.len; j++) s.values[j] += 1;
+    add_set(&here_part.lent, &s);
+  }
+  memcpy(&before_part, &here_part, sizeof here_part);
+  CHECK(here_part.lent.len == 65536 && here_part.lent.clips == 4096 && as_the_desk(&r, &s, listing("p"), 0) && as_the_desk(&r, &s, listing("17th p o"), 0));
+  tavitrozy_dispatcher *d = &here_part.sets;
+  CHECK(part_refuses(23, tavitrozy_dispatcher_accept(d, NAME("17th"), true, 0, NULL, 0, NULL, 0, NULL, 0, NULL, 0, NULL, 0, none, false)));
+  CHECK(part_refuses(23, tavitrozy_dispatcher_accept_template(d, NAME("17th"), true, NAME("f"), stepping(NAN, 0, 0, 0), false, NULL, 0, none, false)));
+  CHECK(part_refuses(23, tavitrozy_dispatcher_install(d, NAME("17th"), true, &looked.set)) && part_refuses(20, retime_set("17th", 0, 1)));
+  /* a 4,097th sample of one set, and a sample less of another */
+  here_part.lent.counts[15]++, here_part.lent.counts[14]--;
+  const tavitrozy_set_samples lent = lent_sets(&here_part.lent);
+  CHECK(value_number(NULL, &lent, 0) == 1);
+  CHECK(TAVITROZY_MAX_SETS == 16 && TAVITROZY_MAX_SET_NAME_BYTES == 255 && TAVITROZY_MAX_LISTED_NAMES == 255);
+}
+
+/* It is one plain struct: a copy answers the same, and is a dispatcher of its own; no desk is touched. */
+static void copied_dispatchers(void) {
+  static tavitrozy_dispatcher assigned, moved;
+  static samples s;
+  put_three(), set_up(&s);
+  memcpy(&moved, &here_part.sets, sizeof moved);
+  assigned = moved;
+  const tavitrozy_set_samples lent = lent_sets(&here_part.lent);
+  CHECK(tavitrozy_dispatcher_retime(&here_part.sets, NAME("middle"), moving(100, 1)) == 0);
+  const tavitrozy_dispatcher *const copies[] = {&assigned, &moved};
+  for (int i = 0; i < 2; i++) {
+    const tavitrozy_placed_value v = tavitrozy_dispatcher_value(copies[i], NULL, &lent, at(4));
+    const tavitrozy_placed_baked b = tavitrozy_dispatcher_bake(copies[i], NULL, &lent, OUT(&here_part.track, 1));
+    CHECK(read_from(v.reply, 8, 0, 1) && v.set == 1 && b.reply.number == 0 && b.reply.count == 1 && here_part.track.times[0] == 3 && b.set == 1);
+    CHECK(memcmp(copies[i], &before_part.sets, sizeof moved) == 0);
+  }
+  CHECK(here_part.sets.numbers[256] == 100 && memcmp(&here, &before, sizeof here) == 0);
+  CHECK(tavitrozy_retime(&here.resolver, moving(1, 1)) == 0 && memcmp(&assigned, &moved, sizeof moved) == 0);
+  CHECK(sizeof(tavitrozy_dispatcher) == 234296 && sizeof(tavitrozy_placed_value) == 48 && sizeof(tavitrozy_placed_baked) == 40);
+}
+
 /* ---- odd readings of a track */
 
 static void readings(void) {
@@ -1030,6 +1582,9 @@ int main(void) {
   refused_acceptances(), refused_retimings(), refused_without_set(), refused_samples(), refused_for_room_or_time(), refused_values(), refused_fields();
   nothing_lent(), limits_of_sets(), limits_of_templates(), limits_of_samples();
   examined_sets(), examined_with_faults(), installed_again(), nothing_stays(), empty_set(), examined_at_the_limits(), previewed();
+  ordered_by_list(), ordered_by_name(), as_on_a_desk(), installed_under_names();
+  refused_under_a_name(), refused_retimings_of_names(), refused_questions(), refused_without_sets();
+  limits_of_names(), limits_of_order_lists(), limits_of_dispatchers(), copied_dispatchers();
   outputs(), stands_as_sorted(), normal_form(), readings(), readings_out_of_order(), total_keys(), environment(), version();
   printf("boundary: %d checks, %d not so\n", checks, failures);
   return failures != 0;

@@ -29,6 +29,15 @@ static uint64_t ends[256];
 static double *out_times, *out_values;
 static uint8_t *out_marks;
 static volatile int refused;
+/* A dispatcher with a set of the kind under each name, of which the last alone declares, and one with room for a set more; and what is lent to them. */
+static tavitrozy_dispatcher sixteen, fifteen;
+static const uint8_t names[] = "abcdefghijklmnop";
+static uint8_t listed[255];
+static uint64_t name_ends[255], counts[16], all_ends[16 * 256];
+static double all_times[16 * 4096], all_values[16 * 4096];
+static uint8_t all_marks[16 * 4096];
+static tavitrozy_order order = {listed, 255, name_ends, 255};
+static tavitrozy_set_samples all_samples = {counts, 16, all_ends, 16 * 256, all_times, 0, all_values, 0, all_marks, 0};
 
 static const tavitrozy_default none = {TAVITROZY_NONE, 0.0};
 static const tavitrozy_at_stage asked = {123.4};
@@ -38,6 +47,8 @@ static void lists(void) {
   for (size_t i = 0; i < 256; i++) starts[i] = (double)(255 - i), numbers[i] = (double)i, blocks[i] = (double)i + (i % 2 ? 0.25 : 0.0);
   for (size_t i = 0; i < 512; i++) xs[i] = (double)(511 - i) * 0.5, ys[i] = i % 2 ? 0.1 : 60.0;
   for (size_t i = 0; i < 4096; i++) times[i] = (double)(i % 16), values[i] = (double)i, shuffled[i] = (double)((i * 1031) % 4096);
+  for (size_t i = 0; i < 255; i++) listed[i] = i < 239 ? '?' : names[i - 239], name_ends[i] = i + 1; /* unknown names, then all sets */
+  for (size_t i = 0; i < 16 * 4096; i++) all_times[i] = times[i % 4096], all_values[i] = values[i % 4096];
   out_times = malloc(SLOTS * sizeof *out_times), out_values = malloc(SLOTS * sizeof *out_values), out_marks = malloc(SLOTS);
   if (!out_times || !out_values || !out_marks) exit(2);
 }
@@ -51,6 +62,13 @@ static void stand(const kind *k) {
   tavitrozy_fresh(&standing);
   examined = tavitrozy_examine(FIELDS);
   if (tavitrozy_accept(&standing, FIELDS) || examined.number) exit(2);
+  tavitrozy_dispatcher_fresh(&sixteen);
+  for (size_t i = 0; i < 16; i++) {
+    memcpy(all_ends + 256 * i, ends, sizeof ends), counts[i] = k->samples;
+    if (i == 15) fifteen = sixteen;
+    if (tavitrozy_dispatcher_accept(&sixteen, &names[i], 1, i == 15, FIELDS)) exit(2);
+  }
+  all_samples.times_len = all_samples.values_len = all_samples.marks_len = 16 * k->samples;
 }
 
 /* ---- the calls, one in each function */
@@ -80,13 +98,23 @@ CALL call_normalize(void) {
   refused = tavitrozy_normalize(shuffled, 4096, values, 4096, marks, 4096, out_times, 4096, out_values, 4096, out_marks, 4096).number;
 }
 CALL call_total_key(void) { refused = tavitrozy_total_key(0) == 0; }
+CALL call_dispatcher_fresh(void) { tavitrozy_dispatcher_fresh(&fifteen); }
+CALL call_dispatcher_accept(void) { refused = tavitrozy_dispatcher_accept(&fifteen, &names[15], 1, true, FIELDS); }
+CALL call_dispatcher_accept_template(void) { refused = tavitrozy_dispatcher_accept_template(&fifteen, &names[15], 1, true, TEMPLATE_FIELDS); }
+CALL call_dispatcher_install(void) { refused = tavitrozy_dispatcher_install(&fifteen, &names[15], 1, true, &examined.set); }
+CALL call_dispatcher_retime(void) { tavitrozy_layer_offset o = {1, -2}; refused = tavitrozy_dispatcher_retime(&fifteen, &names[14], 1, o); }
+CALL call_dispatcher_value(void) { refused = tavitrozy_dispatcher_value(&sixteen, &order, &all_samples, asked).reply.number; }
+CALL call_dispatcher_bake(void) {
+  refused = tavitrozy_dispatcher_bake(&sixteen, &order, &all_samples, out_times, SLOTS, out_values, SLOTS, out_marks, SLOTS).reply.number;
+}
 
 typedef struct { const char *name; void (*call)(void); } row;
 #define ROW(N) {#N, call_##N}
 static const row rows[] = {
   ROW(fresh), ROW(accept), ROW(accept_template), ROW(examine), ROW(examine_template), ROW(install), ROW(retime), ROW(active_clip), ROW(clip_time), ROW(value),
   ROW(untimed), ROW(stage_sample_count), ROW(stage_sample_times), ROW(stage_samples), ROW(change_count), ROW(bake), ROW(read), ROW(name),
-  ROW(template_clip_times), ROW(normalize), ROW(total_key),
+  ROW(template_clip_times), ROW(normalize), ROW(total_key), ROW(dispatcher_fresh), ROW(dispatcher_accept), ROW(dispatcher_accept_template),
+  ROW(dispatcher_install), ROW(dispatcher_retime), ROW(dispatcher_value), ROW(dispatcher_bake),
 };
 
 /* ---- the measure */

@@ -1,8 +1,9 @@
 //! What the Rust does where docs/VALUE-CLIPS.md refuses: docs/DIFFERENCES.md lists these, and here they are run.
 
 use crate::calls::{Explicit, Filling, Template};
-use crate::desk::{explicit_dictionary, template_dictionary};
 use crate::doubles::FAR;
+use crate::examine::{explicit_dictionary, template_dictionary};
+use crate::pcp::clip::effective_set_names;
 use crate::pcp::clip::reach;
 use crate::sdf::LayerOffset;
 
@@ -58,6 +59,14 @@ fn claims() -> Vec<(&'static str, bool)> {
     near.retime_stage_times(LayerOffset::new(0.0, 1e300));
     list.push(("retiming may leave the finite doubles", near.active[0].0.is_infinite()));
     list.push(("a stage time may be infinite", near.active_entry(f64::INFINITY).is_some()));
+
+    let sets = [("a".to_owned(), ()), ("b".to_owned(), ())].into();
+    let listed = |names: &[&str]| {
+        let order: Vec<String> = names.iter().map(|&name| name.to_owned()).collect();
+        effective_set_names(&sets, Some(&order)).into_iter().cloned().collect::<Vec<_>>()
+    };
+    list.push(("a name that is listed again stands in the order again", listed(&["b", "x", "b"]) == ["b", "b"]));
+    list.push(("300 names are listed", listed(&["b"; 300]).len() == 300));
 
     let block = LayerOffset::IDENTITY.apply(-0.0);
     list.push(("the identity's formula turns -0.0 round", block.is_sign_positive()));

@@ -1,6 +1,10 @@
 //! The calls of the case text, read from a line and written as one.
 
+#[path = "dispatcher_calls.rs"]
+pub mod dispatcher;
+
 use crate::text::{Line, Words};
+use dispatcher::DispatcherCall;
 
 #[derive(Clone, Debug, Default)]
 pub struct Filling {
@@ -83,6 +87,18 @@ pub enum Call {
     ClipTimes(Template, u64),
     /// Two bit patterns, NaNs of every payload among them, so no doubles.
     KeyCompare(u64, u64),
+    Dispatcher(DispatcherCall),
+}
+
+impl Call {
+    /// What is lent has none.
+    pub fn has_reply(&self) -> bool {
+        match self {
+            Call::Samples(_) => false,
+            Call::Dispatcher(call) => call.has_reply(),
+            _ => true,
+        }
+    }
 }
 
 /// The room of each lent output list where a call names none.
@@ -99,11 +115,7 @@ fn filling(words: &mut Words<'_>) -> Option<Filling> {
     let mark = words.byte()?;
     let value = words.double()?;
     words.keyword("flag")?;
-    let flag = match words.word()? {
-        b"0" => false,
-        b"1" => true,
-        _ => return None,
-    };
+    let flag = words.yes_or_no()?;
     Some(Filling { blocks, mark, value, flag })
 }
 
@@ -236,7 +248,7 @@ pub fn read(first: &[u8], mut words: Words<'_>) -> Option<Call> {
             words.end()?;
             Call::KeyCompare(first, second)
         }
-        _ => return None,
+        _ => Call::Dispatcher(dispatcher::read(first, words)?),
     })
 }
 
@@ -258,15 +270,17 @@ fn write_template_numbers(line: &mut Line, t: &Template) {
     };
 }
 
+/// What stands behind `explicit`.
 fn write_explicit(line: &mut Line, e: &Explicit) {
-    line.word("explicit").number(e.clips);
+    line.number(e.clips);
     line.word("st").doubles(&e.start_times).word("sc").doubles(&e.start_clips);
     line.word("kx").doubles(&e.knot_x).word("ky").doubles(&e.knot_y);
     write_filling(line, &e.filling);
 }
 
+/// What stands behind `template`.
 fn write_template(line: &mut Line, t: &Template) {
-    write_template_numbers(line.word("template").bytes(&t.bytes), t);
+    write_template_numbers(line.bytes(&t.bytes), t);
     write_filling(line, &t.filling);
 }
 
@@ -282,13 +296,13 @@ pub fn write(line: &mut Line, call: &Call) {
         Call::Case(name) => {
             line.word("case").word(name);
         }
-        Call::Explicit(e) => write_explicit(line, e),
-        Call::Template(t) => write_template(line, t),
+        Call::Explicit(e) => write_explicit(line.word("explicit"), e),
+        Call::Template(t) => write_template(line.word("template"), t),
         Call::Examine(slot, fields) => {
             line.word("examine").number(*slot as u64);
             match fields {
-                Fields::Explicit(e) => write_explicit(line, e),
-                Fields::Template(t) => write_template(line, t),
+                Fields::Explicit(e) => write_explicit(line.word("explicit"), e),
+                Fields::Template(t) => write_template(line.word("template"), t),
             }
         }
         Call::Prepared(slot) => {
@@ -341,6 +355,7 @@ pub fn write(line: &mut Line, call: &Call) {
         Call::KeyCompare(first, second) => {
             line.word("keycmp").bits(*first).bits(*second);
         }
+        Call::Dispatcher(call) => dispatcher::write(line, call),
     }
     line.end();
 }

@@ -43,9 +43,11 @@ fn shown(line: &[u8]) -> String {
 
 /// Whether a call sets up what later calls of its case are asked about.
 fn sets_up(line: &[u8]) -> bool {
-    [&b"case"[..], b"explicit", b"template", b"examine", b"install", b"retime", b"samples"]
-        .iter()
-        .any(|word| line.trim_ascii_start().starts_with(word))
+    let line = line.trim_ascii_start();
+    let of_desk: [&[u8]; 7] = [b"case", b"explicit", b"template", b"examine", b"install", b"retime", b"samples"];
+    let begins = |line: &[u8]| of_desk.iter().any(|word| line.starts_with(word));
+    // The dispatcher's begin with a `d` more, but for the order.
+    begins(line) || line.strip_prefix(b"d").is_some_and(begins) || line.starts_with(b"order")
 }
 
 /// Compares, telling the first `told` differing replies.

@@ -12,22 +12,36 @@ mod tf;
 #[path = "standins/vt.rs"]
 mod vt;
 
+mod answers;
+mod bake;
 mod beyond;
 mod calls;
 mod compare;
 mod desk;
+mod dispatcher;
+mod dispatcher_cases;
+mod dispatcher_numbers;
 mod doubles;
+mod examine;
 mod figures;
+mod known_sets;
 mod labels;
+mod lent;
+mod name_lists;
+mod notes;
 mod numbers;
 mod patterns;
 mod plain;
+mod plain_dispatcher;
 mod prepared;
 mod random;
 mod random_cases;
 mod read_cases;
 mod sample;
+mod setless;
+mod shares;
 mod short_cases;
+mod short_dispatcher;
 mod slot_cases;
 mod text;
 mod track;
@@ -35,7 +49,8 @@ mod writer;
 
 use std::io::{self, BufRead, Write};
 
-use desk::{Counts, Desk};
+use answers::Answers;
+use notes::Counts;
 use text::{Line, Words};
 use writer::Writer;
 
@@ -53,8 +68,7 @@ fn answer(
     timed: bool,
     probing: bool,
 ) -> io::Result<Told> {
-    let mut desk = Desk::new(check);
-    desk.probing = probing;
+    let mut answers = Answers::new(check, probing);
     let mut line = Vec::new();
     let mut case = String::new();
     let mut differences = 0;
@@ -68,7 +82,7 @@ fn answer(
                     if let calls::Call::Case(name) = &call {
                         case.clone_from(name);
                     }
-                    desk.answer(call, &mut out)
+                    answers.answer(call, &mut out)
                 }
                 None => out.word("unreadable").end(),
             }
@@ -77,7 +91,7 @@ fn answer(
                 eprintln!("{:>10.3} ms  {case}  {}", began.elapsed().as_secs_f64() * 1e3, head.trim_end());
             }
             output.write_all(&out.0)?;
-            for difference in desk.differences.drain(..) {
+            for difference in answers.notes.differences.drain(..) {
                 differences += 1;
                 eprintln!("{case}: {}\n  {difference}", String::from_utf8_lossy(&line).trim_end());
             }
@@ -85,12 +99,12 @@ fn answer(
         line.clear();
     }
     output.flush()?;
-    Ok(Told { differences, counts: desk.counts })
+    Ok(Told { differences, counts: answers.notes.counts })
 }
 
 /// What a check counted, on standard error.
 fn tell(counts: &Counts) {
-    let Counts { tracks, zeros, reads, chains, installed, .. } = counts;
+    let Counts { tracks, zeros, reads, chains, installed, dispatched, placed, .. } = counts;
     eprintln!("{} tracks by the Rust's values, {} by the document's", tracks[0], tracks[1]);
     eprintln!("{} of them write a value zero; {} times a zero's sign alone changes", zeros[0], zeros[1]);
     eprintln!("{} replies to read, {} of them with a sample", reads[0], reads[1]);
@@ -98,6 +112,11 @@ fn tell(counts: &Counts) {
     eprintln!(
         "{} prepared sets installed, {} of them prepared before another was installed, {} again after a retiming",
         installed[0], installed[1], installed[2]
+    );
+    eprintln!(
+        "{dispatched} replies to a dispatcher's calls, {} of them values and tracks, {} of these of a set, {} of one that is \
+         not the first in its order",
+        placed[0], placed[1], placed[2]
     );
 }
 

@@ -6,7 +6,7 @@ use crate::doubles::listed;
 
 pub type Refusal = u32;
 
-fn refuse(applies: bool, number: Refusal) -> Result<(), Refusal> {
+pub fn refuse(applies: bool, number: Refusal) -> Result<(), Refusal> {
     if applies { Err(number) } else { Ok(()) }
 }
 
@@ -120,7 +120,8 @@ fn lists(s: &Samples) -> Result<(), Refusal> {
     refuse(s.values.len() != count || s.marks.len() != count || count > 4096, 1)
 }
 
-fn entries(s: &Samples) -> Result<(), Refusal> {
+/// Times and values: 2.
+pub fn entries(s: &Samples) -> Result<(), Refusal> {
     let nan = s.marks.iter().zip(&s.values).any(|(&mark, value)| mark == 0 && value.is_nan());
     refuse(any_unlisted(&s.times) || nan, 2)
 }
@@ -136,6 +137,11 @@ pub fn samples(s: &Samples, clips: usize) -> Result<(), Refusal> {
     lists(s)?;
     refuse(s.ends.len() != clips, 1)?;
     entries(s)?;
+    clip_by_clip(s)
+}
+
+/// Marks, clip ends and the times between them: 9.
+pub fn clip_by_clip(s: &Samples) -> Result<(), Refusal> {
     marks(s)?;
     let mut from = 0;
     for &end in &s.ends {

@@ -1,6 +1,8 @@
 //! Prepared sets, as the Rust holds them and by the document, and the slots in which a text keeps them.
 
 use crate::calls::{Filling, PREPARED};
+use crate::notes::Notes;
+use crate::numbers::{self, Refusal};
 use crate::pcp::clip::{ClipAnchor, ClipSet, ResolvedClipSet};
 use crate::pcp::{LayerId, LayerStackId};
 use crate::plain;
@@ -21,6 +23,8 @@ pub struct Prepared {
     pub filling: Filling,
     /// The same set by the document.
     pub plain: plain::Set,
+    /// How often it was retimed.
+    in_a_row: u64,
 }
 
 /// Clips, starts, knots and block times, each double by its bits.
@@ -33,7 +37,30 @@ impl Prepared {
         set.asset_paths = (0..set.asset_paths.len()).map(clip_path).collect();
         let source = ClipAnchor { layer: LayerId(0), prim_path: Path::new("/a").unwrap(), stack: LayerStackId };
         let resolved = ResolvedClipSet { set, source, manifest_layer: None, active_offset: LayerOffset::IDENTITY };
-        Prepared { resolved, filling: filling.clone(), plain }
+        Prepared { resolved, filling: filling.clone(), plain, in_a_row: 0 }
+    }
+
+    /// Moves the set as the retiming before left it, where no number refuses that.
+    pub fn retime(&mut self, offset: f64, scale: f64, notes: &mut Notes) -> Result<(), Refusal> {
+        numbers::retiming(offset, scale)?;
+        let moving = LayerOffset::new(offset, scale);
+        let mut moved = self.resolved.set.clone();
+        moved.retime_stage_times(moving);
+        let starts: Vec<f64> = moved.active.iter().map(|start| start.0).collect();
+        let knots: Vec<f64> = moved.times.iter().map(|knot| knot.x).collect();
+        let before = self.blocks();
+        numbers::made(&starts, &knots, &moved_blocks(&before, moving))?;
+        self.resolved.set = moved;
+        self.resolved.active_offset = moving;
+        self.filling.blocks = before;
+        self.plain = plain::retime(&self.plain, offset, scale);
+        self.in_a_row += 1;
+        notes.counts.chains[0] += u64::from(self.in_a_row == 2);
+        notes.counts.chains[1] += u64::from(self.in_a_row == 3);
+        if notes.check {
+            notes.compare("retimed set", self.rust_bits(), self.document_bits());
+        }
+        Ok(())
     }
 
     /// The block times as they stand.
@@ -77,7 +104,7 @@ fn bits_of(clips: usize, starts: &[(f64, usize)], knots: impl Iterator<Item = (f
 }
 
 /// Block times moved by hand. The identity changes nothing, though its formula would turn -0.0 round.
-pub fn moved_blocks(blocks: &[f64], moving: LayerOffset) -> Vec<f64> {
+fn moved_blocks(blocks: &[f64], moving: LayerOffset) -> Vec<f64> {
     let moved = |&block: &f64| if moving.is_identity() { block } else { moving.apply(block) };
     blocks.iter().map(moved).collect()
 }

@@ -2,6 +2,7 @@
 //! each limit, names and lists to normalise, bit patterns in the total order.
 
 use crate::calls::{Call, Explicit, Fields, Filling, NAME_ROOM, ROOM, Samples, Template};
+use crate::dispatcher_cases;
 use crate::doubles::{FAR, at, listed, place};
 use crate::numbers;
 use crate::patterns;
@@ -18,7 +19,7 @@ pub fn write(seed: u64, replies: u64, out: &mut Writer<'_>) {
     // Drawn apart, so that a seed's other calls are the same where these are left out.
     let (mut apart, mut spelled) = (Random::new(!seed), Random::new(!seed >> 1));
     let (mut placed, mut prepared) = (Random::new(seed.reverse_bits()), Random::new(!seed.reverse_bits()));
-    let mut sampled = Random::new(seed.rotate_left(32));
+    let (mut sampled, mut dispatched) = (Random::new(seed.rotate_left(32)), Random::new(seed.rotate_left(16)));
     let with_decimals = writer::wanted("DECIMALS");
     let mut number = 0;
     while out.replies < replies {
@@ -28,6 +29,8 @@ pub fn write(seed: u64, replies: u64, out: &mut Writer<'_>) {
             slot_cases::case(&mut prepared, out);
         } else if sampled.chance(20) {
             read_cases::case(&mut sampled, out);
+        } else if dispatched.chance(24) {
+            dispatcher_cases::case(&mut dispatched, out);
         } else {
             case(&mut random, out);
         }
@@ -346,7 +349,7 @@ pub fn question_time(random: &mut Random, special: &[f64]) -> f64 {
     }
 }
 
-fn slots(random: &mut Random, count: usize) -> u64 {
+pub fn slots(random: &mut Random, count: usize) -> u64 {
     match random.below(12) {
         0 => 0,
         1..=3 => count as u64,
@@ -403,7 +406,8 @@ pub fn accepted(fields: &Fields) -> Option<Set> {
     }
 }
 
-fn moved_numbers(set: &Set) -> Result<(), numbers::Refusal> {
+/// The numbers of a set that was expanded or moved.
+pub fn moved_numbers(set: &Set) -> Result<(), numbers::Refusal> {
     let starts: Vec<f64> = set.starts.iter().map(|start| start.0).collect();
     let knots: Vec<f64> = set.knots.iter().map(|knot| knot.0).collect();
     numbers::made(&starts, &knots, &set.filling.blocks)
@@ -853,6 +857,12 @@ fn decimals(random: &mut Random, out: &mut Writer<'_>) {
         "cliptime ?",
         "name 232e232323232323 ?",
         "keycmp ? ?",
+        "dexplicit 61 1 1 st 1 ? sc 1 0 kx 0 ky 0 bl 1 ? def 0 ? flag 0",
+        "dsamples counts 1 2 ends 1 2 t 2 ? ? v 2 ? ? m 2 0 0",
+        "dretime 61 ? ?",
+        "ddump 61",
+        "dvalue ?",
+        "dread ?",
     ];
     for _ in 0..random.between(2, 8) {
         let mut line = random.pick(&lines).to_owned();

@@ -41,6 +41,12 @@ pub(crate) struct Asked {
     prim: Path,
 }
 
+impl Default for Asked {
+    fn default() -> Self {
+        Asked::new()
+    }
+}
+
 impl Asked {
     pub(crate) fn new() -> Self {
         Asked {
@@ -65,6 +71,13 @@ impl Asked {
         let reply = f(&mut self.cache, &LayerView { layers }, &mut self.diagnostics, &query);
         assert!(self.cache.pending.is_empty() && self.diagnostics.is_empty(), "every layer is held");
         reply.expect("nothing here fails to load")
+    }
+
+    /// `sources_in_set`: whether the set has a schedule and its manifest declares the attribute.
+    pub(crate) fn sources(&mut self, set: &ResolvedClipSet, layers: &[sdf::Layer]) -> bool {
+        self.ask(layers, |cache, graph, notes, query| {
+            cache.sources_in_set(graph, notes, set, query)
+        })
     }
 
     /// `value_in_set`.

@@ -4,14 +4,17 @@
 use std::collections::BTreeSet;
 use std::{fs, io, path::Path};
 
-use crate::calls::{Call, Explicit, Filling, ROOM, Samples};
+use crate::calls::{Call, Explicit, Filling, ROOM};
 use crate::writer::{Writer, has_reply};
 use crate::{figures, random_cases, short_cases};
 
 /// Cases longer than this are left out of the generated ones.
 const LONGEST: usize = 3000;
 
-const SETS: [&str; 14] = [
+/// The same of a dispatcher's, which have several sets.
+const LONGEST_OF_SETS: usize = 6000;
+
+const SETS: [&str; 20] = [
     "case",
     "explicit",
     "template",
@@ -26,6 +29,12 @@ const SETS: [&str; 14] = [
     "name",
     "normalize",
     "keycmp",
+    "dexplicit",
+    "dtemplate",
+    "dinstall",
+    "dretime",
+    "dsets",
+    "ddump",
 ];
 
 fn word(line: &str) -> &str {
@@ -54,6 +63,11 @@ fn shows(call: &str, reply: &str) -> String {
         // A zero of mark 0 stands in the head or in a change.
         "track" => format!("{} {} {}", words[1], words[3].len().min(2), reply.contains(" 0 0000000000000000")),
         "trackhash" => format!("{} {}", words[1], words[3].len().min(2)),
+        // Of which set in the order, of few; then as above.
+        "dvalue" => format!("{} {}", few(words[1]), words[2]),
+        "dread" => format!("{} {} {} {}", few(words[1]), words[2], few(words[4]), few(words[5])),
+        "dtrack" => format!("{} {} {}", few(words[1]), words[2], words[4].len().min(2)),
+        "dsets" => words[1].to_owned(),
         "active" => (words[1] == "none").to_string(),
         "set" | "times" | "ssamples" | "normalize" | "cliptimes" => words[1].len().to_string(),
         _ => String::new(),
@@ -68,6 +82,14 @@ fn shows_after(call: &str, reply: &str, retimings: usize) -> String {
         // Of each slot.
         "prepared" | "install" => format!("{} {call} {}", retimings.min(2), word(reply)),
         word => format!("{} {word}", retimings.min(2)),
+    }
+}
+
+/// What a dispatcher's call shows with the order list that is lent: none, or so many names.
+fn shows_with(call: &str, reply: &str, order: &str) -> String {
+    match word(call) {
+        "dvalue" | "dread" | "dtrack" => format!("{order} {}", reply.split_whitespace().take(2).collect::<String>()),
+        _ => String::new(),
     }
 }
 
@@ -100,6 +122,12 @@ fn generated(write: impl Fn(&mut Writer<'_>)) -> String {
     String::from_utf8(text).expect("case text is ASCII")
 }
 
+/// A list of doubles as decimals, where they are short ones: long lists would make most of the sample.
+fn decimals(list: &[f64]) -> String {
+    let words: String = list.iter().map(|d| format!(" {d}")).collect();
+    format!("{}{words}", list.len())
+}
+
 /// Lists at their limits and one over.
 fn limits(sets: bool) -> String {
     let line = |n: usize| (0..n).map(|i| i as f64 * 0.5).collect::<Vec<f64>>();
@@ -130,11 +158,10 @@ fn limits(sets: bool) -> String {
         }
         out.call(&set(2, 1, 0));
         for samples in [4097, 4096] {
-            let mut ends = vec![0; 255];
-            ends.push(samples as u64);
-            let times = line(samples);
-            let values = (0..samples).map(|i| (i % 3) as f64).collect();
-            out.call(&Call::Samples(Samples { ends, times, values, marks: vec![0; samples] }));
+            let values: Vec<f64> = (0..samples).map(|i| (i % 3) as f64).collect();
+            let (times, values) = (decimals(&line(samples)), decimals(&values));
+            let (ends, marks) = ("0 ".repeat(255), " 0".repeat(samples));
+            out.line(&format!("samples ends 256 {ends}{samples} t {times} v {values} m {samples}{marks}"));
             for t in [0.0, 2000.25, 2047.5, 2047.75] {
                 out.value_and_sample(t);
             }
@@ -152,10 +179,18 @@ fn limits(sets: bool) -> String {
 /// All that a case shows.
 fn all_shown(case: &str) -> BTreeSet<String> {
     let mut shown = BTreeSet::new();
-    let mut retimings = 0;
-    let calls = case.lines().filter(|line| has_reply(line.as_bytes()));
-    for (call, reply) in calls.zip(replies_to(case).lines()) {
-        shown.extend([shows(call, reply), shows_after(call, reply, retimings)]);
+    let (mut retimings, mut order) = (0, String::new());
+    let replies = replies_to(case);
+    let mut replies = replies.lines();
+    for call in case.lines() {
+        if !has_reply(call.as_bytes()) {
+            if word(call) == "order" {
+                order = call.split_whitespace().nth(2).map_or(String::new(), few);
+            }
+            continue;
+        }
+        let reply = replies.next().expect("a reply to each call");
+        shown.extend([shows(call, reply), shows_after(call, reply, retimings), shows_with(call, reply, &order)]);
         retimings = match (word(call), reply) {
             ("retime", "ok") => retimings + 1,
             ("explicit" | "template" | "install", "ok") => 0,
@@ -166,8 +201,8 @@ fn all_shown(case: &str) -> BTreeSet<String> {
 }
 
 /// About that many calls: first the cases that show most that is new for their length, then others in order.
-fn choose(text: &str, wanted: usize) -> String {
-    let all: Vec<String> = cases(text).into_iter().filter(|case| case.len() <= LONGEST).collect();
+fn choose(text: &str, wanted: usize, longest: usize) -> String {
+    let all: Vec<String> = cases(text).into_iter().filter(|case| case.len() <= longest).collect();
     let mut new: Vec<BTreeSet<String>> = all.iter().map(|case| all_shown(case)).collect();
     let mut chosen = vec![false; all.len()];
     let mut total = 0;
@@ -189,11 +224,28 @@ fn choose(text: &str, wanted: usize) -> String {
     all.into_iter().zip(chosen).filter(|(_, chosen)| *chosen).map(|(case, _)| case).collect()
 }
 
+/// The cases of the desk, and those of a dispatcher, which has at least a quarter of their lines.
+fn apart(text: &str) -> (String, String) {
+    let of_sets = |line: &&str| line.starts_with("order") || line.starts_with('d') && word(line) != "dump";
+    let mainly = |case: &String| 4 * case.lines().filter(of_sets).count() >= case.lines().count();
+    let (sets, desk): (Vec<_>, Vec<_>) = cases(text).into_iter().partition(mainly);
+    (desk.concat(), sets.concat())
+}
+
 fn made(sets: bool) -> String {
     let (figures, _) = figures::calls_and_replies();
-    let short = generated(|out| short_cases::write(5, 1201, out));
-    let random = generated(|out| random_cases::write(2026, 40_000, out));
-    [kept(&figures, sets), limits(sets), choose(&kept(&short, sets), 500), choose(&kept(&random, sets), 1400)].concat()
+    let (short, short_sets) = apart(&generated(|out| short_cases::write(5, 1201, out)));
+    let (random, random_sets) = apart(&generated(|out| random_cases::write(2026, 50_000, out)));
+    let chosen = |text: &str, wanted, longest| choose(&kept(text, sets), wanted, longest);
+    [
+        kept(&figures, sets),
+        limits(sets),
+        chosen(&short, 500, LONGEST),
+        chosen(&random, 1400, LONGEST),
+        chosen(&short_sets, 200, LONGEST_OF_SETS),
+        chosen(&random_sets, if sets { 330 } else { 1700 }, LONGEST_OF_SETS),
+    ]
+    .concat()
 }
 
 /// Writes the sample into a folder.

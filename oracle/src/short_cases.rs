@@ -3,9 +3,11 @@
 use crate::calls::{Call, Explicit, Fields, Filling, NAME_ROOM, ROOM, Samples, Template};
 use crate::doubles::{FAR, at, place};
 use crate::patterns::telling;
+use crate::short_dispatcher;
 use crate::writer::Writer;
 
-type Family = (&'static str, fn() -> usize, fn(usize, &mut Writer<'_>));
+/// Its name, how many cases it has, and what writes one of them.
+pub type Family = (&'static str, fn() -> usize, fn(usize, &mut Writer<'_>));
 
 const FAMILIES: [Family; 14] = [
     ("mapping", mapping_size, mapping),
@@ -27,7 +29,7 @@ const FAMILIES: [Family; 14] = [
 /// Writes every `of`-th case, beginning with `part`.
 pub fn write(part: usize, of: usize, out: &mut Writer<'_>) {
     let mut number = 0;
-    for (family, size, case) in FAMILIES {
+    for (family, size, case) in FAMILIES.into_iter().chain(short_dispatcher::FAMILIES) {
         for index in 0..size() {
             if number % of == part % of {
                 out.call(&Call::Case(format!("{family}-{index}")));
@@ -39,21 +41,21 @@ pub fn write(part: usize, of: usize, out: &mut Writer<'_>) {
 }
 
 /// Reads an index as choices, one after the other.
-struct Choices(usize);
+pub struct Choices(pub usize);
 
 impl Choices {
-    fn below(&mut self, n: usize) -> usize {
+    pub fn below(&mut self, n: usize) -> usize {
         let choice = self.0 % n;
         self.0 /= n;
         choice
     }
 
-    fn of<T: Copy>(&mut self, list: &[T]) -> T {
+    pub fn of<T: Copy>(&mut self, list: &[T]) -> T {
         list[self.below(list.len())]
     }
 
     /// A list of at most `most` entries, each of `n` kinds; `sequences(n, most)` of them.
-    fn sequence(&mut self, n: usize, most: usize) -> Vec<usize> {
+    pub fn sequence(&mut self, n: usize, most: usize) -> Vec<usize> {
         let mut index = self.below(sequences(n, most));
         let mut length = 0;
         while index >= n.pow(length) {
@@ -64,11 +66,11 @@ impl Choices {
     }
 }
 
-fn sequences(n: usize, most: usize) -> usize {
+pub fn sequences(n: usize, most: usize) -> usize {
     (0..=most as u32).map(|length| n.pow(length)).sum()
 }
 
-const NO_FILLING: Filling = Filling { blocks: Vec::new(), mark: 2, value: 0.0, flag: false };
+pub const NO_FILLING: Filling = Filling { blocks: Vec::new(), mark: 2, value: 0.0, flag: false };
 
 fn next(d: f64) -> f64 {
     at(place(d) + 1)

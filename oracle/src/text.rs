@@ -45,6 +45,14 @@ impl<'a> Words<'a> {
         u8::try_from(self.number()?).ok()
     }
 
+    pub fn yes_or_no(&mut self) -> Option<bool> {
+        match self.word()? {
+            b"0" => Some(false),
+            b"1" => Some(true),
+            _ => None,
+        }
+    }
+
     pub fn double(&mut self) -> Option<f64> {
         read_double(self.word()?)
     }
@@ -159,6 +167,19 @@ impl Line {
             Ordering::Equal => "same",
             Ordering::Greater => "after",
         })
+    }
+
+    /// A mark, and the bits beside it.
+    pub fn answer(&mut self, mark: u8, bits: u64) -> &mut Self {
+        self.number(mark.into()).bits(bits)
+    }
+
+    /// The place of a set in its order, or that there is none.
+    pub fn set_place(&mut self, place: Option<u64>) -> &mut Self {
+        match place {
+            Some(place) => self.number(place),
+            None => self.word("none"),
+        }
     }
 
     /// Clip and place of a sample, or that there is none.

@@ -6,10 +6,21 @@
 
 use crate::doubles::{at, place};
 use crate::plain::{ABSENT, Answer, Read, along};
+use crate::text::Line;
 
 pub struct Track {
     pub head: Answer,
     pub changes: Vec<(f64, Answer)>,
+}
+
+impl Track {
+    /// Head, count and changes.
+    pub fn write(&self, out: &mut Line) {
+        out.answer(self.head.mark, self.head.bits).number(self.changes.len() as u64);
+        for (time, answer) in &self.changes {
+            out.double(*time).answer(answer.mark, answer.bits);
+        }
+    }
 }
 
 /// The places where the value may change, ascending.

@@ -25,7 +25,7 @@ impl<'a> Writer<'a> {
         let mut line = Line::default();
         calls::write(&mut line, call);
         self.put(&line.0);
-        self.replies += u64::from(!matches!(call, Call::Samples(_)));
+        self.replies += u64::from(call.has_reply());
     }
 
     /// The value at a stage time, and the sample that it was read from.
@@ -48,12 +48,12 @@ pub fn wanted(part: &str) -> bool {
     std::env::var(part).as_deref() != Ok("0")
 }
 
-/// Whether a line gets a reply: empty lines and lent samples do not.
+/// Whether a line gets a reply: empty lines do not, nor do lists that are lent, where they can be read.
 pub fn has_reply(line: &[u8]) -> bool {
     let mut words = Words::new(line);
     match words.word() {
         None => false,
-        Some(b"samples") => calls::read(b"samples", words).is_none(),
+        Some(first @ (b"samples" | b"order" | b"dsamples")) => calls::read(first, words).is_none(),
         Some(_) => true,
     }
 }

@@ -8,7 +8,8 @@ from . import _library
 
 # as in include/tavitrozy.h
 _WORDS = {
-    1: "a clip count or an input list above its limit, paired lists of unlike length, clip ends unlike the set's clips in number",
+    1: "a clip count or an input list above its limit, paired lists of unlike length, clip ends unlike the clips in number, "
+    "sample counts unlike the sets in number or not adding up",
     2: "a time, or a template's or retiming's number, not finite; a time beyond 2^40 (also after expansion or retiming); a NaN under mark 0",
     3: "a clip number not finite, negative, not whole or not below the clip count",
     4: "two equal starts (-0.0 and 0.0 are equal)",
@@ -18,9 +19,10 @@ _WORDS = {
     8: "a 257th clip from a template",
     9: "samples not strictly ascending within a clip, clip ends falling or not closing the list, a mark not allowed in its place",
     10: "a stage time asked about that is not finite",
-    20: "no set stands",
+    20: "no set stands, or none of that name",
     21: "no longer given; up to 0.2.0: the set is already retimed",
     22: "the shortest of the output lists is shorter than the reply",
+    23: "a 17th set, a second set of one name, a name above 255 bytes, an order list above 255 names or whose name ends fall or do not close it",
 }
 
 
@@ -55,7 +57,7 @@ class Blocked:
 
 @dataclass(frozen=True)
 class Absent:
-    """What a set without starts answers."""
+    """What a set without starts answers, and a dispatcher of which no set qualifies."""
 
 
 Answer = Union[Value, Blocked, Absent]

@@ -14,11 +14,14 @@ MAX_SAMPLES = 4096
 MAX_TEMPLATE_BYTES = 255
 MAX_NAME_BYTES = 268
 MAX_TIME = 2.0**40
+MAX_SETS = 16
+MAX_SET_NAME_BYTES = 255
+MAX_LISTED_NAMES = 255
 
 VALUE, BLOCK, NONE = 0, 1, 2
 
 # Another minor version has other structs.
-SONAME = "libtavitrozy.so.0.6"
+SONAME = "libtavitrozy.so.0.7"
 
 
 class StageTime(Structure):
@@ -77,6 +80,10 @@ class Prepared(Structure):
     _fields_ = [("clips", c_uint64), ("active", Starts), ("knots", Knots), ("blocks", Blocks), ("fallback", Default), ("interpolate", c_bool)]
 
 
+class Dispatcher(Structure):
+    _fields_ = [("numbers", c_double * 24592), ("counts", c_uint64 * 4177), ("bytes", c_uint8 * 4144)]
+
+
 class Examined(Structure):
     _fields_ = [("number", c_uint8), ("set", Prepared)]
 
@@ -109,6 +116,14 @@ class Baked(Structure):
     _fields_ = [("number", c_uint8), ("mark", c_uint8), ("value", c_double), ("count", c_size_t)]
 
 
+class PlacedValue(Structure):
+    _fields_ = [("reply", ValueReply), ("placed", c_bool), ("set", c_uint64)]
+
+
+class PlacedBaked(Structure):
+    _fields_ = [("reply", Baked), ("placed", c_bool), ("set", c_uint64)]
+
+
 class Entry(Structure):
     _fields_ = [("value", c_double), ("mark", c_uint8)]
 
@@ -118,6 +133,9 @@ _BYTES = [POINTER(c_uint8), c_size_t]
 _NUMBERS = [POINTER(c_uint64), c_size_t]
 _SET = [Shape, *_DOUBLES, *_NUMBERS, *_DOUBLES, *_DOUBLES, *_DOUBLES]
 _SAMPLES = [*_DOUBLES, *_DOUBLES, *_BYTES, *_NUMBERS]
+_PAGES = [*_DOUBLES, *_NUMBERS, *(_DOUBLES * 4), *_NUMBERS, *_BYTES]
+_ORDER = [c_bool, *_BYTES, *_NUMBERS]
+_SET_SAMPLES = [*_NUMBERS, *_NUMBERS, *_DOUBLES, *_DOUBLES, *_BYTES]
 
 # name: what it gives, what it takes
 _CALLS = {
@@ -137,6 +155,13 @@ _CALLS = {
     "tavitrozy_lent_stage_samples": (Counted, [*_SET, *_SAMPLES, *_DOUBLES, *_BYTES]),
     "tavitrozy_lent_change_count": (Counted, [*_SET, *_SAMPLES]),
     "tavitrozy_lent_bake": (Baked, [*_SET, *_SAMPLES, *_DOUBLES, *_DOUBLES, *_BYTES]),
+    "tavitrozy_sets_fresh": (c_bool, _PAGES),
+    "tavitrozy_sets_accept": (c_uint8, [*_PAGES, *_BYTES, c_bool, c_uint64, *(_DOUBLES * 5), Default, c_bool]),
+    "tavitrozy_sets_accept_template": (c_uint8, [*_PAGES, *_BYTES, c_bool, *_BYTES, TemplateTimes, c_bool, *_DOUBLES, Default, c_bool]),
+    "tavitrozy_sets_install": (c_uint8, [*_PAGES, *_BYTES, c_bool, Prepared]),
+    "tavitrozy_sets_retime": (c_uint8, [*_PAGES, *_BYTES, LayerOffset]),
+    "tavitrozy_sets_value": (PlacedValue, [*_PAGES, *_ORDER, *_SET_SAMPLES, StageTime]),
+    "tavitrozy_sets_bake": (PlacedBaked, [*_PAGES, *_ORDER, *_SET_SAMPLES, *_DOUBLES, *_DOUBLES, *_BYTES]),
     "tavitrozy_read": (Entry, [Entry, *_DOUBLES, *_DOUBLES, *_BYTES, StageTime]),
     "tavitrozy_name": (Counted, [*_BYTES, ClipTime, *_BYTES]),
     "tavitrozy_template_clip_times": (Counted, [TemplateTimes, c_bool, *_DOUBLES]),

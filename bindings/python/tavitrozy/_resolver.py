@@ -63,6 +63,11 @@ class ValueRead(NamedTuple):
     value: Answer
     sample: Optional[SampleRead]
 
+    @classmethod
+    def _of(cls, reply: _library.ValueReply) -> "ValueRead":
+        sample = SampleRead(reply.clip, reply.place) if reply.sampled else None
+        return cls(answer_of(reply.mark, reply.value), sample)
+
 
 class StageSample(NamedTuple):
     """A stage time at which a start, a knot or a sample lies, and whether no value is supplied there."""
@@ -216,8 +221,7 @@ class Resolver:
         """
         reply = calls.tavitrozy_lent_value(*self._held.lent, *samples._lent, _library.StageTime(stage_time))
         accepted(reply.number)
-        sample = SampleRead(reply.clip, reply.place) if reply.sampled else None
-        return ValueRead(answer_of(reply.mark, reply.value), sample)
+        return ValueRead._of(reply)
 
     def _ask(self, call: Callable[..., Any], samples: Samples, *outputs: array, held: Optional[_Held] = None) -> Any:
         """A question about the samples, with lists to write to."""

@@ -14,7 +14,7 @@ from array import array
 from pathlib import Path
 
 import tavitrozy
-from tavitrozy import Absent, Blocked, Refused, Resolver, Samples, Track, Value, _library, _lists
+from tavitrozy import Absent, Blocked, Dispatcher, Refused, Resolver, Samples, SetSamples, Track, Value, _library, _lists
 
 try:
     import numpy
@@ -181,6 +181,19 @@ class Copies(unittest.TestCase):
             pickle.dumps(r)
         self.assertEqual(pickle.loads(pickle.dumps(Refused(5))).number, 5)
 
+    def test_a_dispatchers_copy_is_its_own(self):
+        for how in (copy.copy, copy.deepcopy):
+            d = Dispatcher()
+            d.accept("a", True, 1, [(0, 0)], [(0, 1), (2, 3)], blocks=[4], default=5, interpolate=True)
+            other = how(d)
+            self.assertEqual(other.sets, d.sets)
+            d.retime("a", 1, 1)
+            other.accept("b", False, 0, [])
+            shown = [[(named.name, named.set.starts) for named in made.sets] for made in (d, other)]
+            self.assertEqual(shown, [[(b"a", ((1.0, 0),))], [(b"a", ((0.0, 0),)), (b"b", ())]])
+        with self.assertRaises(TypeError):
+            pickle.dumps(d)
+
     def test_a_prepared_set_is_a_value(self):
         explicit = tavitrozy.examine(3, [(5, 2), (-0.0, 1)], [(3, -0.0), (2, 1)], [9, 4], -0.0, True)
         template = tavitrozy.examine_template("f.#.usd", 1, 256, 1, 0.5, default=Blocked())
@@ -231,6 +244,31 @@ class Threads(unittest.TestCase):
         self.assertLessEqual(told, {0, 255, "refused with 1"})
 
 
+    def test_no_set_is_lost(self):
+        """Sixteen threads accept a set each, while others ask: all stand then."""
+        d, start = Dispatcher(), threading.Barrier(16)
+
+        def accept(i):
+            start.wait()
+            d.accept(f"{i:02}", True, 1, [(i, 0)])
+            for _ in range(20):
+                stood = d.sets
+                samples = SetSamples.of_sets([Samples.of_clips([[(0, float(named.name))]]) for named in stood])
+                try:
+                    told = d.value(samples, 3)
+                except Refused as refused:
+                    self.assertEqual(refused.number, 1)  # a set was added in between
+                else:
+                    self.assertEqual(told, (0, Value(float(min(named.name for named in stood)))))
+
+        threads = [threading.Thread(target=accept, args=[i]) for i in range(16)]
+        for thread in threads:
+            thread.start()
+        for thread in threads:
+            thread.join()
+        self.assertEqual(sorted((named.name, named.set.starts[0][0]) for named in d.sets), [(b"%02d" % i, float(i)) for i in range(16)])
+
+
 class Library(unittest.TestCase):
     def imported(self, path):
         told = {**os.environ, "TAVITROZY_LIBRARY": path}
@@ -247,14 +285,23 @@ class Library(unittest.TestCase):
         text = (Path(__file__).resolve().parents[3] / "include/tavitrozy.h").read_text()
         said = {int(number): words for number, words in re.findall(r"^#define TAVITROZY_REFUSED_\w+ (\d+) +/\* (.*) \*/$", text, re.M)}
         self.assertEqual({number: Refused(number).words for number in said}, said)
-        self.assertEqual(len(said), 13)
+        self.assertEqual(len(said), 14)
         limits = dict(re.findall(r"^#define TAVITROZY_(MAX_\w+) ([0-9.]+)", text, re.M))
         self.assertEqual({name: float(value) for name, value in limits.items()}, {name: getattr(tavitrozy, name) for name in limits})
         self.assertEqual(len(limits), 8)
+        names = {"SETS": "MAX_SETS", "NAME_BYTES": "MAX_SET_NAME_BYTES", "LISTED_NAMES": "MAX_LISTED_NAMES"}
+        of_dispatchers = dict(re.findall(r"^#define TAVITROZY_(SETS|NAME_BYTES|LISTED_NAMES|DISPATCHER_\w+) (\d+)", text, re.M))
+        self.assertEqual({name: int(of_dispatchers[name]) for name in names}, {name: getattr(tavitrozy, named) for name, named in names.items()})
+        sizes = {name.upper(): kind._length_ for name, kind in _library.Dispatcher._fields_}
+        self.assertEqual({name: int(of_dispatchers[f"DISPATCHER_{name}"]) for name in sizes}, sizes)
 
     def test_the_size_of_a_value_reply(self):
         """The library writes it to where the caller made room: no byte less than the header's."""
         self.assertEqual((ctypes.sizeof(_library.ValueReply), _library.ValueReply.sampled.offset, _library.ValueReply.place.offset), (32, 2, 24))
+
+    def test_the_sizes_of_a_dispatcher(self):
+        sizes = [ctypes.sizeof(kind) for kind in (_library.Dispatcher, _library.PlacedValue, _library.PlacedBaked)]
+        self.assertEqual((sizes, _library.PlacedValue.set.offset, _library.PlacedBaked.set.offset), ([234296, 48, 40], 40, 32))
 
     def test_limits(self):
         with self.assertRaises(Refused):

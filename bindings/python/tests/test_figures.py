@@ -151,7 +151,7 @@ class Figures(unittest.TestCase):
                 tavitrozy.total_key(bits)
 
     def test_docstrings(self):
-        for module in (tavitrozy, tavitrozy._resolver, tavitrozy._set, tavitrozy._without_set):
+        for module in (tavitrozy, tavitrozy._dispatcher, tavitrozy._resolver, tavitrozy._set, tavitrozy._without_set):
             self.assertEqual(doctest.testmod(module).failed, 0)
         for name in tavitrozy.__all__:
             self.assertTrue(name.isupper() or name == "Answer" or getattr(tavitrozy, name).__doc__, name)

@@ -1,5 +1,5 @@
 //! The library's C symbols, as tavitrozy.h has them. A resolver is a small record by value, its shape, and five lists
-//! that the caller holds. A prepared set, large as it is, crosses the boundary by value.
+//! that the caller holds; a dispatcher is eight lists. A prepared set, large as it is, crosses the boundary by value.
 
 use crate::limit;
 
@@ -42,6 +42,19 @@ pub struct Lists {
     pub xs: [f64; limit::KNOTS],
     pub ys: [f64; limit::KNOTS],
     pub blocks: [f64; limit::BLOCKS],
+}
+
+/// The lists of a dispatcher, with a page of each for a set. Together they have 234 KB: each is made and kept on the heap.
+#[derive(Clone)]
+pub struct Pages {
+    pub starts: Box<[f64]>,
+    pub numbers: Box<[u64]>,
+    pub xs: Box<[f64]>,
+    pub ys: Box<[f64]>,
+    pub blocks: Box<[f64]>,
+    pub defaults: Box<[f64]>,
+    pub counts: Box<[u64]>,
+    pub bytes: Box<[u8]>,
 }
 
 #[repr(C)]
@@ -177,6 +190,20 @@ pub struct Baked {
 }
 
 #[repr(C)]
+pub struct PlacedValue {
+    pub reply: ValueReply,
+    pub placed: bool,
+    pub set: u64,
+}
+
+#[repr(C)]
+pub struct PlacedBaked {
+    pub reply: Baked,
+    pub placed: bool,
+    pub set: u64,
+}
+
+#[repr(C)]
 #[derive(Clone, Copy)]
 pub struct Entry {
     pub value: f64,
@@ -274,6 +301,51 @@ unsafe extern "C" {
         marks: *const u8, marks_len: usize, ends: *const u64, ends_len: usize,
         out_times: *mut f64, out_times_len: usize, out_values: *mut f64, out_values_len: usize, out_marks: *mut u8, out_marks_len: usize,
     ) -> Baked;
+    pub fn tavitrozy_sets_fresh(
+        starts: *mut f64, starts_len: usize, numbers: *mut u64, numbers_len: usize, xs: *mut f64, xs_len: usize, ys: *mut f64, ys_len: usize,
+        blocks: *mut f64, blocks_len: usize, defaults: *mut f64, defaults_len: usize, counts: *mut u64, counts_len: usize, bytes: *mut u8, bytes_len: usize,
+    ) -> bool;
+    pub fn tavitrozy_sets_accept(
+        starts: *mut f64, starts_len: usize, numbers: *mut u64, numbers_len: usize, xs: *mut f64, xs_len: usize, ys: *mut f64, ys_len: usize,
+        blocks: *mut f64, blocks_len: usize, defaults: *mut f64, defaults_len: usize, counts: *mut u64, counts_len: usize, bytes: *mut u8, bytes_len: usize,
+        name: *const u8, name_len: usize, declares: bool,
+        clips: u64, start_times: *const f64, start_times_len: usize, start_clips: *const f64, start_clips_len: usize,
+        knot_xs: *const f64, knot_xs_len: usize, knot_ys: *const f64, knot_ys_len: usize, block_times: *const f64, block_times_len: usize,
+        fallback: Marked, interpolate: bool,
+    ) -> u8;
+    pub fn tavitrozy_sets_accept_template(
+        starts: *mut f64, starts_len: usize, numbers: *mut u64, numbers_len: usize, xs: *mut f64, xs_len: usize, ys: *mut f64, ys_len: usize,
+        blocks: *mut f64, blocks_len: usize, defaults: *mut f64, defaults_len: usize, counts: *mut u64, counts_len: usize, bytes: *mut u8, bytes_len: usize,
+        name: *const u8, name_len: usize, declares: bool,
+        pattern: *const u8, pattern_len: usize, template: TemplateTimes, has_offset: bool,
+        block_times: *const f64, block_times_len: usize, fallback: Marked, interpolate: bool,
+    ) -> u8;
+    pub fn tavitrozy_sets_install(
+        starts: *mut f64, starts_len: usize, numbers: *mut u64, numbers_len: usize, xs: *mut f64, xs_len: usize, ys: *mut f64, ys_len: usize,
+        blocks: *mut f64, blocks_len: usize, defaults: *mut f64, defaults_len: usize, counts: *mut u64, counts_len: usize, bytes: *mut u8, bytes_len: usize,
+        name: *const u8, name_len: usize, declares: bool, set: Prepared,
+    ) -> u8;
+    pub fn tavitrozy_sets_retime(
+        starts: *mut f64, starts_len: usize, numbers: *mut u64, numbers_len: usize, xs: *mut f64, xs_len: usize, ys: *mut f64, ys_len: usize,
+        blocks: *mut f64, blocks_len: usize, defaults: *mut f64, defaults_len: usize, counts: *mut u64, counts_len: usize, bytes: *mut u8, bytes_len: usize,
+        name: *const u8, name_len: usize, offset: LayerOffset,
+    ) -> u8;
+    pub fn tavitrozy_sets_value(
+        starts: *const f64, starts_len: usize, numbers: *const u64, numbers_len: usize, xs: *const f64, xs_len: usize, ys: *const f64, ys_len: usize,
+        blocks: *const f64, blocks_len: usize, defaults: *const f64, defaults_len: usize, counts: *const u64, counts_len: usize, bytes: *const u8, bytes_len: usize,
+        given: bool, listed: *const u8, listed_len: usize, name_ends: *const u64, name_ends_len: usize,
+        lens: *const u64, lens_len: usize, ends: *const u64, ends_len: usize,
+        times: *const f64, times_len: usize, values: *const f64, values_len: usize, marks: *const u8, marks_len: usize,
+        time: AtStage,
+    ) -> PlacedValue;
+    pub fn tavitrozy_sets_bake(
+        starts: *const f64, starts_len: usize, numbers: *const u64, numbers_len: usize, xs: *const f64, xs_len: usize, ys: *const f64, ys_len: usize,
+        blocks: *const f64, blocks_len: usize, defaults: *const f64, defaults_len: usize, counts: *const u64, counts_len: usize, bytes: *const u8, bytes_len: usize,
+        given: bool, listed: *const u8, listed_len: usize, name_ends: *const u64, name_ends_len: usize,
+        lens: *const u64, lens_len: usize, ends: *const u64, ends_len: usize,
+        times: *const f64, times_len: usize, values: *const f64, values_len: usize, marks: *const u8, marks_len: usize,
+        out_times: *mut f64, out_times_len: usize, out_values: *mut f64, out_values_len: usize, out_marks: *mut u8, out_marks_len: usize,
+    ) -> PlacedBaked;
     pub fn tavitrozy_read(
         head: Entry, times: *const f64, times_len: usize, values: *const f64, values_len: usize,
         marks: *const u8, marks_len: usize, time: AtStage,

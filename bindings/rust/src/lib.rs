@@ -1,8 +1,10 @@
 #![doc = include_str!("../README.md")]
 
+mod dispatcher;
 mod environment;
 mod ffi;
 mod names;
+mod order;
 mod prepared;
 mod refusal;
 mod resolver;
@@ -12,12 +14,14 @@ mod times;
 mod total_order;
 mod track;
 
+pub use dispatcher::{Dispatcher, NamedSet, Placed};
 pub use environment::environment_is_exact;
 pub use names::{name, name_into, template_clip_times, template_clip_times_into};
+pub use order::Order;
 pub use prepared::{Prepared, examine, examine_marked, examine_template, examine_template_marked};
 pub use refusal::Refusal;
 pub use resolver::{Resolver, SampleRead, State, Supplied, ValueRead};
-pub use samples::{SampleLists, Samples, normalize, normalize_into};
+pub use samples::{SampleLists, Samples, SetSampleLists, SetSamples, normalize, normalize_into};
 pub use set::{Explicit, Fallback, LayerOffset, StandingSet, Template, TemplateTimes};
 pub use times::{ClipTime, StageTime};
 pub use total_order::total_key;
@@ -47,8 +51,14 @@ pub mod limit {
     pub const SAMPLES: usize = 4096;
     /// Bytes of a template's pattern.
     pub const TEMPLATE_BYTES: usize = 255;
-    /// Bytes of a name.
+    /// Bytes of a clip's file name.
     pub const NAME_BYTES: usize = 268;
     /// The magnitude of every stored time: 2^40.
     pub const TIME: f64 = 1_099_511_627_776.0;
+    /// Sets of a dispatcher.
+    pub const SETS: usize = 16;
+    /// Bytes of a set's name.
+    pub const SET_NAME_BYTES: usize = 255;
+    /// Names of an order list.
+    pub const LISTED_NAMES: usize = 255;
 }

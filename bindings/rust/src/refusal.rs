@@ -19,8 +19,8 @@ use std::fmt;
 #[non_exhaustive]
 #[derive(Clone, Copy, Debug, PartialEq, Eq, Hash)]
 pub enum Refusal {
-    /// 1: a clip count or an input list above its limit, paired lists of unlike length, clip ends unlike the set's clips in
-    /// number.
+    /// 1: a clip count or an input list above its limit, paired lists of unlike length, clip ends unlike the clips in number,
+    /// sample counts unlike the sets in number or not adding up.
     Misshapen,
     /// 2: a time, or a template's or retiming's number, not finite; a time beyond 2^40 (also after expansion or
     /// retiming); a NaN as a value.
@@ -42,17 +42,20 @@ pub enum Refusal {
     BadSamples,
     /// 10: a stage time asked about that is not finite.
     TimeNotFinite,
-    /// 20: no set stands.
+    /// 20: no set stands, or none of that name.
     NoSet,
     /// 21: no longer given, since a set may be retimed again; up to 0.2.0: the set is already retimed.
     AlreadyRetimed,
     /// 22: the shortest of the output lists is shorter than the reply.
     NoRoom,
+    /// 23: a 17th set, a second set of one name, a name above 255 bytes, an order list above 255 names or whose name ends fall
+    /// or do not close it.
+    BadNames,
 }
 
 impl Refusal {
     /// All of them, by number.
-    pub const ALL: [Refusal; 13] = [
+    pub const ALL: [Refusal; 14] = [
         Refusal::Misshapen,
         Refusal::Unstorable,
         Refusal::NoClipNumber,
@@ -66,9 +69,10 @@ impl Refusal {
         Refusal::NoSet,
         Refusal::AlreadyRetimed,
         Refusal::NoRoom,
+        Refusal::BadNames,
     ];
 
-    /// The library's number: 1 to 10 for the input, 20 to 22 for the state.
+    /// The library's number: 1 to 10 for the input, 20 to 22 for the state, 23 for a dispatcher's names.
     #[must_use]
     pub const fn number(self) -> u8 {
         match self {
@@ -85,6 +89,7 @@ impl Refusal {
             Refusal::NoSet => 20,
             Refusal::AlreadyRetimed => 21,
             Refusal::NoRoom => 22,
+            Refusal::BadNames => 23,
         }
     }
 
@@ -98,8 +103,8 @@ impl Refusal {
     fn meaning(self) -> &'static str {
         match self {
             Refusal::Misshapen => {
-                "a clip count or an input list above its limit, paired lists of unlike length, clip ends unlike the set's \
-                 clips in number"
+                "a clip count or an input list above its limit, paired lists of unlike length, clip ends unlike the clips \
+                 in number, sample counts unlike the sets in number or not adding up"
             }
             Refusal::Unstorable => {
                 "a time, or a template's or retiming's number, not finite; a time beyond 2^40 (also after expansion or \
@@ -116,9 +121,13 @@ impl Refusal {
                  allowed in its place"
             }
             Refusal::TimeNotFinite => "a stage time asked about that is not finite",
-            Refusal::NoSet => "no set stands",
+            Refusal::NoSet => "no set stands, or none of that name",
             Refusal::AlreadyRetimed => "no longer given; up to 0.2.0: the set is already retimed",
             Refusal::NoRoom => "the shortest of the output lists is shorter than the reply",
+            Refusal::BadNames => {
+                "a 17th set, a second set of one name, a name above 255 bytes, an order list above 255 names or whose name \
+                 ends fall or do not close it"
+            }
         }
     }
 

@@ -413,12 +413,10 @@ impl Resolver {
     }
 
     fn bake_with_room(&self, samples: &Samples<'_>, room: usize) -> Result<Track, Refusal> {
-        let (mut times, mut values, mut marks) = (vec![0.0; room], vec![0.0; room], vec![0; room]);
-        let (head, count) = self.bake_into(samples, &mut times, &mut values, &mut marks)?;
-        cut(&mut times, count);
-        cut(&mut values, count);
-        cut(&mut marks, count);
-        Ok(Track::of_lists(head, times, values, marks))
+        let bake = |times: &mut [f64], values: &mut [f64], marks: &mut [u8]| {
+            self.bake_into(samples, times, values, marks).map(|(head, count)| (head, count, ()))
+        };
+        Track::with_room(room, bake).map(|(track, ())| track)
     }
 
     /// [`bake`](Self::bake) written to the front of lent lists: the head, and how many changes there are. Slots past the
@@ -447,12 +445,6 @@ impl Resolver {
         );
         Refusal::checked(reply.number, (Answer::of_mark(reply.mark, reply.value), reply.count))
     }
-}
-
-/// Keeps the first entries, and no room for more.
-fn cut<T>(list: &mut Vec<T>, count: usize) {
-    list.truncate(count);
-    list.shrink_to_fit();
 }
 
 impl Default for Resolver {

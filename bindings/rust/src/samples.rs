@@ -71,6 +71,76 @@ impl SampleLists {
     }
 }
 
+/// The samples of all sets of a [`Dispatcher`](crate::Dispatcher) as they are lent, also of those that do not answer: in the
+/// order of acceptance, one set after the other. [`SetSampleLists`] makes such lists.
+#[derive(Clone, Copy, Debug)]
+pub struct SetSamples<'a> {
+    /// How many samples each set has: one count for each set.
+    pub counts: &'a [u64],
+    /// The clip ends of all sets, each set's counted from its own first sample, as in [`Samples::ends`].
+    pub ends: &'a [u64],
+    /// The clip time of each sample.
+    pub times: &'a [f64],
+    /// The value of each sample; a block's slot is not looked at.
+    pub values: &'a [f64],
+    /// [`mark::VALUE`] or [`mark::BLOCK`] for each sample.
+    pub marks: &'a [u8],
+}
+
+impl<'a> SetSamples<'a> {
+    /// The samples of these lists.
+    #[must_use]
+    pub const fn new(counts: &'a [u64], ends: &'a [u64], times: &'a [f64], values: &'a [f64], marks: &'a [u8]) -> Self {
+        SetSamples { counts, ends, times, values, marks }
+    }
+}
+
+/// Lists of samples, set by set.
+///
+/// ```
+/// use tavitrozy::{SampleLists, SetSampleLists};
+///
+/// let (mut coarse, mut fine) = (SampleLists::new(), SampleLists::new());
+/// coarse.push_clip([(0.0, Some(10.0))]);
+/// fine.push_clip([(0.0, Some(9.5)), (1.0, Some(10.5))]);
+/// fine.push_clip([(2.0, None)]);
+///
+/// let mut lists = SetSampleLists::new();
+/// lists.push_set(&coarse);
+/// lists.push_set(&fine);
+/// assert_eq!(lists.lent().counts, [1, 3]);
+/// assert_eq!(lists.lent().ends, [1, 2, 3]); // of the coarse set 1, of the fine one 2 and 3
+/// ```
+#[derive(Clone, Debug, Default)]
+pub struct SetSampleLists {
+    counts: Vec<u64>,
+    lists: SampleLists,
+}
+
+impl SetSampleLists {
+    /// Of no set.
+    #[must_use]
+    pub fn new() -> Self {
+        SetSampleLists::default()
+    }
+
+    /// Adds the next set's samples.
+    pub fn push_set(&mut self, set: &SampleLists) {
+        self.counts.push(set.times.len() as u64);
+        self.lists.ends.extend(&set.ends);
+        self.lists.times.extend(&set.times);
+        self.lists.values.extend(&set.values);
+        self.lists.marks.extend(&set.marks);
+    }
+
+    /// The lists, lent.
+    #[must_use]
+    pub fn lent(&self) -> SetSamples<'_> {
+        let Samples { times, values, marks, ends } = self.lists.lent();
+        SetSamples::new(&self.counts, ends, times, values, marks)
+    }
+}
+
 /// Samples in any order brought into their normal form, as one clip's lists: sorted, and of equal times the first time
 /// with the last value and mark.
 ///

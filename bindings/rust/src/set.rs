@@ -23,7 +23,7 @@ impl Fallback {
         }
     }
 
-    fn of_marked(marked: ffi::Marked) -> Fallback {
+    pub(crate) fn of_marked(marked: ffi::Marked) -> Fallback {
         match marked.mark {
             mark::VALUE => Fallback::Value(marked.value),
             mark::BLOCK => Fallback::Block,

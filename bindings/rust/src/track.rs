@@ -13,7 +13,7 @@ pub enum Answer {
     Value(f64),
     /// A block: nothing is drawn.
     Blocked,
-    /// The set has no starts and says nothing.
+    /// The set has no starts and says nothing; of a dispatcher, that no set qualifies.
     Absent,
 }
 
@@ -90,8 +90,21 @@ pub struct Track {
 }
 
 impl Track {
-    pub(crate) fn of_lists(head: Answer, times: Vec<f64>, values: Vec<f64>, marks: Vec<u8>) -> Track {
+    fn of_lists(head: Answer, times: Vec<f64>, values: Vec<f64>, marks: Vec<u8>) -> Track {
         Track { head, times, values, marks }
+    }
+
+    /// What a bake makes of so many slots: the head, the number of changes, and beside them what else it replies.
+    pub(crate) fn with_room<T, E>(
+        room: usize,
+        bake: impl FnOnce(&mut [f64], &mut [f64], &mut [u8]) -> Result<(Answer, usize, T), E>,
+    ) -> Result<(Track, T), E> {
+        let (mut times, mut values, mut marks) = (vec![0.0; room], vec![0.0; room], vec![0; room]);
+        let (head, count, beside) = bake(&mut times, &mut values, &mut marks)?;
+        cut(&mut times, count);
+        cut(&mut values, count);
+        cut(&mut marks, count);
+        Ok((Track::of_lists(head, times, values, marks), beside))
     }
 
     /// A track of a head and changes, for one that was kept somewhere; `None` unless it is such as a bake writes: times
@@ -190,6 +203,12 @@ impl Track {
         };
         Answer::of_mark(entry.mark, entry.value)
     }
+}
+
+/// Keeps the first entries, and no room for more.
+fn cut<T>(list: &mut Vec<T>, count: usize) {
+    list.truncate(count);
+    list.shrink_to_fit();
 }
 
 impl PartialEq for Track {

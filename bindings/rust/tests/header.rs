@@ -59,5 +59,10 @@ fn marks_and_limits_are_the_headers() {
     ] {
         assert_eq!(value(&format!("MAX_{name}")), limit.to_string(), "{name}");
     }
+    for (name, limit) in
+        [("SETS", limit::SETS), ("NAME_BYTES", limit::SET_NAME_BYTES), ("LISTED_NAMES", limit::LISTED_NAMES)]
+    {
+        assert_eq!(value(name), limit.to_string(), "{name}");
+    }
     assert_eq!(value("MAX_TIME").parse(), Ok(limit::TIME));
 }

@@ -169,9 +169,11 @@ impl Layer {
         f(&mut LayerEdit(&mut self.data))
     }
 
-    /// Every layer declares the attribute, and as varying.
+    /// A layer that says something of the attribute declares it, and as varying; a manifest says when it is blocked, be it
+    /// never.
     pub fn attribute(&self, _path: &Path) -> Result<Option<AttributeSpecRef>, PathParseError> {
-        Ok(Some(AttributeSpecRef))
+        let declares = self.data.samples.is_some() || self.data.default.is_some();
+        Ok(declares.then_some(AttributeSpecRef))
     }
 }
 

@@ -1,0 +1,5 @@
+-- Laws that belong to no one function.
+mod Ends
+mod Order
+mod Mentions
+mod Passed

@@ -1,0 +1,5 @@
+-- Laws that belong to no one function.
+mod Sums
+mod Misshapen
+mod Walk
+mod Judged
