@@ -112,6 +112,10 @@ samples counts ends times values = record { counts = counts; ends = ends; times 
 abbrev both : SetSamples
 both = samples (1 ∷ 1 ∷ []) (1 ∷ 1 ∷ []) (n 0 ∷ n 0 ∷ []) (n 1 ∷ n 2 ∷ [])
 
+-- the first set's samples fall
+abbrev falling : SetSamples
+falling = samples (2 ∷ 1 ∷ []) (2 ∷ 1 ∷ []) (n 1 ∷ n 0 ∷ n 0 ∷ []) (n 1 ∷ n 1 ∷ n 1 ∷ [])
+
 abbrev nothing : SetSamples
 nothing = samples [] [] [] []
 
@@ -191,12 +195,15 @@ table =
     -- 1 before 2 of any set, and 2 of any before 9 of any: the second set's 2 before the first's 9
     ∷ eqb (setSamplesNumber (clipsOf ab) (samples (1 ∷ 1 ∷ []) (1 ∷ 1 ∷ []) (nan ∷ n 1 ∷ n 2 ∷ []) (n 0 ∷ n 1 ∷ n 2 ∷ []))) 1
     ∷ eqb (setSamplesNumber (clipsOf ab) (samples (2 ∷ 1 ∷ []) (2 ∷ 1 ∷ []) (n 1 ∷ n 0 ∷ nan ∷ []) (n 1 ∷ n 1 ∷ n 1 ∷ []))) 2
-    ∷ eqb (setSamplesNumber (clipsOf ab) (samples (2 ∷ 1 ∷ []) (2 ∷ 1 ∷ []) (n 1 ∷ n 0 ∷ n 0 ∷ []) (n 1 ∷ n 1 ∷ n 1 ∷ []))) 9
+    ∷ eqb (setSamplesNumber (clipsOf ab) falling) 9
     -- no set at all: nothing lent is accepted, one sample is 1; the order list and t are still judged; 20 is not given
     ∷ tells (dispatchValue [] none nothing (stage (n 5))) Absent Nothing none
     ∷ refuses (dispatchValue [] none (samples [] [] (n 0 ∷ []) (n 0 ∷ [])) (stage nan)) 1
     ∷ refuses (dispatchValue [] none nothing (stage nan)) 10
     ∷ refuses (dispatchValue [] (list [] (1 ∷ [])) both (stage nan)) 23
+    -- 9 before 10, and before 22
+    ∷ refuses (dispatchValue ab none falling (stage nan)) 9
+    ∷ eqb (dispatchBakeNumber ab none falling 0 1) 9
     -- a bake: 23, 1, 22
     ∷ eqb (dispatchBakeNumber ab (list [] (1 ∷ [])) nothing 0 1) 23
     ∷ eqb (dispatchBakeNumber ab none nothing 0 1) 1

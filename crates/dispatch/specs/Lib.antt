@@ -4,3 +4,4 @@ pub mod NamedSets
 pub mod SetSamples
 pub mod Dispatch
 pub mod DispatchCalls
+pub mod DispatchNumbers
