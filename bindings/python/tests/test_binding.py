@@ -288,10 +288,8 @@ class Library(unittest.TestCase):
         self.assertEqual(len(said), 14)
         limits = dict(re.findall(r"^#define TAVITROZY_(MAX_\w+) ([0-9.]+)", text, re.M))
         self.assertEqual({name: float(value) for name, value in limits.items()}, {name: getattr(tavitrozy, name) for name in limits})
-        self.assertEqual(len(limits), 8)
-        names = {"SETS": "MAX_SETS", "NAME_BYTES": "MAX_SET_NAME_BYTES", "LISTED_NAMES": "MAX_LISTED_NAMES"}
-        of_dispatchers = dict(re.findall(r"^#define TAVITROZY_(SETS|NAME_BYTES|LISTED_NAMES|DISPATCHER_\w+) (\d+)", text, re.M))
-        self.assertEqual({name: int(of_dispatchers[name]) for name in names}, {name: getattr(tavitrozy, named) for name, named in names.items()})
+        self.assertEqual(len(limits), 11)
+        of_dispatchers = dict(re.findall(r"^#define TAVITROZY_(DISPATCHER_\w+) (\d+)", text, re.M))
         sizes = {name.upper(): kind._length_ for name, kind in _library.Dispatcher._fields_}
         self.assertEqual({name: int(of_dispatchers[f"DISPATCHER_{name}"]) for name in sizes}, sizes)
 
