@@ -2,8 +2,6 @@
 mod Changing
 mod Decimals
 mod Digits
-mod Dispatched
 mod Slotting
-mod Staying
 mod Rounded
 mod Words

@@ -1,6 +1,4 @@
 // The calls that change what stands: each reads its fields, and hands back what the operation replied.
-pub(crate) mod named;
-
 use crate::lines::calls::Change;
 use crate::lines::limits::BLOCKS;
 use crate::lines::limits::BYTES;
