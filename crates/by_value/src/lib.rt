@@ -1,4 +1,7 @@
 // The operations of a resolver that is held by value. Its questions lend their own lists to those of a resolver that is lent.
+
+#![tactic(auto)]
+
 ghost use Rattle.definitions.specs.Moments.{was, after, outs_were, outs_left};
 ghost use Rattle.laws.specs.cell.Lent.{samples_were};
 ghost use Rattle.clip.specs.Holding.{manifest};

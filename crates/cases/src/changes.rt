@@ -15,14 +15,14 @@ use definitions::{Default, LayerOffset, TemplateTimes};
 use resolver::{Accepted, Resolver};
 
 // What the operation replied, and before it whether the line could be read; if not, none was asked.
-#[derive(Drop)]
+#[derive(Clone, Copy)]
 pub(crate) struct Changed {
     pub readable: bool,
     pub accepted: Accepted,
 }
 
 // The manifest's part of a set: `def MARK VALUE flag 0/1`.
-#[derive(Drop)]
+#[derive(Clone, Copy)]
 pub(crate) struct Filling {
     pub at: usize,
     pub mark: u8,
@@ -65,7 +65,7 @@ fn unreadable(kind: Change, resolver: Resolver) -> Changed
 }
 
 // An explicit set's fields: how much of each list was read, and the rest.
-#[derive(Drop)]
+#[derive(Clone, Copy)]
 pub(crate) struct ExplicitRead {
     pub at: usize,
     pub clips: u64,
@@ -164,7 +164,7 @@ fn explicit(line: &[u8], at: usize, resolver: Resolver) -> Changed
 }
 
 // A template set's fields: how much of each list was read, and the rest.
-#[derive(Drop)]
+#[derive(Clone, Copy)]
 pub(crate) struct TemplateRead {
     pub at: usize,
     pub bytes: usize,

@@ -14,7 +14,7 @@ use clip::Prepared;
 use definitions::Default;
 
 // What the examining handed back, and for which slot; before it whether the line could be read. If not, none was asked.
-#[derive(Drop)]
+#[derive(Clone, Copy)]
 pub(crate) struct Looked {
     pub readable: bool,
     pub slot: usize,

@@ -1,4 +1,7 @@
 // Answers the case text of standard input on standard output.
+
+#![tactic(auto)]
+
 mod changes;
 mod examinings;
 mod help;
@@ -29,7 +32,7 @@ use resolver::Resolver;
 
 // What a line leaves for the next one: how much of the output buffer is in use, how many lines there were, whether the last
 // one began a case, the samples that are lent, and what stands.
-#[derive(Drop)]
+#[derive(Clone, Copy)]
 struct Session {
     pub full: usize,
     pub lines: u64,
@@ -54,7 +57,7 @@ fn begin(full: usize, lines: u64) -> Session
 }
 
 // A session and the slots, after a line with a slot.
-#[derive(Drop)]
+#[derive(Clone, Copy)]
 struct Held {
     pub session: Session,
     pub slots: Slots,

@@ -8,7 +8,7 @@ use clip::ClipSet;
 
 pub(crate) const COUNT: usize = 4;
 
-#[derive(Drop)]
+#[derive(Clone, Copy)]
 pub(crate) struct Slots {
     pub full: [bool; COUNT],
     pub sets: [ClipSet; COUNT],

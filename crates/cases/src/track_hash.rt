@@ -75,14 +75,14 @@ fn eat_page(
     h
 }
 
-#[derive(Drop)]
+#[derive(Clone, Copy)]
 struct Walked {
     count: u64,
     hash: u64,
 }
 
 // A page of changes hashed, and where the walk stands.
-#[derive(Drop)]
+#[derive(Clone, Copy)]
 struct Page {
     filled: Filled,
     hash: u64,
@@ -187,7 +187,7 @@ fn walk(
 }
 
 // The head, and the hash of the changes behind it.
-#[derive(Drop)]
+#[derive(Clone, Copy)]
 pub(crate) struct Hashed {
     pub mark: u8,
     pub value: f64,

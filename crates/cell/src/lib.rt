@@ -1,5 +1,7 @@
 // A cell: a stretch of stage times on which one source is read, or one clip along one line.
 
+#![tactic(auto)]
+
 // The end of a cell by its key.
 pub mod end;
 // The window that a walk is in.
@@ -22,7 +24,7 @@ use window::Bound;
 use window::search::{NeighboursAndHints, Window, neighbours_in};
 
 // What is read from a stage time on: one source, or a clip's samples held along a line.
-#[derive(Drop)]
+#[derive(Clone, Copy)]
 pub enum Cell {
     Constant(Source),
     Reading(u64, Line),
@@ -30,7 +32,7 @@ pub enum Cell {
 
 // The cell of a stage time, and the least boundary above it, up to which the cell says the value; and a
 // knot and a sample near it: hints, on which no contract rests.
-#[derive(Drop)]
+#[derive(Clone, Copy)]
 pub struct CellAndEnd {
     pub cell: Cell,
     pub end: Bound,

@@ -18,7 +18,7 @@ use window::search::Window;
 use window::{window_max, window_min};
 
 // The place of a start and its window, and a knot and a sample near which a search begins: hints, on which no contract rests.
-#[derive(Drop)]
+#[derive(Clone, Copy)]
 pub struct WindowPlace {
     pub start: usize,
     pub window: Window,

@@ -1,4 +1,7 @@
 // A prepared clip set by value: how it is stored, the checks that every set passes, and its retiming.
+
+#![tactic(auto)]
+
 mod retiming;
 pub mod storage;
 pub mod storing;
@@ -12,7 +15,7 @@ use definitions::{Default, LayerOffset, refusal};
 use storage::{Active, Blocks, Knots};
 
 #[repr(C)]
-#[derive(Drop)]
+#[derive(Clone, Copy)]
 pub struct ClipSet {
     pub clips: u64,
     pub active: Active,
@@ -25,7 +28,7 @@ pub struct ClipSet {
 // What a call that prepares a set replies: 0 and the set, or the number that refuses it and the set that there was before: an
 // acceptance has none and hands back the empty one, a retiming hands back the set that went in.
 #[repr(C)]
-#[derive(Drop)]
+#[derive(Clone, Copy)]
 pub struct Prepared {
     pub number: u8,
     pub set: ClipSet,

@@ -10,21 +10,21 @@ use definitions::limits::{BLOCKS, KNOTS, STARTS};
 use definitions::{Knot, Start};
 
 #[repr(C)]
-#[derive(Drop)]
+#[derive(Clone, Copy)]
 pub struct Active {
     pub items: [Start; STARTS],
     pub count: usize,
 }
 
 #[repr(C)]
-#[derive(Drop)]
+#[derive(Clone, Copy)]
 pub struct Knots {
     pub items: [Knot; KNOTS],
     pub count: usize,
 }
 
 #[repr(C)]
-#[derive(Drop)]
+#[derive(Clone, Copy)]
 pub struct Blocks {
     pub items: [f64; BLOCKS],
     pub count: usize,

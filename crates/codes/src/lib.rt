@@ -1,4 +1,7 @@
 // What a reply is to callers in other languages: each enum as a struct of numbers.
+
+#![tactic(auto)]
+
 pub mod placed;
 
 ghost use Rattle.std.specs.Prelude.{◌≡◌};
@@ -11,7 +14,7 @@ use sdf::Counted;
 
 // A clip is active, unless `found` is false.
 #[repr(C)]
-#[derive(Drop)]
+#[derive(Clone, Copy)]
 pub struct ClipCode {
     pub number: u8,
     pub found: bool,
@@ -19,7 +22,7 @@ pub struct ClipCode {
 }
 
 #[repr(C)]
-#[derive(Drop)]
+#[derive(Clone, Copy)]
 pub struct TimeCode {
     pub number: u8,
     pub time: ClipTime,
@@ -27,7 +30,7 @@ pub struct TimeCode {
 
 // Mark 0: the value; 1: blocked; 2: absent. It was read from a sample, the one at a place of a clip, unless `sampled` is false.
 #[repr(C)]
-#[derive(Drop)]
+#[derive(Clone, Copy)]
 pub struct ValueCode {
     pub number: u8,
     pub mark: u8,
@@ -39,7 +42,7 @@ pub struct ValueCode {
 
 // State 0: present; 1: blocked; 2: absent.
 #[repr(C)]
-#[derive(Drop)]
+#[derive(Clone, Copy)]
 pub struct UntimedCode {
     pub number: u8,
     pub state: u8,

@@ -7,7 +7,7 @@ use set_questions::ValueReply;
 
 // The value's reply, and the place of the set that answers in the order in force, unless `placed` is false.
 #[repr(C)]
-#[derive(Drop)]
+#[derive(Clone, Copy)]
 pub struct PlacedCode {
     pub reply: ValueCode,
     pub placed: bool,

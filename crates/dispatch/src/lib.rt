@@ -1,5 +1,7 @@
 // How much a dispatcher and an order list may hold, and the number that refuses what is beyond it.
 
+#![tactic(auto)]
+
 pub const SETS: usize = 16;
 
 pub const NAME_BYTES: usize = 255;

@@ -1,4 +1,7 @@
 // An explicit set: the Rust's `parse_set`.
+
+#![tactic(auto)]
+
 mod fields;
 mod parsing;
 

@@ -7,7 +7,7 @@ use crate::pattern::fields_of;
 
 // `Fraction` has a part below 1, `Whole` is a whole number other than 0, and `NotFinite` is an
 // infinity or a NaN.
-#[derive(Drop)]
+#[derive(Clone, Copy)]
 pub enum Class {
     Zero,
     Fraction,

@@ -1,5 +1,7 @@
 // Doubles by their order keys, and linear interpolation between two points.
 
+#![tactic(auto)]
+
 pub mod class;
 pub mod clip_number;
 pub mod interval;

@@ -10,7 +10,7 @@ const EXPONENT_MASK: u64 = 0x7ff;
 
 const FRACTION_MASK: u64 = 0xf_ffff_ffff_ffff;
 
-#[derive(Drop)]
+#[derive(Clone, Copy)]
 pub struct Fields {
     pub exponent: u64,
     pub fraction: u64,

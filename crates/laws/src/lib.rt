@@ -1,5 +1,8 @@
 // A search over the keys of doubles replies with a key, or with none.
-#[derive(Drop)]
+
+#![tactic(auto)]
+
+#[derive(Clone, Copy)]
 pub enum Next {
     At(u64),
     Nothing,

@@ -1,4 +1,7 @@
 // What may change a resolver that is lent, its shape by value and its lists as they stand: a call writes the lists, unless a number refuses it.
+
+#![tactic(auto)]
+
 ghost use Rattle.definitions.specs.Moments.{was};
 ghost use Rattle.clip.specs.Holding.{manifest};
 ghost use Rattle.clip.specs.Preparing.{MadeSet};

@@ -1,4 +1,7 @@
 // What is asked of a resolver that is lent, its shape by value and its lists as they stand. A question reads the lists where they are.
+
+#![tactic(auto)]
+
 ghost use Rattle.std.specs.Prelude.{◌≡◌};
 ghost use Rattle.definitions.specs.Moments.{was, after, outs_were, outs_left};
 ghost use Rattle.definitions.specs.Questions.{refused};

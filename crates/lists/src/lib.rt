@@ -1,4 +1,7 @@
 // Lists of times as they are lent: tests over the whole list, and the search in an ascending one.
+
+#![tactic(auto)]
+
 pub mod insertion;
 pub mod near;
 pub mod places;

@@ -13,7 +13,7 @@ use crate::pattern::Pattern;
 
 // `width` digits of `whole`, then a `.` and `fraction` digits of `rest`, or nothing where
 // `fraction` is 0.
-#[derive(Drop)]
+#[derive(Clone, Copy)]
 pub struct Body {
     pub minus: bool,
     pub width: usize,

@@ -1,5 +1,7 @@
 // Template names: the `#` pattern of a template, and the name at a clip time.
 
+#![tactic(auto)]
+
 mod body;
 mod copy;
 mod digits;
@@ -19,7 +21,7 @@ use definitions::{ClipTime, refusal};
 use pattern::Pattern;
 
 // What the name question replies: the number that refuses it, or how many bytes were written.
-#[derive(Drop)]
+#[derive(Clone, Copy)]
 pub enum Named {
     Refused(u8),
     Written(usize),

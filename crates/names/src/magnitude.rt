@@ -6,7 +6,7 @@ ghost use Rattle.gf.specs.Doubles.{storable};
 ghost use Rattle.names.specs.Magnitude.{Measures};
 
 // The number digits / 2^shift, and the sign bit.
-#[derive(Drop)]
+#[derive(Clone, Copy)]
 pub struct Magnitude {
     pub negative: bool,
     pub digits: u64,

@@ -7,7 +7,7 @@ ghost use Rattle.names.specs.Pattern.{Parses, fraction_run, has_hash, pattern_of
 
 // `first` is where the first run of `#` begins and `width` its length; `fraction` is the length of
 // the second run, 0 without one; `suffix` is where the rest begins.
-#[derive(Drop)]
+#[derive(Clone, Copy)]
 pub struct Pattern {
     pub first: usize,
     pub width: usize,

@@ -1,4 +1,7 @@
 // The normal form of time samples.
+
+#![tactic(auto)]
+
 ghost use Rattle.std.specs.Prelude.{◌≡◌};
 ghost use Rattle.definitions.specs.Moments.{was, outs_were, outs_left};
 ghost use Rattle.normal_form.specs.Normalizes.{Normalizes, listed_number};

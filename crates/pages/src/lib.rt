@@ -1,4 +1,7 @@
 // The sets of a dispatcher: up to sixteen named clip sets in lists that the caller lends, a page of each for a set, which are those of a resolver that is lent.
+
+#![tactic(auto)]
+
 pub mod layout;
 pub mod placing;
 pub mod storing;

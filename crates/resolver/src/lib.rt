@@ -1,9 +1,12 @@
 // A resolver holds one clip set, or none. Here is its state, what each operation promises of it, and what follows for any list of calls.
+
+#![tactic(auto)]
+
 use definitions::{ClipTime, Missing, ValueRead, ValueState};
 use standing::{Counts, StandingSet};
 
 #[repr(C)]
-#[derive(Drop)]
+#[derive(Clone, Copy)]
 pub struct Resolver {
     pub stands: bool,
     pub set: StandingSet,
@@ -11,7 +14,7 @@ pub struct Resolver {
 
 // What of a resolver is no list.
 #[repr(C)]
-#[derive(Drop)]
+#[derive(Clone, Copy)]
 pub struct Shape {
     pub stands: bool,
     pub clips: u64,
@@ -21,7 +24,7 @@ pub struct Shape {
 
 // What a call replies that may change a resolver that is lent: the number that refuses it, or 0, and the shape after it.
 #[repr(C)]
-#[derive(Drop)]
+#[derive(Clone, Copy)]
 pub struct Settled {
     pub number: u8,
     pub shape: Shape,
@@ -29,32 +32,32 @@ pub struct Settled {
 
 // What a call that may change the state replies: the number that refuses it, or 0, and the state after it.
 #[repr(C)]
-#[derive(Drop)]
+#[derive(Clone, Copy)]
 pub struct Accepted {
     pub number: u8,
     pub resolver: Resolver,
 }
 
-#[derive(Drop)]
+#[derive(Clone, Copy)]
 pub enum ClipReply {
     Clip(u64),
     NoClip,
     Refused(u8),
 }
 
-#[derive(Drop)]
+#[derive(Clone, Copy)]
 pub enum TimeReply {
     Time(ClipTime),
     Refused(u8),
 }
 
-#[derive(Drop)]
+#[derive(Clone, Copy)]
 pub enum ValueReply {
     Answered(ValueRead),
     Refused(u8),
 }
 
-#[derive(Drop)]
+#[derive(Clone, Copy)]
 pub enum UntimedReply {
     Answered(ValueState),
     Refused(u8),

@@ -17,7 +17,7 @@ use window::search::{Window, neighbours_in};
 
 // The place of the segment's first knot, the lower neighbour, the inverse time up to which the run goes,
 // and the place of a sample near its beginning; or no run begins.
-#[derive(Drop)]
+#[derive(Clone, Copy)]
 pub enum RunBegin {
     At(usize, f64, f64, usize),
     Nothing,

@@ -20,7 +20,7 @@ use lists::segment::stage_time;
 use window::crossing::crossing;
 
 // The key of the next inverse time, the place of its sample, and the place behind it; or none.
-#[derive(Drop)]
+#[derive(Clone, Copy)]
 pub enum NextInRun {
     At(u64, usize, usize),
     Nothing,

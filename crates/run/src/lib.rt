@@ -1,6 +1,8 @@
 // The changes where a clip's samples are read along a line. Only its slices are handed on, so that a pass over them stays
 // in registers.
 
+#![tactic(auto)]
+
 // The changes over a run of samples that are passed in one segment.
 pub mod inside;
 // One change offered to the outputs, and where a walk stands.

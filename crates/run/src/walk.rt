@@ -9,7 +9,7 @@ use cell::step::entry::{Entry, alike};
 
 // The key that is reached, the entry there, the slot behind the changes up to there, and whether the keys were all passed; else
 // the slots are full, and there is a further change.
-#[derive(Drop)]
+#[derive(Clone, Copy)]
 pub struct Went {
     pub key: u64,
     pub last: Entry,

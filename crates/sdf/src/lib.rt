@@ -1,4 +1,7 @@
 // Time samples as they are lent: when they are refused.
+
+#![tactic(auto)]
+
 ghost use Rattle.definitions.specs.Moments.{was};
 ghost use Rattle.sdf.specs.Judged.{Judged};
 
@@ -10,7 +13,7 @@ pub mod scans;
 
 // A reply with a count: where the number is not 0 the lists are refused by it, and the count is 0.
 #[repr(C)]
-#[derive(Drop)]
+#[derive(Clone, Copy)]
 pub struct Counted {
     pub number: u8,
     pub count: usize,

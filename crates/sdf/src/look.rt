@@ -7,7 +7,7 @@ use definitions::{Answer, ClipTime};
 
 // The borrow checker covers no function over a struct that holds references, so those below only take the look apart,
 // and leave the work to a covered function of plain lists. Each list has a lifetime of its own, as its lender has.
-#[derive(Drop)]
+#[derive(Clone, Copy)]
 pub struct Look<'t, 'v, 'm> {
     pub times: &'t [f64],
     pub values: &'v [f64],
@@ -17,7 +17,7 @@ pub struct Look<'t, 'v, 'm> {
 }
 
 // A held reading: the place of its sample, counted from the clip's first, and what the sample says; nothing in a clip without samples.
-#[derive(Drop)]
+#[derive(Clone, Copy)]
 pub enum HeldPlace {
     At(usize, Answer),
     Nothing,

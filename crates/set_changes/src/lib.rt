@@ -1,4 +1,7 @@
 // A set under a name: accepted, installed or retimed. Each call replies the number that refuses it, or 0.
+
+#![tactic(auto)]
+
 ghost use Rattle.std.specs.Prelude.{◌≡◌, ◌<◌, get_or};
 ghost use Rattle.definitions.specs.Moments.{was, after};
 ghost use Rattle.clip.specs.Holding.{manifest};

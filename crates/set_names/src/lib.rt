@@ -1,4 +1,7 @@
 // The names of a dispatcher's sets: a page of bytes for each, which set has a name, and the sets sorted by their names.
+
+#![tactic(auto)]
+
 pub mod sorted;
 
 ghost use Rattle.std.specs.Prelude.{◌≡◌, ◌≤◌};
@@ -11,7 +14,7 @@ ghost use Rattle.set_names.specs.Pages.{NamePages, names_in, number_of};
 pub const PAGE: usize = 256;
 
 // The number of a set in the order of acceptance.
-#[derive(Drop)]
+#[derive(Clone, Copy)]
 pub enum Found {
     At(usize),
     Nothing,

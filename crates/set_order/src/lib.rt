@@ -1,4 +1,7 @@
 // An order list as it is lent, and the set that answers: the first in the order in force that qualifies.
+
+#![tactic(auto)]
+
 pub mod listed;
 
 ghost use Rattle.std.specs.Prelude.{◌≡◌, ℕ, ◌<◌, T, length};
@@ -14,7 +17,7 @@ ghost use Rattle.set_order.specs.Answered.{fit_at, fit_in, answered, lent_list};
 use dispatch::{LISTED, NAME_BYTES, NOT_TAKEN};
 
 // The set that answers, by its place in the order in force and its number.
-#[derive(Drop)]
+#[derive(Clone, Copy)]
 pub enum Answered {
     By(usize, usize),
     Nobody,

@@ -1,4 +1,7 @@
 // What is asked of a dispatcher: the value and the track of the first set in the order in force that qualifies. Its lists are lent as they stand.
+
+#![tactic(auto)]
+
 ghost use Rattle.std.specs.Prelude.{◌≡◌, ◌+◌, ◌<◌, T, get_or};
 ghost use Rattle.std.specs.Float.Ieee.Scale.{finite};
 ghost use Rattle.definitions.specs.Lists.{◌then◌};
@@ -20,14 +23,14 @@ use set_samples::Own;
 use track::bake::Baked;
 
 // What the value question replies: the place of the answering set in the order in force, if one qualifies, and the value.
-#[derive(Drop)]
+#[derive(Clone, Copy)]
 pub struct PlacedRead {
     pub placed: bool,
     pub set: u64,
     pub read: ValueRead,
 }
 
-#[derive(Drop)]
+#[derive(Clone, Copy)]
 pub enum ValueReply {
     Answered(PlacedRead),
     Refused(u8),
@@ -35,7 +38,7 @@ pub enum ValueReply {
 
 // What a bake replies: the place of the answering set, if one qualifies, and the bake's reply.
 #[repr(C)]
-#[derive(Drop)]
+#[derive(Clone, Copy)]
 pub struct PlacedBake {
     pub baked: Baked,
     pub placed: bool,

@@ -1,4 +1,7 @@
 // The samples lent for all sets of a dispatcher: the number that refuses them, and each set's own part.
+
+#![tactic(auto)]
+
 ghost use Rattle.std.specs.Prelude.{◌≡◌, ◌≤◌, ◌<◌, eqb, length};
 ghost use Rattle.definitions.specs.Moments.{was};
 ghost use Rattle.dispatch.specs.NamedSets.{max_sets};
@@ -9,14 +12,14 @@ use definitions::limits::SAMPLES;
 use definitions::refusal;
 
 // How many samples the sets have, or that one has more than the limit.
-#[derive(Drop)]
+#[derive(Clone, Copy)]
 enum Total {
     Sum(usize),
     Above,
 }
 
 // Where a set's own samples and clip ends begin and end in the lists of all.
-#[derive(Drop)]
+#[derive(Clone, Copy)]
 pub struct Own {
     pub begin: usize,
     pub end: usize,

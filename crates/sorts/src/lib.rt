@@ -1,4 +1,7 @@
 // The two sorts of `lists` for the benchmark, which holds them alone against the Rust's: inside the library no call is only a sort.
+
+#![tactic(auto)]
+
 ghost use Rattle.std.specs.Prelude.{◌≡◌, cond, length};
 ghost use Rattle.definitions.specs.ClipSet.{active_times, knot_times, sort_active, sort_knots};
 ghost use Rattle.definitions.specs.Moments.{was, after};

@@ -1,5 +1,7 @@
 // Stage sample times and stage samples. They heed neither the missing flag nor the manifest blocks.
 
+#![tactic(auto)]
+
 pub mod mark;
 pub mod next;
 pub mod walk;
@@ -22,7 +24,7 @@ use window::search::latest::latest_inverses;
 const ANY_COUNT: usize = 0xffff_ffff_ffff_ffff;
 
 // How many entries were written, or that the lent lists are too short for them and nothing was.
-#[derive(Drop)]
+#[derive(Clone, Copy)]
 pub enum Written {
     Count(usize),
     NoRoom,

@@ -17,7 +17,7 @@ use window::{Bound, window_max, window_min};
 
 // The next time, and where the search for the one behind it may begin: the place of the active start, a knot and a sample,
 // hints on which no contract rests.
-#[derive(Drop)]
+#[derive(Clone, Copy)]
 pub struct Next {
     pub time: Bound,
     pub place: usize,

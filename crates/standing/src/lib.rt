@@ -1,4 +1,7 @@
 // The set that stands, in plain arrays: made of a prepared set once, when it is installed, and lent as it is to every question.
+
+#![tactic(auto)]
+
 pub mod questions;
 
 ghost use Rattle.definitions.specs.Moments.{was, after};
@@ -11,7 +14,7 @@ use definitions::limits::{BLOCKS, KNOTS, STARTS};
 
 // How many entries of each array count.
 #[repr(C)]
-#[derive(Drop)]
+#[derive(Clone, Copy)]
 pub struct Counts {
     pub starts: usize,
     pub knots: usize,
@@ -20,7 +23,7 @@ pub struct Counts {
 
 // `numbers` has the clip number of each start; `clips` is the clip count.
 #[repr(C)]
-#[derive(Drop)]
+#[derive(Clone, Copy)]
 pub struct StandingSet {
     pub clips: u64,
     pub counts: Counts,

@@ -22,7 +22,7 @@ use sdf::Counted;
 use stage::Written;
 use track::bake::Baked;
 
-#[derive(Drop)]
+#[derive(Clone, Copy)]
 pub enum ActiveClip {
     Clip(u64),
     NoClip,

@@ -1,5 +1,8 @@
 // The resolver for C, Rust and Python callers: structs of a few numbers go by value, a slice as a pointer and a length, an enum as a
 // struct of numbers. A resolver is lent, its shape by value and its lists where the caller keeps them. Each call's contract is the operation's promise.
+
+#![tactic(auto)]
+
 pub mod sets;
 
 ghost use Rattle.std.specs.Prelude.{◌≡◌};

@@ -11,7 +11,7 @@ use definitions::limits::CLIPS;
 use definitions::{Missing, TemplateTimes};
 
 // The times t and their number; of a 257th only the number tells.
-#[derive(Drop)]
+#[derive(Clone, Copy)]
 pub struct Promoted {
     pub items: [f64; CLIPS],
     pub count: usize,

@@ -1,4 +1,7 @@
 // A template: the Rust's expansion of one to an explicit set.
+
+#![tactic(auto)]
+
 mod expanding;
 mod fields;
 

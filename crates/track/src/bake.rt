@@ -23,7 +23,7 @@ pub const PAGE: usize = 256;
 
 // What a bake replies: 22, or 0 with the head and the number of changes.
 #[repr(C)]
-#[derive(Drop)]
+#[derive(Clone, Copy)]
 pub struct Baked {
     pub number: u8,
     pub mark: u8,

@@ -16,7 +16,7 @@ use gf::LEAST;
 use run::walk::offer;
 
 // The key that a walk has reached, the entry there, and where its last search ended.
-#[derive(Drop)]
+#[derive(Clone, Copy)]
 pub struct Cursor {
     pub key: u64,
     pub last: Entry,
@@ -24,7 +24,7 @@ pub struct Cursor {
 }
 
 // How many changes were written, where the walk stands, and whether there are no more.
-#[derive(Drop)]
+#[derive(Clone, Copy)]
 pub struct Filled {
     pub count: usize,
     pub cursor: Cursor,

@@ -1,5 +1,7 @@
 // The track of a set's value: the walk over its changes, the bake, and the held reading.
 
+#![tactic(auto)]
+
 // The value at a key.
 pub mod entry;
 // The walk.

@@ -31,14 +31,14 @@ use value::value::answer_of;
 
 // How the value goes on: within a cell, or past the samples of a clip from the lower neighbour on where the run begins, in
 // one segment and near a sample's place.
-#[derive(Drop)]
+#[derive(Clone, Copy)]
 pub enum ReadBy {
     ByCell(Cell),
     ByRun(u64, f64, Segment, usize),
 }
 
 // The way from a key on, what it says there, and its last key up to a top. A nearer last key would do as well, and take a further step.
-#[derive(Drop)]
+#[derive(Clone, Copy)]
 pub struct Span {
     pub way: ReadBy,
     pub here: Entry,
@@ -46,7 +46,7 @@ pub struct Span {
 }
 
 // A span, and the place of the walk in it.
-#[derive(Drop)]
+#[derive(Clone, Copy)]
 pub struct Step {
     pub span: Span,
     pub place: WindowPlace,

@@ -1,5 +1,7 @@
 // A window of a set, and the neighbours of a time among its times.
 
+#![tactic(auto)]
+
 pub mod crossing;
 pub mod nearest;
 pub mod search;
@@ -9,14 +11,14 @@ ghost use Rattle.definitions.specs.Moments.{was};
 ghost use Rattle.window.specs.Windows.{min_of, max_of};
 
 // A neighbour of a time.
-#[derive(Drop)]
+#[derive(Clone, Copy)]
 pub enum Bound {
     At(f64),
     Nothing,
 }
 
 // The neighbours of a time, as far as they are found.
-#[derive(Drop)]
+#[derive(Clone, Copy)]
 pub struct Neighbours {
     pub lower: Bound,
     pub upper: Bound,

@@ -22,7 +22,7 @@ use latest::latest_before;
 use lists::segment::segment_at;
 
 // The window of a start: its time, its ends, its clip, the clip's samples `begin..end` if they contribute, and what stands in where there are none.
-#[derive(Drop)]
+#[derive(Clone, Copy)]
 pub struct Window {
     pub start: f64,
     pub min: f64,
@@ -34,7 +34,7 @@ pub struct Window {
 }
 
 // The neighbours of a time, the place of the last knot that is at most it, and the place of a sample beside it: hints for the next search, on which no contract rests.
-#[derive(Drop)]
+#[derive(Clone, Copy)]
 pub struct NeighboursAndHints {
     pub lower: Bound,
     pub upper: Bound,

@@ -17,7 +17,7 @@ use crate::text::{first_bytes, first_doubles};
 use definitions::{Default, LayerOffset};
 
 // What a line is answered. Where it could not be read, or its slot has no set, no call was made.
-#[derive(Drop)]
+#[derive(Clone, Copy)]
 pub(crate) enum Said {
     Unreadable,
     Empty,

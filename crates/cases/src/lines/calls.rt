@@ -1,13 +1,13 @@
 // Which call a line makes, and where its arguments begin. The calls with a slot stand apart, since they alone need the slots.
 
-#[derive(Drop)]
+#[derive(Clone, Copy)]
 pub(crate) enum Change {
     Explicit,
     Template,
     Retime,
 }
 
-#[derive(Drop)]
+#[derive(Clone, Copy)]
 pub(crate) enum Question {
     Dump,
     Active,
@@ -25,7 +25,7 @@ pub(crate) enum Question {
     CompareKeys,
 }
 
-#[derive(Drop)]
+#[derive(Clone, Copy)]
 pub(crate) enum Call {
     Nothing,
     Unreadable,
@@ -37,7 +37,7 @@ pub(crate) enum Call {
     Asking(Question, usize),
 }
 
-#[derive(Drop)]
+#[derive(Clone, Copy)]
 pub(crate) enum Slotted {
     Examine(usize),
     Prepared(usize),

@@ -8,14 +8,14 @@ use crate::prepared;
 use crate::text::{NOWHERE, after, is_end};
 
 // How far a walk came: behind the words that could be read, or before the one where it is stuck.
-#[derive(Drop)]
+#[derive(Clone, Copy)]
 pub(crate) struct Walk {
     pub at: usize,
     pub stuck: bool,
 }
 
 // What a word is read as.
-#[derive(Drop)]
+#[derive(Clone, Copy)]
 enum Kind {
     Double,
     Number,

@@ -1,7 +1,7 @@
 // Standard input as lines, in one buffer: its bytes from `from` to `end` are still to be answered.
 use crate::text::{Stop, first_bytes, scan};
 
-#[derive(Drop)]
+#[derive(Clone, Copy)]
 pub(crate) struct Buffer {
     pub from: usize,
     pub end: usize,

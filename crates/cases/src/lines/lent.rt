@@ -9,7 +9,7 @@ use crate::lines::{order, parted};
 use crate::text::{copy_bytes, copy_doubles, copy_numbers};
 
 // How much of each list is in use.
-#[derive(Drop)]
+#[derive(Clone, Copy)]
 pub(crate) struct Lent {
     pub ends: usize,
     pub times: usize,
@@ -20,7 +20,7 @@ pub(crate) struct Lent {
 }
 
 // What is lent after a line, and before it whether the line could be read.
-#[derive(Drop)]
+#[derive(Clone, Copy)]
 pub(crate) struct Lending {
     pub readable: bool,
     pub lent: Lent,

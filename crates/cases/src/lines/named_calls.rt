@@ -1,7 +1,7 @@
 // Which call to the dispatcher a line makes, and where its arguments begin. They stand apart, since they alone need its lists.
 use crate::text::{NOWHERE, after};
 
-#[derive(Drop)]
+#[derive(Clone, Copy)]
 pub(crate) enum NamedChange {
     Explicit(usize),
     Template(usize),
@@ -10,7 +10,7 @@ pub(crate) enum NamedChange {
     Nothing,
 }
 
-#[derive(Drop)]
+#[derive(Clone, Copy)]
 pub(crate) enum NamedQuestion {
     // Whether the sample is asked for too.
     Value(bool, usize),

@@ -2,7 +2,7 @@
 use crate::text::NOWHERE;
 
 // How many bytes the name has.
-#[derive(Drop)]
+#[derive(Clone, Copy)]
 pub(crate) struct Naming {
     pub at: usize,
     pub count: usize,

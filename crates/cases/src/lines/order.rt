@@ -8,7 +8,7 @@ use crate::lines::limits::{LISTED, ORDER};
 use crate::text::{NOWHERE, after, copy_bytes, copy_numbers};
 
 // Whether a list is given, and how much of its two lists is in use.
-#[derive(Drop)]
+#[derive(Clone, Copy)]
 pub(crate) struct Order {
     pub given: bool,
     pub ends: usize,
@@ -16,7 +16,7 @@ pub(crate) struct Order {
 }
 
 // The list of a line, and before it whether the line could be read.
-#[derive(Drop)]
+#[derive(Clone, Copy)]
 struct Ordered {
     readable: bool,
     order: Order,

@@ -8,7 +8,7 @@ use crate::lines::limits::{COUNTS, ENDS, PARTED, PARTED_ENDS, SAMPLES};
 use crate::text::{copy_bytes, copy_doubles, copy_numbers};
 
 // How much of each of the five lists is in use.
-#[derive(Drop)]
+#[derive(Clone, Copy)]
 pub(crate) struct Parted {
     pub counts: usize,
     pub ends: usize,
@@ -18,7 +18,7 @@ pub(crate) struct Parted {
 }
 
 // The samples of a line, and before them whether the line could be read.
-#[derive(Drop)]
+#[derive(Clone, Copy)]
 struct PartedRead {
     readable: bool,
     parted: Parted,

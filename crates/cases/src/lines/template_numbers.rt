@@ -2,7 +2,7 @@
 use definitions::TemplateTimes;
 
 // Where `offset` is false the offset is absent.
-#[derive(Drop)]
+#[derive(Clone, Copy)]
 pub(crate) struct TemplateNumbers {
     pub at: usize,
     pub times: TemplateTimes,
@@ -10,7 +10,7 @@ pub(crate) struct TemplateNumbers {
 }
 
 // A template's offset: a double, or `none`. The slot of an absent one holds a NaN, which nothing may look at.
-#[derive(Drop)]
+#[derive(Clone, Copy)]
 struct Offset {
     at: usize,
     present: bool,

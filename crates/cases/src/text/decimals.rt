@@ -10,7 +10,7 @@ use crate::text::words::{NOWHERE, closed, skip_blanks};
 
 // The digits of a decimal: the number that they write, the point left out, how many stand before the point and how many
 // behind it.
-#[derive(Drop)]
+#[derive(Clone, Copy)]
 struct Decimal {
     at: usize,
     digits: u64,

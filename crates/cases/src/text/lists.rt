@@ -6,7 +6,7 @@ ghost use Rattle.cases.specs.Text.{part_of};
 use crate::text::numbers::{hex_digits, read_byte, read_decimal, read_double, read_pattern};
 use crate::text::words::{NOWHERE, after, closed, skip_blanks};
 
-#[derive(Drop)]
+#[derive(Clone, Copy)]
 pub(crate) struct Listed {
     pub at: usize,
     pub count: usize,

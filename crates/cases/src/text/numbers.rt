@@ -8,19 +8,19 @@ ghost use Rattle.cases.specs.Doubles.{read_double, read_pattern};
 use crate::text::decimals::read_written;
 use crate::text::words::{NOWHERE, closed, skip_blanks};
 
-#[derive(Drop)]
+#[derive(Clone, Copy)]
 pub(crate) struct Number {
     pub at: usize,
     pub value: u64,
 }
 
-#[derive(Drop)]
+#[derive(Clone, Copy)]
 pub(crate) struct Byte {
     pub at: usize,
     pub value: u8,
 }
 
-#[derive(Drop)]
+#[derive(Clone, Copy)]
 pub(crate) struct Double {
     pub at: usize,
     pub value: f64,

@@ -24,7 +24,7 @@ fn is_blank(b: u8) -> bool
 }
 
 // What a scan looks for.
-#[derive(Drop)]
+#[derive(Clone, Copy)]
 pub(crate) enum Stop {
     Word,
     Blank,

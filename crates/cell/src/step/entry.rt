@@ -7,7 +7,7 @@ use definitions::Answer;
 
 // A value and its mark.
 #[repr(C)]
-#[derive(Drop)]
+#[derive(Clone, Copy)]
 pub struct Entry {
     pub value: f64,
     pub mark: u8,

@@ -13,7 +13,7 @@ use lists::segment::{clip_time, segment_at};
 
 // How stage times lead to clip times in a cell: no knots, below the first or from the last on, or
 // between two knots.
-#[derive(Drop)]
+#[derive(Clone, Copy)]
 pub enum Line {
     Identity,
     Flat(f64),

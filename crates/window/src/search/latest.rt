@@ -15,7 +15,7 @@ use definitions::limits::KNOTS;
 use lists::segment::{segment_at, stage_time};
 
 // For each segment a time that no inverse time of it or of a segment before it is above. A later one would do as well, and spare less of a search.
-#[derive(Drop)]
+#[derive(Clone, Copy)]
 pub struct LatestInverses {
     pub items: [f64; KNOTS],
 }

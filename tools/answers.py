@@ -1,0 +1,422 @@
+#!/usr/bin/env python3
+"""Turns proofs that walk the code by hand, proofs/F/Proof.antt over the module Tie, to proofs/F/Answers.antt and Invariants.antt.
+
+usage: python3 tools/answers.py NAMES CRATE..     at the top of the repository
+
+NAMES is the folder that `rt names NAMES` wrote at the top of the repository. It prints a line for each place that is left by hand, and for each
+file that it does not turn. A turned Proof.antt is removed.
+"""
+import json
+import os
+import re
+import sys
+
+WORD = r"[^\s(){}\[\],;.]+"
+PATH = re.compile(rf"(?<![^\s(){{}}\[\],;])({WORD})((?:\.{WORD})+)")
+NAME = re.compile(rf"(?<![^\s(){{}}\[\],;])({WORD})")
+SIG = re.compile(r"^((?:(?:pub|abbrev|unfoldable|private) )*)([^\s(){}:;,\[\]]+) :(?=\s|$)")
+
+
+def norm(s):
+    return s.replace("_", "-")
+
+
+class Names:
+    def __init__(self, d):
+        self.places = d["places"]
+        self.by_name = d["places_by_name"]
+        self.arms = d["arms"]
+        self.index = {norm(p[0]): i for i, p in enumerate(self.places)}
+        self.parent = [None if p[1] is None else self.index[norm(p[1])] for p in self.places]
+        self.needs = d["needs"]
+        self.asked_at = d["asked_at"]
+        self.loops = d["loops"]
+        self.changed = d["changed"]
+        self.params = d["params"]
+
+    def up(self, i, n):
+        for _ in range(n):
+            if i is None:
+                return None
+            i = self.parent[i]
+        return i
+
+    def hops(self, i, n):
+        """How many places above the place i now lies what lay n above it; None where it is no place of its own now."""
+        goal, count = self.up(i, n), 0
+        while i != goal:
+            if i is None:
+                return None
+            i = self.up(i, self.arms[i][1] if self.arms[i] else 1)
+            count += 1
+        return count
+
+    def chain(self, i):
+        while i is not None:
+            yield i
+            i = self.parent[i]
+
+
+def groups(text):
+    """The file's comments and uses, then each declaration with the comments above it."""
+    head, out, cur, note = [], [], None, []
+    for line in text.split("\n"):
+        if line.startswith("use ") or line.startswith("unfoldable use ") or line.startswith("pub use "):
+            head.append(line)
+            cur = None
+            continue
+        if line.startswith("--"):
+            note.append(line)
+            continue
+        if not line.strip():
+            if cur is not None and note == []:
+                cur["lines"].append(line)
+            continue
+        if line[0] not in " )]}":
+            m = SIG.match(line)
+            if m and not (cur and cur["name"] == m.group(2)):
+                cur = {"name": m.group(2), "mods": m.group(1), "lines": [line], "note": note}
+                out.append(cur)
+                note = []
+                continue
+        if cur is None:
+            head.append(line)
+        else:
+            cur["lines"] += note
+            note = []
+            cur["lines"].append(line)
+    for g in out:
+        while g["lines"] and not g["lines"][-1].strip():
+            g["lines"].pop()
+    return head, out
+
+
+def arguments(text):
+    """The arguments of a call, split at the top level."""
+    out, depth, cur = [], 0, ""
+    for ch in text:
+        if ch in "({[":
+            depth += 1
+        if ch in ")}]":
+            if depth == 0:
+                break
+            depth -= 1
+        if ch.isspace() and depth == 0:
+            if cur:
+                out.append(cur)
+            cur = ""
+        else:
+            cur += ch
+    if cur:
+        out.append(cur)
+    return out
+
+
+def flat(names, at, n, fields):
+    """The path of fields from n places above the place at, as it is named now; None for no change."""
+    p = names.up(at, n)
+    if not fields:
+        return None
+    f = norm(fields[0])
+    rest = fields[1:]
+    if p is None:
+        p = at
+    if f in ("args", "requires", "well-formed", "pre"):
+        return [fields[0].replace("-", "_")] + rest
+    chain = list(names.chain(at))
+    for q in chain:
+        arm = names.arms[q]
+        if arm is None:
+            continue
+        for new, step, path in sorted(arm[2], key=lambda a: -len(a[2])):
+            if norm(step) == f and [norm(x) for x in rest[: len(path)]] == [norm(x) for x in path]:
+                return [arm[0], new] + rest[len(path):]
+    own = names.places[p][2]
+    if norm(own[0]) == f:
+        return [own[1]] + argument(names, p, rest)
+    for q in list(names.chain(p)) + chain:
+        own = names.places[q][2]
+        if norm(own[0]) == f:
+            return [own[1]] + argument(names, q, rest)
+    return None
+
+
+def argument(names, q, rest):
+    """What a call left in an argument goes by the argument's name, and no longer by its position."""
+    params = names.params.get(names.places[q][3])
+    if not params or not rest or rest[0] != "new":
+        return rest
+    n = 1
+    while n < len(rest) and rest[n] == "1":
+        n += 1
+    if n < len(rest) and rest[n] == "0" and n - 1 < len(params):
+        return ["new", params[n - 1]] + rest[n + 1 :]
+    return rest
+
+
+def turn_body(names, text, env, told, where):
+    env = dict(env)
+    shift = {}
+
+    def path(m):
+        var, fields = m.group(1), m.group(2)[1:].split(".")
+        if var not in env:
+            return m.group(0)
+        at = env[var]
+        n = 0
+        while n < len(fields) and fields[n] == "before":
+            n += 1
+        rest = fields[n:]
+        n += shift.get(var, 0)
+        if not rest:
+            h = names.hops(at, n)
+            if h is None:
+                told.append(f"{where}: no place of its own: {m.group(0)}")
+                return m.group(0)
+            return var + ".before" * h
+        new = flat(names, at, n, rest)
+        if new is None:
+            told.append(f"{where}: {m.group(0)}")
+            return m.group(0)
+        return ".".join([var] + new)
+
+    out = []
+    pos = 0
+    # lets in order, since a bound name may be a place
+    for m in re.finditer(rf"\blet ({WORD}) = ({WORD})((?:\.before)*) in\b|(?<![^\s(){{}}\[\],;])({WORD})((?:\.{WORD})+)", text):
+        out.append(text[pos : m.start()])
+        pos = m.end()
+        if m.group(1):
+            var, src, befores = m.group(1), m.group(2), m.group(3)
+            if src in env:
+                n = befores.count(".before")
+                h = names.hops(env[src], n)
+                if h is None:
+                    # its fields are those of the place below
+                    env[var] = env[src]
+                    out.append(f"let {var} = {src} in")
+                    shift[var] = n
+                    told.append(f"{where}: no place of its own: let {var} = {src}{befores}")
+                else:
+                    env[var] = names.up(env[src], n)
+                    shift[var] = 0
+                    out.append(f"let {var} = {src}{'.before' * h} in")
+            else:
+                out.append(m.group(0))
+        else:
+            mm = PATH.match(text, m.start())
+            out.append(path(mm) if mm else m.group(0))
+    out.append(text[pos:])
+    return "".join(out)
+
+
+def turn(folder, module, d):
+    names = Names(d)
+    src = os.path.join(folder, "Proof.antt")
+    text = open(src, encoding="utf-8").read()
+    told = []
+    head, decls = groups(text)
+    spec = next((g for g in decls if "tie.close" in "\n".join(g["lines"])), None)
+    if spec is None:
+        return [f"{src}: no tie.close"]
+    body = "\n".join(spec["lines"])
+    k = body.find("tie.spec")
+    args = arguments(body[k + len("tie.spec"):])
+    loops = [l for l in names.loops]
+    own = {g["name"]: g for g in decls}
+    # invariants and measures stand first
+    lead = 0
+    kinds = {}
+    for g in decls:
+        m = re.match(r"^(?:\w+ )*\S+ : tie\.((?:invariant|decreases)-\S+)", g["lines"][0])
+        if m:
+            kinds[g["name"]] = m.group(1)
+    while lead < len(args) and args[lead] in kinds:
+        lead += 1
+    rest = args[lead:]
+    by_place = {}
+    if len(rest) == len(names.needs):
+        for a, need, at in zip(rest, names.needs, names.asked_at):
+            by_place.setdefault(a, []).append((need[1], names.index[norm(at[0])]))
+    else:
+        told.append(f"{src}: {len(rest)} answers, {len(names.needs)} goals")
+    by_old = {norm(o): (n, names.index[norm(at[0])]) for (o, n), at in zip(names.needs, names.asked_at)}
+    loop_new = {norm(l[0][0]): l for l in loops}
+
+    answer_of = {}
+    for g in decls:
+        m = re.search(r":\s+tie\.Need-(\S+)", g["lines"][0] + " " + (g["lines"][1].strip() if len(g["lines"]) > 1 else ""))
+        if g is spec or not m or g["name"] in kinds or "(" in g["lines"][0].split(" : ")[0]:
+            continue
+        if re.match(r"^(?:\w+ )*\S+ :\s*$|^(?:\w+ )*\S+ : tie\.Need-", g["lines"][0]):
+            if g["name"] in by_place:
+                answer_of[g["name"]] = by_place[g["name"]]
+            elif norm(m.group(1)) in by_old:
+                answer_of[g["name"]] = [by_old[norm(m.group(1))]]
+            else:
+                told.append(f"{src}: {g['name']} answers {m.group(1)}, which is no goal")
+                answer_of[g["name"]] = None
+    # an answer that is a helper given straight to tie.spec, or a lambda that is no search
+    extra = []
+    if len(rest) == len(names.needs):
+        for a, need, at in zip(rest, names.needs, names.asked_at):
+            if a in answer_of or re.match(r"^\(λ \S+( κs)?\. search rules\)$", re.sub(r"\s+", " ", a)):
+                continue
+            extra.append((need[1], names.index[norm(at[0])], a))
+
+    rename = {}
+    for n, v in answer_of.items():
+        if v:
+            rename[n] = v[0][0]
+
+    taken = set()
+
+    def places(s):
+        def one(m):
+            key = norm(m.group(1))
+            if key in names.index:
+                new = names.by_name[names.index[key]]
+                taken.add(new)
+                return "At-start" if new == "Start" else new
+            told.append(f"{src}: place {m.group(1)}")
+            return "goal." + m.group(1)
+
+        s = re.sub(r"tie\.Need-([^\s(){}\[\],;.]+)((?: (?:invariant|decreases)-[^\s(){}\[\],;]+)*)", lambda m: "goal." + (by_old[norm(m.group(1))][0] if norm(m.group(1)) in by_old else m.group(1)), s)
+        return re.sub(r"tie\.([A-Z][^\s(){}\[\],;.]*)((?: (?:invariant|decreases)-[^\s(){}\[\],;]+)*)", one, s)
+
+    def renamed(s):
+        return NAME.sub(lambda m: rename.get(m.group(1), m.group(1)), s)
+
+    inv, ans = [], []
+    for g in decls:
+        if g is spec:
+            continue
+        where = f"{src}: {g['name']}"
+        if g["name"] in kinds:
+            kind = kinds[g["name"]]
+            word, loop = kind.split("-", 1)
+            l = loop_new.get(norm(loop)) or (loops[0] if len(loops) == 1 else None)
+            if l is None:
+                told.append(f"{where}: no loop {loop}")
+                continue
+            new = f"{word}-{l[0][1]}"
+            variables = l[1]
+            body = "\n".join(g["lines"][1:])
+            m = re.match(r"(?:unfolding[^\n]*\n)*" + re.escape(g["name"]) + r"((?:\s+[^\s=]+)*)\s+=", body)
+            pre = re.match(r"((?:unfolding[^\n]*\n)*)", body).group(1)
+            params = m.group(1).split()
+            term = body[m.end():]
+            changed = names.changed[loops.index(l)]
+            moved = [v for v, ch in zip(variables, changed) if ch]
+            if len(params) != len(variables) + len(moved):
+                told.append(f"{where}: {len(params)} variables {params}, {variables}")
+            table = {}
+            for i, v in enumerate(variables):
+                if i < len(params):
+                    table[params[i]] = f"l.initial.{v}" if changed[i] else f"l.{v}"
+            for i, v in enumerate(moved):
+                if len(variables) + i < len(params):
+                    table[params[len(variables) + i]] = f"l.{v}"
+            table.pop("_", None)
+
+            def var(m):
+                w = m.group(0)
+                first, dot, more = w.partition(".")
+                return table[first] + dot + more if first in table else w
+
+            term = re.sub(r"[^\s(){}\[\],;]+", var, term)
+            inv += g["note"] + [f"abbrev pub {new} : goal.{new}"] + ([pre.rstrip("\n")] if pre else []) + [f"{new} l ={term}", ""]
+            continue
+        if g["name"] in answer_of:
+            v = answer_of[g["name"]]
+            if not v:
+                ans += g["note"] + ["-- LEFT: " + x for x in g["lines"]] + [""]
+                continue
+            new, at = v[0]
+            lines = g["lines"]
+            j = 1
+            if lines[0].rstrip().endswith(":"):
+                j = 2
+            body = "\n".join(lines[j:])
+            m = re.search(r"^" + re.escape(g["name"]) + r"((?:\s+[^\s=]+)*)\s+=", body, re.M)
+            if not m:
+                told.append(f"{where}: no clause")
+                continue
+            params = m.group(1).split()
+            env = {params[0]: at} if params else {}
+            keep = [p for p in params if p != "κs"]
+            term = turn_body(names, body[m.end():], env, told, where)
+            pre = body[: m.start()]
+            ans += g["note"] + [f"pub {new} : goal.{new}"] + ([pre.rstrip("\n")] if pre.strip() else []) + [f"{new} {' '.join(keep)} =" .replace("  ", " ") + renamed(places(term)), ""]
+            if len(v) > 1:
+                for new2, at2 in v[1:]:
+                    ans += [f"pub {new2} : goal.{new2}", f"{new2} c = {new} c", ""]
+            continue
+        body = "\n".join(g["lines"])
+        env = {}
+        for m in re.finditer(r"\(([^():]+) : tie\.([A-Z][^\s(){}\[\],;.]*)", body):
+            key = norm(m.group(2))
+            if key in names.index:
+                for v in m.group(1).split():
+                    env[v] = names.index[key]
+        body = turn_body(names, body, env, told, where)
+        ans += g["note"] + [renamed(places(body)), ""]
+    for new, at, a in extra:
+        t = re.sub(r"\s+", " ", a)
+        m = re.match(r"^\(λ (\S+?)( κs)?\. (.*)\)$", t)
+        if m:
+            term = turn_body(names, m.group(3), {m.group(1): at}, told, src)
+            ans += [f"pub {new} : goal.{new}", f"{new} {m.group(1)} = {renamed(places(term))}", ""]
+        else:
+            ans += [f"pub {new} : goal.{new}", f"{new} c = {renamed(t)} c", ""]
+
+    uses = [h for h in head if not re.match(r"use \S+\.(Statement\.\{statement\}|Tie as tie)$", h)]
+    title = []
+    # the file's first comment
+    for line in text.split("\n"):
+        if line.startswith("--"):
+            title.append(line)
+        else:
+            break
+    if decls and title and decls[0]["note"][: len(title)] == title:
+        d0 = decls[0]["note"]
+        drop = "\n".join(title)
+        for lst in (inv, ans):
+            if lst[: len(title)] == title:
+                del lst[: len(title)]
+    if inv:
+        with open(os.path.join(folder, "Invariants.antt"), "w", encoding="utf-8") as f:
+            f.write("\n".join(title + uses + [f"use {module}.Given as goal", ""] + inv).rstrip("\n") + "\n")
+    if taken:
+        line = ", ".join("Start as At-start" if t == "Start" else t for t in sorted(taken))
+        uses.append(f"use {module}.Goals.{{{line}}}")
+    if ans:
+        with open(os.path.join(folder, "Answers.antt"), "w", encoding="utf-8") as f:
+            f.write("\n".join(title + uses + [f"use {module}.Goals as goal", ""] + ans).rstrip("\n") + "\n")
+    os.remove(src)
+    return told
+
+
+def main(argv):
+    to, crates = argv[0], argv[1:]
+    for c in crates:
+        with open(os.path.join(to, "crates", c, "names.json"), encoding="utf-8") as f:
+            all_names = json.load(f)
+        for folder, _, files in os.walk(os.path.join("crates", c, "proofs")):
+            if "Proof.antt" not in files:
+                continue
+            module = "Rattle." + c + ".proofs." + os.path.relpath(folder, os.path.join("crates", c, "proofs")).replace("/", ".")
+            key = module.replace(f"Rattle.{c}.proofs.", f"Rattle-{c}-proofs.", 1) + ".Lts"
+            if key not in all_names:
+                print(f"left: {folder}: no names")
+                continue
+            try:
+                for t in turn(folder, module, all_names[key]):
+                    print("left:", t)
+            except Exception as e:  # one file must not stop the rest
+                print(f"left: {folder}: {type(e).__name__} {e}")
+    return 0
+
+
+if __name__ == "__main__":
+    sys.exit(main(sys.argv[1:]))
