@@ -1,0 +1,12 @@
+-- `by_value::accept` meets its contract: the examined set is installed, unless its number refuses it. Assumes nothing.
+use borrow.Author.Rules.{rules}
+use Rattle.resolver.proofs.Laws.{accepts}
+use Rattle.by_value.proofs.accept.Goals as goal
+
+pub settle-requires : goal.settle-requires
+settle-requires c =
+    let e = c.parse_set-prepared.ensures in
+    (c.requires, e.made)
+
+pub returns : goal.returns
+returns c = accepts _ _ _ _ c.parse_set-prepared.ensures c.settle.ensures

@@ -1,0 +1,9 @@
+-- `by_value::install` meets its contract: the prepared set in the arrays of a standing one. Assumes nothing.
+use Rattle.resolver.proofs.Laws.{installs}
+use Rattle.by_value.proofs.install.Goals as goal
+
+pub installed-set-requires : goal.installed-set-requires
+installed-set-requires c = c.requires.1.held
+
+pub returns : goal.returns
+returns c = installs _ _ _ c.requires.1 c.installed-set.ensures

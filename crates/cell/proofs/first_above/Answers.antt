@@ -1,0 +1,32 @@
+-- `cell::first_above` meets its contract: behind the times that are at most t stands the least above it. Assumes nothing.
+use Prim.Native.Nat.{◌+◌}
+use native.Mathlib.Omega.{arith}
+use Rattle.laws.proofs.list.Places.{last-inside}
+use Rattle.cell.proofs.Firsts.{upper-at, upper-end, none-counted, some-counted}
+use borrow.Author.Rules.{rules}
+use Rattle.cell.proofs.first_above.Goals as goal
+
+pub returns-then-xs-eq0 : goal.returns-then-xs-eq0
+returns-then-xs-eq0 c = let a = c.before.before in upper-end a.args.xs.now a.requires.0 a.args.t a.requires.1 (omega arith)
+
+pub returns-then-t-xs : goal.returns-then-t-xs
+returns-then-t-xs c = let a = c.before.before.before.before.before in upper-at a.args.xs.now a.requires.0 a.args.t a.requires.1 0 (none-counted a.args.xs.now a.requires.0 a.args.t a.requires.1 (omega arith) c.if-t-xs.true) (omega arith)
+
+pub overflow_add-next : goal.overflow_add-next
+overflow_add-next c = let a = c.before.before.before.before.before in let e = c.last_at_most-next.ensures in let l = last-inside a.args.t a.requires.1.fitting a.args.xs.now a.requires.0 (omega arith) in omega arith
+
+pub returns-then-next-xs : goal.returns-then-next-xs
+returns-then-next-xs c =
+    let l = c.before.before in
+    let a = l.before.before.before.before.before in
+    let e = l.last_at_most-next.ensures in
+    let q = some-counted a.args.xs.now a.requires.0 a.args.t a.requires.1 (omega arith) l.if-t-xs.false in
+    upper-at a.args.xs.now a.requires.0 a.args.t a.requires.1 (l.last_at_most-next.result + 1) (omega arith) c.if-next-xs.true
+
+pub returns : goal.returns
+returns c =
+    let l = c.before in
+    let a = l.before.before.before.before.before in
+    let e = l.last_at_most-next.ensures in
+    let q = some-counted a.args.xs.now a.requires.0 a.args.t a.requires.1 (omega arith) l.if-t-xs.false in
+    upper-end a.args.xs.now a.requires.0 a.args.t a.requires.1 (omega (arith, c.if-next-xs.false))

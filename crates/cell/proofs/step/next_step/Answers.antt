@@ -1,0 +1,62 @@
+-- `cell::step::next_step` meets its contract: the guess lies from k to hi, and on either side of it the step is found. Assumes nothing.
+use mathlib.Core.Path.{◌≡◌, refl, sym, ◌∙◌}
+use Prim.Native.Nat.{ℕ}
+use native.Mathlib.Omega.{arith}
+use borrow.Author.Rules.{rules}
+use borrow.Author.Tests.{eqb-true, eqb-false}
+use Rattle.laws.specs.track.Steps.{Once}
+use Rattle.laws.specs.cell.Keys.{Keys}
+use Rattle.cell.specs.step.Lines.{place_on}
+use Rattle.cell.proofs.step.StepIn.{once-part, step_part, first_part}
+use Rattle.cell.proofs.step.next_step.Goals.{Start as At-start, Then-is_read}
+use Rattle.cell.proofs.step.next_step.Goals as goal
+
+-- from the function's entry: the place read, the keys, and that it is left once
+abbrev f : At-start → ℕ → ℕ
+f a = place_on a.args.ts.now a.args.line
+
+keys : (a : At-start) → Keys a.args.k a.args.hi
+keys a = a.requires.1.1.1.0
+
+once : (a : At-start) → Once (f a) a.args.k a.args.hi
+once a = a.requires.1.1.1.1.0
+
+at : (a : At-start) → f a a.args.k ≡ a.args.q
+at a = a.requires.1.1.1.1.1
+
+-- the sample at q is read at the guess
+still : (c : Then-is_read) → f c.before.before.before.before c.guess-g.result ≡ c.args.q
+still c = eqb-true _ _ (sym c.is_read.ensures ∙ c.if-is_read.true)
+
+pub is_read-requires : goal.is_read-requires
+is_read-requires c =
+    let a = c.before.before in
+    let K = keys a in
+    let g = c.guess-g.ensures in
+    (a.requires.0, (a.requires.1.0, (omega (arith, K.low, g.0), omega (arith, K.high, g.1))))
+
+pub step_above-requires : goal.step_above-requires
+step_above-requires c =
+    let a = c.before.before.before.before in
+    let K = keys a in
+    let g = c.guess-g.ensures in
+    (a.requires.0, (a.requires.1.0, (a.requires.1.1.0, (record { low = omega (arith, K.low, g.0); order = g.1; high = K.high }, (once-part (once a) _ _ g.0 (omega arith) (still c ∙ sym (at a)), still c)))))
+
+pub returns-then-is_read : goal.returns-then-is_read
+returns-then-is_read c =
+    let a = c.before.before.before.before.before in
+    let g = c.guess-g.ensures in
+    first_part (once a) _ g.0 g.1 (still c.before ∙ sym (at a)) c.step_above.result c.step_above.ensures
+
+pub step_below-requires : goal.step_below-requires
+step_below-requires c =
+    let a = c.before.before.before.before in
+    let K = keys a in
+    let g = c.guess-g.ensures in
+    (a.requires.0, (a.requires.1.0, (record { low = K.low; order = g.0; high = omega (arith, K.high, g.1) }, (once-part (once a) _ _ (omega arith) g.1 refl, (at a, eqb-false _ _ (sym c.is_read.ensures ∙ c.if-is_read.false))))))
+
+pub returns : goal.returns
+returns c =
+    let a = c.before.before.before.before.before in
+    let g = c.guess-g.ensures in
+    step_part (once a) _ _ (omega arith) g.1 refl _ c.step_below.ensures

@@ -1,0 +1,16 @@
+-- `clip::retiming::sort_turned` meets its contract. Assumes nothing.
+use mathlib.Core.Path.{refl}
+use borrow.Author.Rules.{rules}
+use lib.Ieee.{of_bits}
+use Rattle.clip.proofs.retiming.sort_turned.Goals as goal
+
+pub returns-then-scale : goal.returns-then-scale
+unfolding of_bits
+returns-then-scale c =
+    let a = c.before.before.before.before.before.before.before.before.before.before.before in
+    let k = c.before.before.before.before in
+    rw a.if-scale.true (a.sort_starts.ensures, k.sort_knots.ensures)
+
+pub returns-else-scale : goal.returns-else-scale
+unfolding of_bits
+returns-else-scale c = rw c.if-scale.false (refl, refl)

@@ -1,0 +1,33 @@
+-- `clip::storage::unpack_blocks` meets its contract: the first i times are written. Assumes nothing.
+use Prim.Native.Nat.{◌-◌}
+use mathlib.Core.Path.{◌≡◌, sym, ◌∙◌}
+use native.Mathlib.Omega.{arith}
+use borrow.Author.Rules.{rules}
+use lib.ListN.{length, length-set}
+use lib.Ieee.{nan}
+use lib.Seq.{length-take-le, get_or-take}
+use Rattle.lists.proofs.Filled.{Filled, fill_start, fill-next, fill-whole}
+use Rattle.clip.specs.Holding.{blocks_in}
+use Rattle.clip.proofs.storage.unpack_blocks.Goals.{Start as At-start}
+use Rattle.clip.proofs.storage.unpack_blocks.Goals as goal
+
+few : (c : At-start) → length (blocks_in c.args.t1) ≡ c.args.t1.count
+few c = length-take-le c.args.t1.count c.args.t1.items (omega (arith, c.requires.0.long, c.requires.0.few))
+
+pub loop-i-init : goal.loop-i-init
+loop-i-init c =
+    (fill_start (blocks_in c.args.t1) c.args.times.now (omega (arith, c.requires.1, few c)), c.requires.1)
+
+pub loop-i-preserved : goal.loop-i-preserved
+loop-i-preserved c =
+    let k = c.loop-i in
+    let s = c.before.before.before in
+    let n = few s in
+    (fill-next (blocks_in s.args.t1) k.times k.i _ nan k.invariant.0 (omega arith) (sym (get_or-take s.args.t1.count s.args.t1.items k.i nan (omega arith))), length-set k.times k.i _ ∙ k.invariant.1)
+
+pub returns : goal.returns
+returns c =
+    let k = c.loop-i in
+    let s = c.before.before in
+    let n = few s in
+    fill-whole (blocks_in s.args.t1) k.times k.i k.invariant.0 (omega arith) (k.invariant.1 ∙ sym n)

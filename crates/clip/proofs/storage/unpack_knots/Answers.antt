@@ -1,0 +1,48 @@
+-- `clip::storage::unpack_knots` meets its contract: the first i entries are written. Assumes nothing.
+use Prim.Native.Nat.{◌-◌, ◌≤◌}
+use mathlib.Core.Path.{◌≡◌, sym, ◌∙◌}
+use native.Mathlib.Omega.{arith}
+use borrow.Author.Rules.{rules}
+use lib.ListN.{length, length-set}
+use lib.Ieee.{nan}
+use Rattle.definitions.specs.declared.Knot.{Knot}
+use Rattle.definitions.specs.ClipSet.{knot_times}
+use Rattle.definitions.specs.Explicit.{knot}
+use Rattle.laws.specs.set.Sound.{knot_values}
+use Rattle.clip.specs.Holding.{knots_in}
+use Rattle.lists.proofs.Filled.{Filled, fill_start, fill-next, fill-whole}
+use Rattle.clip.proofs.Packing.{unpacked-length, unpacked-at}
+use Rattle.clip.proofs.storage.unpack_knots.Goals.{Start as At-start}
+use Rattle.clip.proofs.storage.unpack_knots.Goals as goal
+
+room : (c : At-start) → c.args.t1.count ≤ length c.args.t1.items
+room c = omega (arith, c.requires.0.long, c.requires.0.few)
+
+pub loop-i-init : goal.loop-i-init
+loop-i-init c =
+    let l = knots_in c.args.t1 in
+    let n = unpacked-length (λ (k : Knot). k.x) c.args.t1.items c.args.t1.count (room c) in
+    let m = unpacked-length (λ (k : Knot). k.y) c.args.t1.items c.args.t1.count (room c) in
+    (fill_start (knot_times l) c.args.xs.now (omega (arith, c.requires.1.0)), fill_start (knot_values l) c.args.ys.now (omega (arith, c.requires.1.1)), c.requires.1.0, c.requires.1.1)
+
+pub loop-i-preserved : goal.loop-i-preserved
+loop-i-preserved c =
+    let k = c.loop-i in
+    let s = c.before.before.before in
+    let l = knots_in s.args.t1 in
+    let n = unpacked-length (λ (k : Knot). k.x) s.args.t1.items s.args.t1.count (room s) in
+    let m = unpacked-length (λ (k : Knot). k.y) s.args.t1.items s.args.t1.count (room s) in (
+      fill-next (knot_times l) k.xs k.i _ nan k.invariant.0 (omega arith) (unpacked-at (λ (k : Knot). k.x) s.args.t1.items s.args.t1.count (room s) k.i (knot nan nan) nan (omega arith)),
+      fill-next (knot_values l) k.ys k.i _ nan k.invariant.1 (omega arith) (unpacked-at (λ (k : Knot). k.y) s.args.t1.items s.args.t1.count (room s) k.i (knot nan nan) nan (omega arith)),
+      length-set k.xs k.i _ ∙ k.invariant.2,
+      length-set k.ys k.i _ ∙ k.invariant.3,
+    )
+
+pub returns : goal.returns
+returns c =
+    let k = c.loop-i in
+    let s = c.before.before in
+    let l = knots_in s.args.t1 in
+    let n = unpacked-length (λ (k : Knot). k.x) s.args.t1.items s.args.t1.count (room s) in
+    let m = unpacked-length (λ (k : Knot). k.y) s.args.t1.items s.args.t1.count (room s) in
+    (fill-whole (knot_times l) k.xs k.i k.invariant.0 (omega arith) (k.invariant.2 ∙ sym n), fill-whole (knot_values l) k.ys k.i k.invariant.1 (omega arith) (k.invariant.3 ∙ sym m))

@@ -1,0 +1,21 @@
+-- `clip::storage::unpack_knots` meets its contract: the first i entries are written. Assumes nothing.
+use Prim.Native.Nat.{◌-◌, ◌≤◌}
+use mathlib.Core.Path.{◌≡◌, sym, ◌∙◌}
+use native.Mathlib.Omega.{arith}
+use borrow.Author.Rules.{rules}
+use lib.ListN.{length, length-set}
+use lib.Ieee.{nan}
+use Rattle.definitions.specs.declared.Knot.{Knot}
+use Rattle.definitions.specs.ClipSet.{knot_times}
+use Rattle.definitions.specs.Explicit.{knot}
+use Rattle.laws.specs.set.Sound.{knot_values}
+use Rattle.clip.specs.Holding.{knots_in}
+use Rattle.lists.proofs.Filled.{Filled, fill_start, fill-next, fill-whole}
+use Rattle.clip.proofs.Packing.{unpacked-length, unpacked-at}
+use Rattle.clip.proofs.storage.unpack_knots.Given as goal
+
+abbrev pub invariant-loop-i : goal.invariant-loop-i
+invariant-loop-i l = Filled (knot_times (knots_in l.knots)) l.xs l.i × Filled (knot_values (knots_in l.knots)) l.ys l.i × (length l.xs ≡ l.n) × (length l.ys ≡ l.n)
+
+abbrev pub decreases-loop-i : goal.decreases-loop-i
+decreases-loop-i l = l.n - l.i

@@ -1,0 +1,32 @@
+-- `clip::storing::check_and_store` meets its contract. Assumes nothing.
+use mathlib.Core.Path.{◌≡◌, sym, ◌∙◌}
+use borrow.Author.Rules.{rules}
+use Rattle.definitions.specs.ClipSet as Definitions
+use Rattle.laws.specs.cell.Lent.{set_of}
+use Rattle.definitions.specs.Examining.{empty_set}
+use Rattle.clip.specs.Storing.{settle_number}
+use Rattle.clip.proofs.Preparing.{hands, hands-kept}
+use Rattle.clip.proofs.Stored.{lists-number-is}
+use Rattle.clip.proofs.storing.check_and_store.Goals.{After-lists_number-number, Start as At-start}
+use Rattle.clip.proofs.storing.check_and_store.Goals as goal
+
+abbrev entry : After-lists_number-number → At-start
+entry c = c.before.before.before.before.before.before
+
+abbrev set : At-start → Definitions.ClipSet
+set s = set_of s.args.clips s.args.times.now s.args.numbers.now s.args.xs.now s.args.ys.now s.args.blocks.now s.args.manifest
+
+number_is : (c : After-lists_number-number) → c.lists_number-number.result ≡ settle_number (set (entry c))
+number_is c =
+    let s = entry c in
+    c.lists_number-number.ensures ∙ lists-number-is s.args.clips s.args.times.now s.args.numbers.now s.args.xs.now s.args.ys.now s.args.blocks.now s.args.manifest s.pre
+
+pub returns-then-number-ne0 : goal.returns-then-number-ne0
+returns-then-number-ne0 c =
+    let n = c.before.before in
+    hands-kept empty_set (set (entry n)) c.refused.result n.lists_number-number.result (settle_number (set (entry n))) (number_is n) c.if-number-ne0.true c.refused.ensures
+
+pub returns : goal.returns
+returns c =
+    let n = c.before.before in
+    hands empty_set (set (entry n)) c.store.result 0 (settle_number (set (entry n))) (sym c.if-number-ne0.false ∙ number_is n) c.store.ensures

@@ -1,0 +1,53 @@
+-- `clip::storing::lists_number` meets its contract: one test after the other. Assumes nothing.
+use mathlib.Core.Path.{◌≡◌, sym, ◌∙◌}
+use mathlib.Core.Bool.{false}
+use borrow.Author.Rules.{rules}
+use borrow.Author.Tests.{lt-ltb, le-ltb}
+use Rattle.definitions.specs.Doubles.{two_equal, three_equal}
+use Rattle.definitions.specs.ClipSet.{any_unstorable, bad_default_mark}
+use Rattle.clip.specs.Storing.{lists_number}
+use Rattle.clip.proofs.storing.lists_number.Goals.{Else-any_unstorable, Else-any_unstorable-2, Else-any_unstorable-3, Else-three_equal, Else-two_equal}
+use Rattle.clip.proofs.storing.lists_number.Goals as goal
+
+not1 : (c : Else-any_unstorable) → any_unstorable c.args.times.now ≡ false
+not1 c = sym c.any_unstorable.ensures ∙ c.if-any_unstorable.false
+
+not2 : (c : Else-any_unstorable-2) → any_unstorable c.args.xs.now ≡ false
+not2 c = sym c.any_unstorable-2.ensures ∙ c.if-any_unstorable-2.false
+
+not3 : (c : Else-any_unstorable-3) → any_unstorable c.args.blocks.now ≡ false
+not3 c = sym c.any_unstorable-3.ensures ∙ c.if-any_unstorable-3.false
+
+not4 : (c : Else-two_equal) → two_equal c.args.times.now ≡ false
+not4 c = sym c.two_equal.ensures ∙ c.if-two_equal.false
+
+not5 : (c : Else-three_equal) → three_equal c.args.xs.now ≡ false
+not5 c = sym c.three_equal.ensures ∙ c.if-three_equal.false
+
+pub returns-then-any_unstorable : goal.returns-then-any_unstorable
+unfolding lists_number
+returns-then-any_unstorable c = rw (sym c.any_unstorable.ensures ∙ c.if-any_unstorable.true)
+
+pub returns-then-any_unstorable-2 : goal.returns-then-any_unstorable-2
+unfolding lists_number
+returns-then-any_unstorable-2 c = rw (not1 c.before.before, sym c.any_unstorable-2.ensures ∙ c.if-any_unstorable-2.true)
+
+pub returns-then-any_unstorable-3 : goal.returns-then-any_unstorable-3
+unfolding lists_number
+returns-then-any_unstorable-3 c = rw (not1 c.before.before.before.before, not2 c.before.before, sym c.any_unstorable-3.ensures ∙ c.if-any_unstorable-3.true)
+
+pub returns-then-two_equal : goal.returns-then-two_equal
+unfolding lists_number
+returns-then-two_equal c = let a = c.before.before in rw (not1 a.before.before.before.before, not2 a.before.before, not3 a, sym c.two_equal.ensures ∙ c.if-two_equal.true)
+
+pub returns-then-three_equal : goal.returns-then-three_equal
+unfolding lists_number
+returns-then-three_equal c = let a = c.before.before.before.before in rw (not1 a.before.before.before.before, not2 a.before.before, not3 a, not4 c.before.before, sym c.three_equal.ensures ∙ c.if-three_equal.true)
+
+pub returns-then-default-gt2 : goal.returns-then-default-gt2
+unfolding lists_number bad_default_mark
+returns-then-default-gt2 c = let a = c.before.before.before.before.before.before in rw (not1 a.before.before.before.before, not2 a.before.before, not3 a, not4 c.before.before.before.before, not5 c.before.before, lt-ltb _ _ c.if-default-gt2.true)
+
+pub returns : goal.returns
+unfolding lists_number bad_default_mark
+returns c = let a = c.before.before.before.before.before.before in rw (not1 a.before.before.before.before, not2 a.before.before, not3 a, not4 c.before.before.before.before, not5 c.before.before, le-ltb _ _ c.if-default-gt2.false)

@@ -1,0 +1,19 @@
+-- `explicit::fields::any_not_clip` meets its contract: what is left of the list answers for the whole. Assumes nothing.
+use Prim.Native.Nat.{ℕ, ◌-◌, ◌≤◌}
+use mathlib.Core.Path.{◌≡◌, refl, sym, ap, ◌∙◌}
+use mathlib.Core.Bool.{Bool, not}
+use native.Mathlib.Omega.{arith}
+use borrow.Author.Rules.{rules}
+use lib.ListN.{length, drop}
+use lib.Ieee.{Float, nan}
+use Rattle.gf.specs.Doubles.{is_clip_number}
+use Rattle.definitions.specs.Lists.{any}
+use Rattle.lists.proofs.Fronts.{any_here, any-later, any-end}
+use Rattle.explicit.specs.Parsing.{any_not_clip}
+use Rattle.explicit.proofs.fields.any_not_clip.Given as goal
+
+abbrev pub invariant-loop-i : goal.invariant-loop-i
+invariant-loop-i l = (l.i ≤ length l.numbers) × (any_not_clip l.clips l.numbers ≡ any (bad l.clips) (drop l.i l.numbers))
+
+abbrev pub decreases-loop-i : goal.decreases-loop-i
+decreases-loop-i l = length l.numbers - l.i

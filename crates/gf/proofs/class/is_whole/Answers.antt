@@ -1,0 +1,42 @@
+-- `gf::class::is_whole` meets its contract: zero and the class of the whole numbers are what has no part below 1. Assumes nothing.
+use Rattle.std.proofs.Common.{◌≡◌, ℕ, zero, suc, ◌*◌, ◌%◌, Bool, true, false, cond, eqb, sym, refl, ap, ◌∙◌, zero-mul, rules}
+use native.Mathlib.Nat.{zero-mod}
+use lib.Dec.{eqb-suc-zero}
+use lib.Ieee.{Float, nan, inf, fin, up, down}
+use Rattle.gf.specs.declared.class.Class.{Class}
+use Rattle.gf.specs.declared.class.Class.TheVariants.{Zero, Fraction, Whole, NotFinite}
+use Rattle.gf.specs.Doubles.{is_whole, class_of}
+use Rattle.gf.proofs.class.is_whole.Goals.{After-classify-c}
+use Rattle.gf.proofs.class.is_whole.Goals as goal
+
+abbrev whole_class : Class → Bool
+whole_class Zero = true
+whole_class Fraction = false
+whole_class Whole = true
+whole_class NotFinite = false
+
+by-class : (x : Float) → is_whole x ≡ whole_class (class_of x)
+unfolding is_whole class_of
+by-class nan = refl
+by-class (inf s) = refl
+by-class (fin s zero e) = ap (λ (n : ℕ). eqb n 0) (ap (λ (n : ℕ). n % down e) (zero-mul (up e)) ∙ zero-mod (down e))
+by-class (fin s (suc m) e) = rw (eqb-suc-zero m) (either (eqb (suc m * up e % down e) 0))
+  where
+    either : (b : Bool) → b ≡ whole_class (cond b Whole Fraction)
+    either true = refl
+    either false = refl
+
+told : (c : After-classify-c) (k : Class) → c.classify-c.result ≡ k → whole_class k ≡ is_whole c.args.x
+told c k e = sym (by-class c.args.x ∙ ap whole_class (sym c.classify-c.ensures ∙ e))
+
+pub returns-in-Zero : goal.returns-in-Zero
+returns-in-Zero c = told c.before Zero c.in-Zero.is
+
+pub returns-in-Fraction : goal.returns-in-Fraction
+returns-in-Fraction c = told c.before Fraction c.in-Fraction.is
+
+pub returns-in-Whole : goal.returns-in-Whole
+returns-in-Whole c = told c.before Whole c.in-Whole.is
+
+pub returns-in-NotFinite : goal.returns-in-NotFinite
+returns-in-NotFinite c = told c.before NotFinite c.in-NotFinite.is

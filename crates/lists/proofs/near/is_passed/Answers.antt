@@ -1,0 +1,23 @@
+-- `lists::near::is_passed` meets its contract. Assumes nothing.
+use mathlib.Core.Path.{sym, subst}
+use native.Mathlib.Omega.{arith}
+use lib.Dec.{T}
+use lib.Ieee.{binary64, fits}
+use Rattle.lists.proofs.Beside.{passed_is, not-passed}
+use borrow.Author.Rules.{rules}
+use Rattle.lists.proofs.near.is_passed.Goals.{Start as At-start}
+use Rattle.lists.proofs.near.is_passed.Goals as goal
+
+-- what owning an `f64` tells: the format holds it
+held : (c : At-start) → T (fits binary64 c.args.t)
+held c = subst T (sym c.well_formed.1.1.0.1) tt
+
+pub returns-then-next-times : goal.returns-then-next-times
+returns-then-next-times c =
+    let s = c.before.before in
+    passed_is s.args.t (held s) s.args.times.now s.requires.0 s.args.place (omega arith)
+
+pub returns : goal.returns
+returns c =
+    let s = c.before in
+    not-passed s.args.t (held s) s.args.times.now s.requires.0 s.args.place (omega arith)

@@ -1,0 +1,68 @@
+-- `lists::partition_point` meets its contract. What the search finds from here on is what it finds in the whole list, and ever fewer places are left. Assumes nothing.
+use Prim.Native.Nat.{ℕ, ◌+◌, ◌-◌, ◌/◌, ◌≤◌, ◌<◌}
+use mathlib.Core.Path.{◌≡◌, refl, sym, ap, ◌∙◌}
+use mathlib.Core.Logic.{⊎_elim}
+use mathlib.Core.Bool.{Bool, true, false, cond}
+use mathlib.Core.List.{List}
+use native.Mathlib.Omega.{arith}
+use lib.ListN.{length, get_or}
+use lib.Ieee.{Float, nan, le}
+use Rattle.definitions.specs.Reading.{by_halves, partition_point}
+use Rattle.definitions.proofs.Reading.{halves-few, halves-by, partition-within}
+use Rattle.lists.proofs.partition_point.Goals.{After-count_at_most}
+use Rattle.lists.proofs.partition_point.Goals as goal
+
+abbrev at_most : List Float → Float → ℕ → Bool
+at_most xs t i = le (get_or xs i nan) t
+
+pub loop-n-init : goal.loop-n-init
+unfolding partition_point
+loop-n-init c = (omega arith, refl)
+
+-- one step, by the test in the middle
+module _ (xs : List Float) (t : Float) (at n : ℕ) (h : 16 < n) (inside : at + n ≤ length xs) (same : by_halves (at_most xs t) n at n ≡ partition_point xs t) where
+  goes_on : (b : Bool) → at_most xs t (at + n / 2) ≡ b → (k : ℕ) → k ≡ cond b (at + n / 2) at → (k + (n - n / 2) ≤ length xs) × (by_halves (at_most xs t) (n - n / 2) k (n - n / 2) ≡ partition_point xs t)
+  goes_on b e k q = (within b q, ap (λ (k : ℕ). by_halves (at_most xs t) (n - n / 2) k (n - n / 2)) q ∙ sym (halves-by (at_most xs t) at n h b e) ∙ same)
+    where
+      within : (b : Bool) → k ≡ cond b (at + n / 2) at → k + (n - n / 2) ≤ length xs
+      within true q = omega arith
+      within false q = omega arith
+
+pub loop-n-preserved : goal.loop-n-preserved
+loop-n-preserved c =
+    let l = c.before.before.before in
+    let a = l.args in
+    let on = goes_on a.times.now a.t l.loop-n.at l.loop-n.n (omega arith) l.loop-n.invariant.0 l.loop-n.invariant.1 in
+    ⊎_elim (λ w. on true w.0.taken c.if-times-mid.at w.1) (λ w. on false w.0.left c.if-times-mid.at w.1) c.if-times-mid.branch
+
+-- as many as are found
+found-is : (c : After-count_at_most) → c.loop-n.at + c.count_at_most.result ≡ partition_point c.args.times.now c.args.t
+found-is c =
+    let l = c.before.before in
+    let a = l.args in
+    ap (λ (k : ℕ). l.loop-n.at + k) c.count_at_most.ensures
+    ∙ sym (halves-few (at_most a.times.now a.t) l.loop-n.n l.loop-n.at l.loop-n.n (omega arith)) ∙ l.loop-n.invariant.1
+
+pub overflow_add-result : goal.overflow_add-result
+overflow_add-result c = let e = found-is c in let a = c.args in omega (arith, partition-within a.times.now a.t)
+
+pub returns : goal.returns
+returns c = found-is c
+
+pub overflow_add-mid : goal.overflow_add-mid
+overflow_add-mid c = omega arith
+
+pub offset_bounds-times-mid : goal.offset_bounds-times-mid
+offset_bounds-times-mid c = omega arith
+
+pub bounds-times-mid : goal.bounds-times-mid
+bounds-times-mid c = omega arith
+
+pub overflow_sub-n : goal.overflow_sub-n
+overflow_sub-n c = omega arith
+
+pub loop-n-smaller : goal.loop-n-smaller
+loop-n-smaller c = omega arith
+
+pub count_at_most-requires : goal.count_at_most-requires
+count_at_most-requires c = omega arith

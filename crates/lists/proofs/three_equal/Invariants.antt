@@ -1,0 +1,17 @@
+-- `lists::three_equal` meets its contract: the neighbours that are left answer for all. Assumes nothing.
+use Prim.Native.Nat.{◌-◌, ◌≤◌}
+use mathlib.Core.Path.{◌≡◌, refl, sym, ◌∙◌}
+use mathlib.Core.Bool.{Bool, ◌&&◌}
+use native.Mathlib.Omega.{arith}
+use borrow.Author.Rules.{rules}
+use lib.ListN.{length, drop}
+use lib.Ieee.{Float, nan, eq}
+use Rattle.definitions.specs.Lists.{any, pairs}
+use Rattle.lists.proofs.Neighbours.{three-here, three-later, three-end}
+use Rattle.lists.proofs.three_equal.Given as goal
+
+abbrev pub invariant-loop-i : goal.invariant-loop-i
+invariant-loop-i l = (l.i ≤ length l.times) × (any equal (pairs (pairs l.times)) ≡ any equal (drop l.i (pairs (pairs l.times))))
+
+abbrev pub decreases-loop-i : goal.decreases-loop-i
+decreases-loop-i l = length l.times - l.i

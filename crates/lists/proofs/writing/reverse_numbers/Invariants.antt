@@ -1,0 +1,13 @@
+-- `lists::writing::reverse_numbers` meets its contract: i entries at each end have changed places. Assumes nothing.
+use Prim.Native.Nat.{◌-◌, ◌<◌}
+use native.Mathlib.Omega.{arith}
+use borrow.Author.Rules.{rules}
+use lib.ListN.{length, length-set}
+use Rattle.lists.proofs.Reversed.{Turned, turned_none, turned-next, turned-all}
+use Rattle.lists.proofs.writing.reverse_numbers.Given as goal
+
+abbrev pub invariant-loop-i : goal.invariant-loop-i
+invariant-loop-i l = Turned 0 l.initial.xs l.xs l.i
+
+abbrev pub decreases-loop-i : goal.decreases-loop-i
+decreases-loop-i l = l.n - l.i

@@ -1,0 +1,30 @@
+-- `names::body::fraction_body` meets its contract: the decimals, cut at the `.`. Assumes nothing.
+use borrow.Author.Rules.{rules}
+use native.Mathlib.Omega.{arith}
+use mathlib.Core.Path.{◌≡◌, ap, ◌∙◌}
+use Prim.Native.Nat.{max}
+use native.Mathlib.Nat.{one-le-pow}
+use Rattle.gf.proofs.Exactly.{within-finite}
+use Rattle.definitions.specs.Names.{decimals}
+use Rattle.names.proofs.BodyLaws.{decimals-is, with-fraction}
+use Rattle.names.proofs.body.fraction_body.Goals.{After-decimals-n}
+use Rattle.names.proofs.body.fraction_body.Goals as goal
+
+pub nonzero_div-whole : goal.nonzero_div-whole
+nonzero_div-whole c = omega (arith, one-le-pow c.args.k 10 (omega arith))
+
+pub nonzero_rem-result : goal.nonzero_rem-result
+nonzero_rem-result c = nonzero_div-whole c.before.before
+
+rounded : (c : After-decimals-n) → c.decimals-n.result ≡ decimals c.args.k c.args.x
+rounded c =
+    let s = c.before.before in
+    c.decimals-n.ensures ∙ decimals-is s.args.x (within-finite 40 s.args.x s.requires.0) c.measure-m.result c.measure-m.ensures s.args.k
+
+pub returns : goal.returns
+returns c =
+    let d = c.before.before.before in
+    let s = d.before.before in
+    with-fraction s.args.width s.args.k s.args.x d.measure-m.result.negative d.decimals-n.result c.power_of_ten-ten.result c.wider.result
+    s.requires.1 d.measure-m.ensures.sign (rounded d) c.power_of_ten-ten.ensures
+    (c.wider.ensures ∙ ap (max s.args.width) c.places.ensures.0)

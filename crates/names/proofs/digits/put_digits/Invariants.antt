@@ -1,0 +1,18 @@
+-- `names::digits::put_digits` meets its contract: writing the digits that are left makes the whole. Assumes nothing.
+use mathlib.Core.Path.{◌≡◌, refl, sym, ap, ◌∙◌}
+use Prim.Native.Nat.{ℕ, suc, ◌+◌, ◌-◌, ◌%◌, ◌≤◌}
+use native.Mathlib.Omega.{arith}
+use borrow.Author.Rules.{rules}
+use lib.ListN.{length, length-set}
+use Rattle.definitions.specs.Names.{digits, digit0}
+use Rattle.names.specs.Put.{put}
+use Rattle.names.proofs.PutLaws.{put-none}
+use Rattle.names.proofs.DigitLaws.{put-digit}
+use Rattle.names.proofs.digits.put_digits.Given as goal
+
+abbrev pub invariant-loop-i : goal.invariant-loop-i
+invariant-loop-i l =
+    (l.i ≤ l.width) × (length l.out ≡ length l.initial.out) × (put l.out l.at (digits l.i l.left) ≡ put l.initial.out l.at (digits l.width l.n))
+
+abbrev pub decreases-loop-i : goal.decreases-loop-i
+decreases-loop-i l = l.i

@@ -1,0 +1,45 @@
+-- `names::magnitude::decimals` meets its contract: high and low are the product with 10 ^ k. Assumes nothing.
+use borrow.Author.Rules.{rules}
+use native.Mathlib.Omega.{arith}
+use mathlib.Core.Path.{ap, ap₂, ◌∙◌}
+use Prim.Native.Nat.{ℕ, ◌≤◌, ◌*◌}
+use lib.Ieee.Nearest.{closest}
+use Rattle.names.proofs.RoundingLaws.{ten-le, low-lt, high_lt, product, shift-parts}
+use Rattle.names.proofs.magnitude.decimals.Goals.{After-power_of_ten-ten}
+use Rattle.names.proofs.magnitude.decimals.Goals as goal
+
+small : (c : After-power_of_ten-ten) → c.power_of_ten-ten.result ≤ 1000000
+small c = omega (arith, ten-le c.args.k c.requires.2)
+
+pub overflow_mul-low : goal.overflow_mul-low
+overflow_mul-low c = omega (arith, low-lt c.args.m.digits c.power_of_ten-ten.result c.requires.0 (small c.before))
+
+pub overflow_mul-high : goal.overflow_mul-high
+overflow_mul-high c =
+    let s = c.before.before.before in
+    omega (arith, high_lt s.args.m.digits c.power_of_ten-ten.result s.requires.0 (small c.before.before))
+
+pub overflow_add-high : goal.overflow_add-high
+overflow_add-high c =
+    let s = c.before.before.before in
+    let ten = c.power_of_ten-ten.result in
+    omega (arith, high_lt s.args.m.digits ten s.requires.0 (small c.before.before), low-lt s.args.m.digits ten s.requires.0 (small c.before.before))
+
+pub nearest-requires : goal.nearest-requires
+nearest-requires c =
+    let s = c.before.before.before.before in
+    let ten = c.power_of_ten-ten.result in
+    let few = small c.before.before.before in (
+      omega (arith, high_lt s.args.m.digits ten s.requires.0 few, low-lt s.args.m.digits ten s.requires.0 few),
+      omega arith,
+      omega arith,
+    )
+
+pub returns : goal.returns
+returns c =
+    let s = c.before.before.before.before.before in
+    let t = c.before.before.before.before in
+    c.nearest.ensures
+    ∙ ap₂ closest
+    (product s.args.m.digits t.power_of_ten-ten.result s.requires.0 (small t) ∙ ap (λ (n : ℕ). s.args.m.digits * n) t.power_of_ten-ten.ensures)
+    (shift-parts s.args.m.shift s.requires.1)

@@ -1,0 +1,16 @@
+-- `names::put_name` meets its contract: the three parts, one after the other. Assumes nothing.
+use borrow.Author.Rules.{rules}
+use mathlib.Core.Path.{ap}
+use Prim.Native.Nat.{ℕ, ◌+◌}
+use Rattle.names.specs.Body.{body_of}
+use Rattle.names.proofs.NameLaws.{name-put}
+use Rattle.names.proofs.put_name.Goals as goal
+
+pub returns : goal.returns
+returns c =
+    let d = c.before.before.before.before.before.before in
+    let b = d.before.before.before.before in
+    let n = b.before.before in
+    let s = n.before.before.before in
+    name-put s.args.out.now s.args.template.now s.args.p (body_of s.args.b) s.requires.0.0 s.requires.0.1 s.requires.1.0 _ _ _ _
+    b.put_bytes.ensures d.put_body.ensures (ap (λ (k : ℕ). s.args.p.first + k) n.body_length.ensures) c.put_bytes-2.ensures

@@ -1,0 +1,59 @@
+-- `pages::placing::move_set` meets its contract: five parts come back in their places. Assumes nothing.
+use Prim.Native.Nat.{◌+◌, ◌-◌, ◌*◌, ◌≤◌}
+use mathlib.Core.Path.{◌≡◌, refl, sym, subst}
+use native.Mathlib.Omega.{arith}
+use borrow.Author.Rules.{rules}
+use lib.ListN.{length, take, drop}
+use Rattle.definitions.specs.declared.LayerOffset.{LayerOffset}
+use Rattle.resolver.specs.declared.Resolver.{Resolver}
+use Rattle.resolver.specs.declared.Accepted.{Accepted}
+use Rattle.resolver.specs.State.{Made, lent_state}
+use Rattle.resolver.specs.Promises as desk
+use Rattle.pages.specs.Pages.{page_state}
+use Rattle.pages.proofs.Parts.{part-to}
+use Rattle.pages.proofs.LentPages.{back}
+module _ (s : tie.Start) where
+  in-starts : s.args.i * 256 + 256 ≤ length s.args.starts.now
+  in-starts = omega (arith, s.requires.0.of-starts, s.requires.1.0)
+  in-numbers : s.args.i * 256 + 256 ≤ length s.args.numbers.now
+  in-numbers = omega (arith, s.pre.0.of-numbers, s.pre.1.0)
+  in-xs : s.args.i * 512 + 512 ≤ length s.args.xs.now
+  in-xs = omega (arith, s.pre.0.of-xs, s.pre.1.0)
+  in_ys : s.args.i * 512 + 512 ≤ length s.args.ys.now
+  in_ys = omega (arith, s.pre.0.of-ys, s.pre.1.0)
+  in_blocks : s.args.i * 256 + 256 ≤ length s.args.blocks.now
+  in_blocks = omega (arith, s.pre.0.of_blocks, s.pre.1.0)
+  -- the state as it is lent
+  abbrev lent : Resolver
+  lent =
+      let a = s.args.i * 256 in
+      let b = s.args.i * 512 in
+      lent_state s.args.shape (take (a + 256 - a) (drop a s.args.starts.now)) (take (a + 256 - a) (drop a s.args.numbers.now)) (take (b + 512 - b) (drop b s.args.xs.now)) (take (b + 512 - b) (drop b s.args.ys.now)) (take (a + 256 - a) (drop a s.args.blocks.now))
+  lent-is : lent ≡ page_state s.args.shape s.args.i s.args.starts.now s.args.numbers.now s.args.xs.now s.args.ys.now s.args.blocks.now
+  lent-is =
+      let a = s.args.i * 256 in
+      let b = s.args.i * 512 in
+      λ k. lent_state s.args.shape (part-to a 256 s.args.starts.now k) (part-to a 256 s.args.numbers.now k) (part-to b 512 s.args.xs.now k) (part-to b 512 s.args.ys.now k) (part-to a 256 s.args.blocks.now k)
+use Rattle.pages.proofs.placing.move_set.Goals as goal
+
+pub retime-requires : goal.retime-requires
+retime-requires c = let s = c.before.before.before.before.before.before.before.before.before.before in subst Made (sym (lent-is s)) s.requires.1.1
+
+pub returns : goal.returns
+returns c =
+    let s = c.before.before.before.before.before.before.before.before.before.before.before.before.before.before.before.before.before.before.before.before.before in
+    let k = c.retime in
+    let w = k.ensures.made.whole in
+    let a = s.args.i * 256 in
+    let b = s.args.i * 512 in
+    let own : Resolver = lent_state k.result.shape k.new.1.0 k.new.1.1.0 k.new.1.1.1.0 k.new.1.1.1.1.0 k.new.1.1.1.1.1.0 in
+    record {
+      own = own;
+      retimes = subst (λ (x : Resolver). desk.Retimes x s.args.o (record { number = k.result.number; resolver = own })) (lent-is s) k.ensures;
+      is = refl;
+      starts-after = back a 256 s.args.starts.now (in-starts s) k.new.1.0 w.in-starts.long;
+      numbers_after = back a 256 s.args.numbers.now (in-numbers s) k.new.1.1.0 w.in-numbers.long;
+      xs-after = back b 512 s.args.xs.now (in-xs s) k.new.1.1.1.0 w.in-xs.long;
+      ys-after = back b 512 s.args.ys.now (in_ys s) k.new.1.1.1.1.0 w.in_ys.long;
+      blocks-after = back a 256 s.args.blocks.now (in_blocks s) k.new.1.1.1.1.1.0 w.in_blocks.long;
+    }

@@ -1,0 +1,54 @@
+-- `pages::placing::put_set` meets its contract: five parts come back in their places. Assumes nothing.
+use Prim.Native.Nat.{◌+◌, ◌*◌, ◌≤◌}
+use mathlib.Core.Path.{refl}
+use native.Mathlib.Omega.{arith}
+use borrow.Author.Rules.{rules}
+use lib.ListN.{length}
+use Rattle.resolver.specs.State.{lent_state}
+use Rattle.pages.proofs.LentPages.{lent-long, back}
+module _ (s : tie.Start) where
+  in-starts : s.args.i * 256 + 256 ≤ length s.args.starts.now
+  in-starts = omega (arith, s.requires.0.of-starts, s.requires.1.0)
+  in-numbers : s.args.i * 256 + 256 ≤ length s.args.numbers.now
+  in-numbers = omega (arith, s.pre.0.of-numbers, s.pre.1.0)
+  in-xs : s.args.i * 512 + 512 ≤ length s.args.xs.now
+  in-xs = omega (arith, s.pre.0.of-xs, s.pre.1.0)
+  in_ys : s.args.i * 512 + 512 ≤ length s.args.ys.now
+  in_ys = omega (arith, s.pre.0.of-ys, s.pre.1.0)
+  in_blocks : s.args.i * 256 + 256 ≤ length s.args.blocks.now
+  in_blocks = omega (arith, s.pre.0.of_blocks, s.pre.1.0)
+use Rattle.pages.proofs.placing.put_set.Goals as goal
+
+pub install-requires : goal.install-requires
+install-requires c =
+    let s = c.before.before.before.before.before.before.before.before.before.before.before in
+    let a = s.args.i * 256 in
+    let b = s.args.i * 512 in (
+      (c.fresh.ensures _ _ _ _ _ (record {
+        of-starts = lent-long a 256 s.args.starts.now (in-starts s);
+        of-numbers = lent-long a 256 s.args.numbers.now (in-numbers s);
+        of-xs = lent-long b 512 s.args.xs.now (in-xs s);
+        of-ys = lent-long b 512 s.args.ys.now (in_ys s);
+        of_blocks = lent-long a 256 s.args.blocks.now (in_blocks s);
+      })).made,
+      s.requires.1.1,
+    )
+
+pub returns : goal.returns
+returns c =
+    let s = c.before.before.before.before.before.before.before.before.before.before.before.before.before.before.before.before.before.before.before.before.before.before in
+    let k = c.install in
+    let w = k.ensures.made.whole in
+    let a = s.args.i * 256 in
+    let b = s.args.i * 512 in
+    record {
+      before = _;
+      own = lent_state k.result k.new.1.0 k.new.1.1.0 k.new.1.1.1.0 k.new.1.1.1.1.0 k.new.1.1.1.1.1.0;
+      installs = k.ensures;
+      is = refl;
+      starts-after = back a 256 s.args.starts.now (in-starts s) k.new.1.0 w.in-starts.long;
+      numbers_after = back a 256 s.args.numbers.now (in-numbers s) k.new.1.1.0 w.in-numbers.long;
+      xs-after = back b 512 s.args.xs.now (in-xs s) k.new.1.1.1.0 w.in-xs.long;
+      ys-after = back b 512 s.args.ys.now (in_ys s) k.new.1.1.1.1.0 w.in_ys.long;
+      blocks-after = back a 256 s.args.blocks.now (in_blocks s) k.new.1.1.1.1.1.0 w.in_blocks.long;
+    }

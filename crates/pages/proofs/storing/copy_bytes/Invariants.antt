@@ -1,0 +1,14 @@
+-- `pages::storing::copy_bytes` meets its contract: the first i entries are copied. Assumes nothing.
+use Prim.Native.Nat.{◌-◌}
+use mathlib.Core.Path.{◌≡◌, refl, ◌∙◌}
+use native.Mathlib.Omega.{arith}
+use borrow.Author.Rules.{rules}
+use lib.ListN.{length, length-set}
+use Rattle.lists.proofs.Filled.{Filled, fill_start, fill-next, fill-whole}
+use Rattle.pages.proofs.storing.copy_bytes.Given as goal
+
+abbrev pub invariant-loop-i : goal.invariant-loop-i
+invariant-loop-i l = Filled l.from l.to l.i × (length l.to ≡ length l.from)
+
+abbrev pub decreases-loop-i : goal.decreases-loop-i
+decreases-loop-i l = length l.from - l.i

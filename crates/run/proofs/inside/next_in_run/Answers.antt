@@ -1,0 +1,86 @@
+-- `run::inside::next_in_run` meets its contract. Assumes nothing.
+use native.Mathlib.Omega.{arith}
+use Prim.Native.Nat.{suc, ◌-◌}
+use mathlib.Core.Path.{◌≡◌}
+use Rattle.definitions.specs.declared.Knot.{Knot}
+use Rattle.laws.proofs.list.Tests.{holds}
+use Rattle.run.proofs.Runs.{end-up, over-end, span-up, step-up, end-down, under-end, span-down, step_down, end-flat}
+use borrow.Author.Rules.{rules}
+use Rattle.run.proofs.inside.next_in_run.Goals.{Start as At-start, Then-n-gt0}
+use Rattle.run.proofs.inside.next_in_run.Goals as goal
+
+-- the segment
+abbrev q : At-start → Knot × Knot
+q a = (a.args.s.a, a.args.s.b)
+
+pub sample_in_run-requires : goal.sample_in_run-requires
+sample_in_run-requires c =
+    let n = c.before.before in
+    let u = n.before in
+    let a = u.before.before in
+    (a.requires.0, (a.requires.1.0, (n.if-n-cs.true, span-up a.args.cs.now a.requires.1.0 (q a) a.requires.0 a.args.n a.requires.1.1.key a.args.hi a.requires.1.1.here (holds _ u.if-ca-cb.true) n.if-n-cs.true (holds _ c.if-cs-n.true))))
+
+pub returns-then-cs-n : goal.returns-then-cs-n
+returns-then-cs-n c = λ k P.
+    let h = c.before in
+    let n = h.before.before in
+    let u = n.before in
+    let a = u.before.before in
+    step-up a.args.cs.now a.requires.1.0 (q a) a.requires.0 a.args.n k a.args.hi P (holds _ u.if-ca-cb.true) n.if-n-cs.true (holds _ h.if-cs-n.true) c.sample_in_run.result c.sample_in_run.ensures
+
+pub returns-else-cs-n : goal.returns-else-cs-n
+returns-else-cs-n c = λ k P.
+    let n = c.before.before in
+    let u = n.before in
+    let a = u.before.before in
+    over-end a.args.cs.now a.requires.1.0 (q a) a.requires.0 a.args.n k a.args.hi P (holds _ u.if-ca-cb.true) n.if-n-cs.true c.if-cs-n.false
+
+pub returns-else-n-cs : goal.returns-else-n-cs
+returns-else-n-cs c = λ k P.
+    let u = c.before in
+    let a = u.before.before in
+    let h = c.if-n-cs.false in
+    end-up a.args.cs.now a.requires.1.0 (q a) a.requires.0 a.args.n k a.args.hi P (holds _ u.if-ca-cb.true) (omega arith)
+
+pub bounds-cs-before : goal.bounds-cs-before
+bounds-cs-before c = let p = c.before in let a = p.before.before.before.before in let h = p.if-n-gt0.true in omega (arith, a.requires.1.1.here.upto)
+
+-- the sample before the place
+before : (c : Then-n-gt0) → suc (c.args.n - 1) ≡ c.args.n
+before c = let h = c.if-n-gt0.true in omega arith
+
+pub sample_in_run-requires-then-cb-cs : goal.sample_in_run-requires-then-cb-cs
+sample_in_run-requires-then-cb-cs c =
+    let p = c.before.before in
+    let d = p.before in
+    let a = d.before.before.before in
+    let h = p.if-n-gt0.true in
+    (a.requires.0, (a.requires.1.0, (omega (arith, a.requires.1.1.here.upto), span-down a.args.cs.now a.requires.1.0 (q a) a.requires.0 a.args.n a.requires.1.1.key a.args.hi a.requires.1.1.here (holds _ d.if-cb-ca.true) (a.args.n - 1) (before p) (holds _ c.if-cb-cs.true))))
+
+pub returns-then-cb-cs : goal.returns-then-cb-cs
+returns-then-cb-cs c = λ k P.
+    let e = c.before in
+    let p = e.before.before in
+    let d = p.before in
+    let a = d.before.before.before in
+    step_down a.args.cs.now a.requires.1.0 (q a) a.requires.0 a.args.n k a.args.hi P (holds _ d.if-cb-ca.true) (a.args.n - 1) (before p) (holds _ e.if-cb-cs.true) c.sample_in_run-then-cb-cs.result c.sample_in_run-then-cb-cs.ensures
+
+pub returns-else-cb-cs : goal.returns-else-cb-cs
+returns-else-cb-cs c = λ k P.
+    let p = c.before.before in
+    let d = p.before in
+    let a = d.before.before.before in
+    under-end a.args.cs.now a.requires.1.0 (q a) a.requires.0 a.args.n k a.args.hi P (holds _ d.if-cb-ca.true) (a.args.n - 1) (before p) c.if-cb-cs.false
+
+pub returns-else-n-gt0 : goal.returns-else-n-gt0
+returns-else-n-gt0 c = λ k P.
+    let d = c.before in
+    let a = d.before.before.before in
+    let h = c.if-n-gt0.false in
+    end-down a.args.cs.now a.requires.1.0 (q a) a.requires.0 a.args.n k a.args.hi P (holds _ d.if-cb-ca.true) (omega arith)
+
+pub returns-else-cb-ca : goal.returns-else-cb-ca
+returns-else-cb-ca c = λ k P.
+    let o = c.before in
+    let a = o.before.before in
+    end-flat a.args.cs.now a.requires.1.0 (q a) a.requires.0 a.args.n k a.args.hi P o.if-ca-cb.false c.if-cb-ca.false

@@ -1,0 +1,39 @@
+-- `set_changes::accept_template` meets its contract: 23, then the numbers of the fields, else the set behind the others. Assumes nothing.
+use mathlib.Core.Path.{sym, ◌∙◌}
+use borrow.Author.Rules.{rules}
+use Rattle.definitions.specs.Template.{TemplateFields}
+use Rattle.clip.specs.Holding.{manifest}
+use Rattle.template.specs.Expanding.{template_fields}
+use Rattle.pages.specs.Pages.{Pages, pages}
+use Rattle.set_changes.proofs.Taken.{expand-refused, template-refused, expands}
+use Rattle.set_changes.proofs.accept_template.Goals.{Start as At-start}
+use Rattle.set_changes.proofs.accept_template.Goals as goal
+
+abbrev lent : At-start → Pages
+lent s = let a = s.args in pages a.starts.now a.numbers.now a.xs.now a.ys.now a.blocks.now a.defaults.now a.counts.now a.bytes.now
+
+abbrev fields : At-start → TemplateFields
+fields s = let a = s.args in template_fields a.template.now a.times a.offset a.newblocks.now (manifest a.default a.interpolate)
+
+pub returns-then-number-ne0 : goal.returns-then-number-ne0
+returns-then-number-ne0 c =
+    let s = c.before.before.before.before.before.before.before.before.before.before.before.before.before.before in
+    expand-refused (lent s) s.requires s.args.name.now s.args.declares (fields s) _ c.name_number-number.ensures c.if-number-ne0.true
+
+pub returns-then-expanded-ne0 : goal.returns-then-expanded-ne0
+returns-then-expanded-ne0 c =
+    let e = c.before.before.before in
+    let s = c.before.before.before.before.before.before.before.before.before.before.before.before.before.before.before.before.before in
+    template-refused (lent s) s.requires s.args.name.now s.args.declares (fields s) _ c.expand_template-expanded.ensures (sym e.name_number-number.ensures ∙ e.if-number-ne0.false) c.if-expanded-ne0.true
+
+pub extend-requires : goal.extend-requires
+extend-requires c =
+    let e = c.before.before.before.before.before.before.before.before.before.before.before in
+    let s = c.before.before.before.before.before.before.before.before.before.before.before.before.before.before.before.before.before.before.before.before.before.before.before.before.before.before in
+    (s.requires, (c.expand_template-expanded.ensures.made, sym e.name_number-number.ensures ∙ e.if-number-ne0.false))
+
+pub returns : goal.returns
+returns c =
+    let e = c.before.before.before.before.before.before.before.before.before.before.before.before.before.before.before.before.before.before.before.before.before.before.before.before.before.before.before.before in
+    let s = c.before.before.before.before.before.before.before.before.before.before.before.before.before.before.before.before.before.before.before.before.before.before.before.before.before.before.before.before.before.before.before.before.before.before.before.before.before.before.before.before.before.before.before in
+    expands (lent s) s.requires s.args.name.now s.args.declares (fields s) _ c.expand_template-expanded.ensures _ (sym e.name_number-number.ensures ∙ e.if-number-ne0.false) c.if-expanded-ne0.false c.extend.ensures

@@ -1,0 +1,47 @@
+-- `set_names::find` meets its contract: the names before the i-th are others. Assumes nothing.
+use Prim.Native.Nat.{ℕ, ◌+◌, ◌-◌, ◌*◌, ◌≤◌}
+use mathlib.Core.Path.{◌≡◌, sym, ◌∙◌, ap}
+use mathlib.Core.List.{List}
+use native.Mathlib.Omega.{arith}
+use borrow.Author.Rules.{rules}
+use lib.ListN.{length, get_or}
+use Rattle.dispatch.specs.SetOrder.{same_name}
+use Rattle.set_names.specs.Pages.{name_page, name_in}
+use Rattle.set_names.proofs.InPages.{lent-name, name-ends}
+use Rattle.set_names.proofs.Search.{Searched, unsearched, found_here, not-here, nowhere}
+use Rattle.set_names.proofs.find.Goals.{After-is_same, After-shared_slice_known-in-loop-i-1, Start as At-start}
+use Rattle.set_names.proofs.find.Goals as goal
+
+abbrev entry : After-shared_slice_known-in-loop-i-1 → At-start
+entry c = c.before.before.before.before.before
+
+-- the i-th name ends within the pages
+ends : (c : After-shared_slice_known-in-loop-i-1) → c.loop-i.i * name_page + 1 + get_or (entry c).args.bytes.now (c.loop-i.i * name_page) 0 ≤ length (entry c).args.bytes.now
+ends c = name-ends _ (entry c).args.n c.loop-i.i (entry c).requires.0 c.loop-i-test.true
+
+compared : (c : After-is_same) → c.is_same.result ≡ same_name (name_in (entry c.before.before).args.bytes.now c.loop-i.i) (entry c.before.before).args.name.now
+compared c = let a = (entry c.before.before).args in c.is_same.ensures ∙ ap (λ (l : List ℕ). same_name l a.name.now) (lent-name a.bytes.now c.loop-i.i)
+
+pub loop-i-init : goal.loop-i-init
+loop-i-init c = unsearched _ _ _
+
+pub bounds-bytes-at : goal.bounds-bytes-at
+bounds-bytes-at c = omega (arith, ends c)
+
+pub overflow_cast-end : goal.overflow_cast-end
+overflow_cast-end c = omega (arith, ends c)
+
+pub overflow_add-end : goal.overflow_add-end
+overflow_add-end c = omega (arith, ends c)
+
+pub slice_bounds-is_same-end : goal.slice_bounds-is_same-end
+slice_bounds-is_same-end c = omega (arith, ends c)
+
+pub returns-then-is_same : goal.returns-then-is_same
+returns-then-is_same c = let k = c.before.before.before.before.before in found_here _ _ _ k.loop-i.i (omega arith) k.loop-i.invariant (sym c.if-is_same.true ∙ compared c.before)
+
+pub loop-i-preserved : goal.loop-i-preserved
+loop-i-preserved c = let k = c.before.before.before.before.before in not-here _ _ _ k.loop-i.i (omega arith) k.loop-i.invariant (sym c.if-is_same.false ∙ compared c.before)
+
+pub returns : goal.returns
+returns c = nowhere _ _ _ _ (omega arith) c.loop-i.invariant

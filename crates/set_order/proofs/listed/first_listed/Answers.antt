@@ -1,0 +1,93 @@
+-- `set_order::listed::first_listed` meets its contract: the names before the i-th are passed, and those from it on answer for all. Assumes nothing.
+use Prim.Native.Nat.{ℕ, ◌-◌, ◌<◌}
+use mathlib.Core.Path.{◌≡◌, sym, ap, ◌∙◌}
+use mathlib.Core.List.{List}
+use mathlib.Core.Option.{some}
+use native.Mathlib.Omega.{arith}
+use borrow.Author.Rules.{rules}
+use lib.ListN.{length}
+use Rattle.dispatch.specs.SetOrder.{set_number}
+use Rattle.set_names.specs.Pages.{names_in, number_of}
+use Rattle.set_names.proofs.InPages.{names-long}
+use Rattle.set_order.proofs.Ends.{name, end_after, end-within}
+use Rattle.set_order.proofs.Mentions.{found_below}
+use Rattle.set_order.proofs.Passed.{Passed, none_passed, unknown, again, answers, placed, nobody}
+use Rattle.set_order.proofs.listed.first_listed.Goals.{At-loop-i, In-At, Start as At-start}
+use Rattle.set_order.proofs.listed.first_listed.Goals as goal
+
+abbrev entry : At-loop-i → At-start
+entry c = c.before.before.before.before.before.before
+
+-- the names of the sets
+abbrev sets : At-loop-i → List (List ℕ)
+sets c = let a = (entry c).args in names_in a.names.now (length a.starts.now)
+
+-- ---- a name that a set has
+abbrev walked : In-At → At-loop-i
+walked c = c.before.before.before.before.before.before.before
+
+abbrev number : In-At → ℕ
+number c = c.before.found.given.0.0
+
+is_number : (c : In-At) → let a = (entry (walked c)).args in some (number c) ≡ set_number (name a.bytes.now a.ends.now (walked c).loop.begin (walked c).loop.i) (sets (walked c))
+is_number c = sym (ap number_of c.in-At.is) ∙ c.find-found.ensures
+
+is_set : (c : In-At) → number c < length (entry (walked c)).args.starts.now
+is_set c =
+    let a = (entry (walked c)).args in
+    omega (arith, found_below _ _ (number c) (is_number c), names-long a.names.now (length a.starts.now))
+
+-- ---- the needs
+pub loop-i-init : goal.loop-i-init
+loop-i-init c = none_passed _ _ _ _ _ c.requires.1.1.1
+
+pub slice_bounds-find-count : goal.slice_bounds-find-count
+slice_bounds-find-count c = let k = c.loop-i in end_after _ _ k.begin k.i k.invariant.walk (omega arith)
+
+pub slice_bounds-find-start : goal.slice_bounds-find-start
+slice_bounds-find-start c = let k = c.loop-i in end_after _ _ k.begin k.i k.invariant.walk (omega arith)
+
+pub slice_bounds-find-end : goal.slice_bounds-find-end
+slice_bounds-find-end c = let k = c.loop-i in end-within _ _ k.begin k.i k.invariant.walk (omega arith)
+
+pub find-found-requires : goal.find-found-requires
+find-found-requires c = let p = (entry c.before.before.before).pre in (p.0, p.1.0)
+
+pub loop-i-preserved-in_default : goal.loop-i-preserved-in_default
+loop-i-preserved-in_default c =
+    let k = c.loop-i in
+    unknown _ _ _ _ _ k.met k.place k.begin k.i k.invariant (omega arith) (sym (ap number_of c.in_default.is) ∙ c.find-found.ensures)
+
+pub bounds-met-k : goal.bounds-met-k
+bounds-met-k c = omega (arith, is_set c, (entry (walked c)).pre.1.0)
+
+pub loop-i-preserved-then-met-k : goal.loop-i-preserved-then-met-k
+loop-i-preserved-then-met-k c =
+    let k = (walked c.before).loop in
+    again _ _ _ _ _ k.met k.place k.begin k.i k.inv (omega arith) (number c.before) (is_number c.before) c.if-met-k.true
+
+pub qualifies-requires : goal.qualifies-requires
+qualifies-requires c = (is_set c.before, (entry (walked c.before)).pre.1.1.0)
+
+pub returns-then-qualifies : goal.returns-then-qualifies
+returns-then-qualifies c =
+    let n = c.before.before.before in
+    let k = (walked n).loop in
+    let p = (entry (walked n)).pre in
+    answers _ _ _ _ _ k.met k.place k.begin k.i k.inv (omega arith) (number n) (is_number n) c.if-met-k.false p.1.0 p.1.1.0 (is_set n) (sym c.qualifies.ensures ∙ c.if-qualifies.true)
+
+pub bounds-met-k-in-loop-i : goal.bounds-met-k-in-loop-i
+bounds-met-k-in-loop-i c = let n = c.before.before.before in omega (arith, is_set n, (entry (walked n)).pre.1.0)
+
+pub overflow_add-place : goal.overflow_add-place
+overflow_add-place c = let k = walked c.before.before.before in omega (arith, k.loop.inv.counted)
+
+pub loop-i-preserved : goal.loop-i-preserved
+loop-i-preserved c =
+    let n = c.before.before.before in
+    let k = (walked n).loop in
+    let p = (entry (walked n)).pre in
+    placed _ _ _ _ _ k.met k.place k.begin k.i k.inv (omega arith) (number n) (is_number n) c.if-met-k.false p.1.0 p.1.1.0 (is_set n) (sym c.qualifies.ensures ∙ c.if-qualifies.false)
+
+pub returns : goal.returns
+returns c = let k = c.loop-i in nobody _ _ _ _ _ k.met k.place k.begin k.i k.invariant (omega arith)

@@ -1,0 +1,45 @@
+-- `set_questions::read_at` meets its contract: the lists that it lends are the set's page. Assumes nothing.
+use Prim.Native.Nat.{◌<◌}
+use native.Mathlib.Omega.{arith}
+use Rattle.laws.specs.list.Every.{Every}
+use Rattle.laws.specs.list.Places.{Fits}
+use Rattle.sdf.proofs.Lent.{every-fits}
+use Rattle.pages.specs.Pages.{Pages, pages}
+use Rattle.set_questions.proofs.Asked.{page-asked, page-read}
+use borrow.Author.Rules.{rules}
+use Rattle.set_questions.proofs.read_at.Goals.{After-shape_at-shape, Start as At-start}
+use Rattle.set_questions.proofs.read_at.Goals as goal
+
+abbrev sets : At-start → Pages
+sets s = let a = s.args in pages a.starts.now a.numbers.now a.xs.now a.ys.now a.blocks.now a.defaults.now a.counts.now a.bytes.now
+
+abbrev entry : After-shape_at-shape → At-start
+entry c = c.before.before.before.before.before.before.before.before.before.before.before.before.before
+
+few : (s : At-start) → s.args.k < 16
+few s = omega (arith, s.requires.1.0, s.requires.0.names.few)
+
+pub offset_bounds-blocks-a : goal.offset_bounds-blocks-a
+offset_bounds-blocks-a c = omega (arith, few (entry c.before.before.before.before))
+
+pub slice_bounds-value-end-5 : goal.slice_bounds-value-end-5
+slice_bounds-value-end-5 c = let s = entry c.before.before.before.before in omega (arith, few s, s.pre.0.long.of_blocks)
+
+-- the doubles of lent lists are ones that a program can hold
+times-fit : (c : After-shape_at-shape) → Every Fits (entry c).args.times.now
+times-fit c = every-fits (entry c).args.times.now (λ i. c.shared_slice_known-9-1.given i)
+
+values-fit : (c : After-shape_at-shape) → Every Fits (entry c).args.values.now
+values-fit c = every-fits (entry c).args.values.now (λ i. c.shared_slice_known-10-1.given i)
+
+pub value-requires : goal.value-requires
+value-requires c =
+    let q = c.before.before.before.before.before in
+    let s = entry q in
+    (page-asked (sets s) s.pre.0 s.args.k s.pre.1.0 q.shape_at-shape.result q.shape_at-shape.ensures _ _ _ _ s.pre.1.1.0 (times-fit q) (values-fit q), s.pre.1.1.1)
+
+pub returns : goal.returns
+returns c =
+    let q = c.before.before.before.before.before.before in
+    let s = entry q in
+    page-read (sets s) s.pre.0 s.args.k s.pre.1.0 q.shape_at-shape.result q.shape_at-shape.ensures s.args.times.now s.args.values.now s.args.marks.now s.args.ends.now s.pre.1.1.0 (times-fit q) (values-fit q) s.args.t _ c.value.ensures

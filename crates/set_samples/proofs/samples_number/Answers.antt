@@ -1,0 +1,48 @@
+-- `set_samples::samples_number` meets its contract: the six tests of 1, then the parts. Assumes nothing.
+use mathlib.Core.Path.{sym, ◌∙◌, subst}
+use mathlib.Core.Bool.{true≢false}
+use borrow.Author.Rules.{rules}
+use Rattle.set_samples.specs.declared.Total.TheVariants.{Sum}
+use Rattle.set_samples.specs.Parting.{lent_samples, Totals}
+use Rattle.set_samples.proofs.Misshapen.{parted, refused}
+use Rattle.set_samples.proofs.samples_number.Goals.{In-Sum}
+use Rattle.set_samples.proofs.samples_number.Goals as goal
+
+pub returns-then-values-times : goal.returns-then-values-times
+returns-then-values-times c = refused _ _ (λ p. c.if-values-times.true p.values-alike)
+
+pub returns-then-marks-times : goal.returns-then-marks-times
+returns-then-marks-times c = refused _ _ (λ p. c.if-marks-times.true p.marks-alike)
+
+pub returns-then-counts-clips : goal.returns-then-counts-clips
+returns-then-counts-clips c = refused _ _ (λ p. c.if-counts-clips.true p.counts-are)
+
+pub returns-in_default : goal.returns-in_default
+returns-in_default c = refused _ _ (λ p. true≢false (sym (subst (Totals _) c.in_default.is c.total_samples-all.ensures) ∙ p.few))
+
+-- the counts within the limit, and their sum
+summed : (c : In-Sum) → Totals c.args.counts.now (Sum c.in-Sum.samples)
+summed c = subst (Totals _) c.in-Sum.is c.total_samples-all.ensures
+
+pub returns-then-samples-times : goal.returns-then-samples-times
+returns-then-samples-times c = refused _ _ (λ p. c.if-samples-times.true ((summed c.before).1 ∙ p.samples-are))
+
+pub returns-then-ends-total_clips : goal.returns-then-ends-total_clips
+returns-then-ends-total_clips c = refused _ _ (λ p. c.if-ends-total_clips.true (p.ends-are ∙ sym c.total_clips.ensures))
+
+pub parts_number-requires : goal.parts_number-requires
+parts_number-requires c =
+    let four = c.before.before in
+    let three = four.before.before.before in
+    let two = three.before in
+    let s = two.before.before.before.before.before.before.before.before in (
+      s.requires,
+      parted s.args.clips.now (lent_samples s.args.counts.now s.args.ends.now s.args.times.now s.args.values.now s.args.marks.now) record {
+        values-alike = two.if-values-times.false;
+        marks-alike = two.if-marks-times.false;
+        counts-are = three.if-counts-clips.false;
+        few = (summed four.before).0;
+        samples-are = sym (summed four.before).1 ∙ four.if-samples-times.false;
+        ends-are = c.if-ends-total_clips.false ∙ c.total_clips.ensures;
+      },
+    )

@@ -1,0 +1,105 @@
+-- `stage::stage_samples` meets its contract: the times are counted, then written, then the marks at them. Assumes nothing.
+use Prim.Native.Nat.{◌≤◌, min}
+use native.Mathlib.Nat.{min-le_left, min-le_right, le_trans}
+use mathlib.Core.Path.{◌≡◌, refl, sym, ap, ◌∙◌}
+use mathlib.Core.List.{List}
+use native.Mathlib.Omega.{arith}
+use lib.ListN.{length}
+use lib.Seq.{length-take-le}
+use lib.Ieee.{Float}
+use Rattle.definitions.specs.ClipSet.{ClipSet}
+use Rattle.definitions.specs.Samples.{Samples}
+use Rattle.laws.specs.cell.Lent.{samples_of}
+use Rattle.stage.specs.Times.{times_of}
+use Rattle.stage.specs.Marks.{unblocked}
+use Rattle.stage.proofs.Accepted.{accepted-times, stage-times}
+use Rattle.stage.proofs.Writing.{length-written}
+use Rattle.stage.proofs.Samples.{samples-written, samples-none}
+use borrow.Author.Rules.{rules}
+use Rattle.stage.proofs.stage_samples.Goals.{After-shorter-room, After-write_times-count, Start as At-start, Then-counted-room}
+use Rattle.stage.proofs.stage_samples.Goals as goal
+
+abbrev entry : After-shorter-room → At-start
+entry k = k.before.before.before.before.before.before.before.before.before.before.before.before
+
+abbrev set : At-start → ClipSet
+set s = unblocked s.args.starts.now s.args.clips.now s.args.xs.now s.args.ys.now s.args.m s.args.ends.now
+
+abbrev lent : At-start → Samples
+lent s = samples_of s.args.times.now s.args.values.now s.args.marks.now s.args.ends.now
+
+abbrev all : At-start → List Float
+all s = times_of s.args.starts.now s.args.clips.now s.args.xs.now s.args.ys.now s.args.times.now s.args.ends.now
+
+-- before the times were counted
+abbrev asked : Then-counted-room → After-shorter-room
+asked c = c.before.before.before.before.before
+
+-- the shorter list has room for all
+room : (c : Then-counted-room) → let s = entry (asked c) in length (all s) ≤ min (length s.args.outtimes.now) (length s.args.outmarks.now)
+room c =
+    let k = asked c in
+    let s = entry k in
+    let r = k.shorter.ensures in
+    let e = c.count_within-counted.ensures in
+    let h = c.if-counted-room.true in
+    omega arith
+
+times-room : (c : Then-counted-room) → let s = entry (asked c) in length (all s) ≤ length s.args.outtimes.now
+times-room c = let s = entry (asked c) in le_trans (room c) (min-le_left (length s.args.outtimes.now) (length s.args.outmarks.now))
+
+marks-room : (c : Then-counted-room) → let s = entry (asked c) in length (all s) ≤ length s.args.outmarks.now
+marks-room c = let s = entry (asked c) in le_trans (room c) (min-le_right (length s.args.outtimes.now) (length s.args.outmarks.now))
+
+pub latest_inverses-reach-requires : goal.latest_inverses-reach-requires
+latest_inverses-reach-requires c =
+    let A = accepted-times c.requires in
+    (A.windows.readable.paired, (A.few, A.windows.readable.segments))
+
+pub count_within-counted-requires : goal.count_within-counted-requires
+count_within-counted-requires c = search (rules, accepted-times)
+
+pub write_times-count-requires : goal.write_times-count-requires
+write_times-count-requires c =
+    let k = c.before.before.before.before in
+    (accepted-times (entry (asked k)).requires, ((asked k).before.latest-inverses.ensures, times-room k))
+
+-- the times as they were written
+abbrev then : After-write_times-count → Then-counted-room
+then w = w.before.before.before.before.before
+
+times_long : (w : After-write_times-count) → length w.write_times-count.new.out ≡ length (entry (asked (then w))).args.outtimes.now
+times_long w = let s = entry (asked (then w)) in ap length w.write_times-count.ensures.1 ∙ length-written (all s) s.args.outtimes.now (times-room (then w))
+
+count_room : (w : After-write_times-count) → w.write_times-count.result ≤ length w.write_times-count.new.out
+count_room w = omega (arith, times_long w, times-room (then w), w.write_times-count.ensures.0)
+
+pub slice_bounds-write_marks-end : goal.slice_bounds-write_marks-end
+slice_bounds-write_marks-end c = count_room c.before.before
+
+pub slice_bounds-write_marks-end-then-counted-room : goal.slice_bounds-write_marks-end-then-counted-room
+slice_bounds-write_marks-end-then-counted-room c = let w = c.before.before.before in sym (length-take-le w.write-times.result w.write-times.new.1.1.1.1.1.1.1.0 (count_room w))
+
+pub write_marks-requires : goal.write_marks-requires
+write_marks-requires c =
+    let w = c.before.before.before.before in (
+      (entry (asked (then w))).requires,
+      omega (arith, length-take-le w.write-times.result w.write-times.new.1.1.1.1.1.1.1.0 (count_room w), marks-room (then w), w.write-times.ensures.0),
+    )
+
+pub returns-then-counted-room : goal.returns-then-counted-room
+returns-then-counted-room c =
+    let b = c.before.before in
+    let w = b.before.before.before.before.before in
+    let s = entry (asked (then w)) in
+    samples-written (set s) (lent s) (all s) (stage-times s.pre) s.args.outtimes.now w.write-times.new.1.1.1.1.1.1.1.0 s.args.outmarks.now _ w.write-times.result w.write-times.ensures.0 (room (then w)) w.write-times.ensures.1 b.write_marks.ensures
+
+pub returns : goal.returns
+returns c =
+    let k = c.before.before.before.before.before in
+    let s = entry k in
+    let r = k.shorter.ensures in
+    let e = c.count_within-counted.ensures in
+    let h = c.if-counted-room.false in
+    samples-none (set s) (lent s) (all s) (stage-times s.pre) s.args.outtimes.now s.args.outtimes.now s.args.outmarks.now s.args.outmarks.now
+    (omega arith) refl refl

@@ -1,0 +1,49 @@
+-- `standing::unpacked` meets its contract: each list is written over the front of a lent array. Assumes nothing.
+use mathlib.Core.Path.{sym}
+use borrow.Author.Rules.{rules}
+use Rattle.clip.proofs.Laws.{lent}
+use Rattle.standing.proofs.Arrays.{arrays-unpacked}
+use Rattle.standing.proofs.unpacked.Goals as goal
+
+pub slice_bounds-unpack_active-end-2 : goal.slice_bounds-unpack_active-end-2
+slice_bounds-unpack_active-end-2 c = let p = c.requires in sym (lent 256 _ _ p.1.of-starts p.0.active.few)
+
+pub slice_bounds-unpack_active-end-4 : goal.slice_bounds-unpack_active-end-4
+slice_bounds-unpack_active-end-4 c = let p = c.requires in sym (lent 256 _ _ p.1.of-numbers p.0.active.few)
+
+pub unpack_active-requires : goal.unpack_active-requires
+unpack_active-requires c =
+    let p = c.requires in
+    let h = p.0.active in
+    (h, (lent 256 _ _ p.1.of-starts h.few, lent 256 _ _ p.1.of-numbers h.few))
+
+pub slice_bounds-unpack_knots-end-2 : goal.slice_bounds-unpack_knots-end-2
+slice_bounds-unpack_knots-end-2 c = let p = c.requires in sym (lent 512 _ _ p.1.of-xs p.0.knots.few)
+
+pub slice_bounds-unpack_knots-end-4 : goal.slice_bounds-unpack_knots-end-4
+slice_bounds-unpack_knots-end-4 c = let p = c.requires in sym (lent 512 _ _ p.1.of-ys p.0.knots.few)
+
+pub unpack_knots-requires : goal.unpack_knots-requires
+unpack_knots-requires c =
+    let p = c.requires in
+    let h = p.0.knots in
+    (h, (lent 512 _ _ p.1.of-xs h.few, lent 512 _ _ p.1.of-ys h.few))
+
+pub slice_bounds-unpack_blocks-end-2 : goal.slice_bounds-unpack_blocks-end-2
+slice_bounds-unpack_blocks-end-2 c = let p = c.requires in sym (lent 256 _ _ p.1.of_blocks p.0.blocks.few)
+
+pub unpack_blocks-requires : goal.unpack_blocks-requires
+unpack_blocks-requires c =
+    let p = c.requires in
+    let h = p.0.blocks in
+    (h, lent 256 _ _ p.1.of_blocks h.few)
+
+pub returns : goal.returns
+returns c =
+    let s = c.before.before.before.before.before.before.before.before.before.before.before.before.before.before.before.before.before.before.before.before.before.before.before in
+    let a = s.args in
+    let starts = c.unpack_active in
+    let knots = c.unpack_knots in
+    let blocks = c.unpack_blocks in
+    arrays-unpacked a.set s.requires.0 a.starts.now a.numbers.now a.xs.now a.ys.now a.blocks.now s.requires.1 starts.new.1.0 starts.new.1.1.0 knots.new.1.0 knots.new.1.1.0
+    starts.ensures.0 starts.ensures.1 knots.ensures.0 knots.ensures.1 blocks.new.1.0 blocks.ensures

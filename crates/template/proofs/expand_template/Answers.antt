@@ -1,0 +1,106 @@
+-- `template::expand_template` meets its contract: the numbers of its fields, 8, or those of the settled lists. Assumes nothing.
+use Prim.Native.Nat.{◌≤◌}
+use mathlib.Core.Path.{◌≡◌, sym, ap, subst, ◌∙◌}
+use mathlib.Core.List.{List}
+use native.Mathlib.Omega.{arith}
+use borrow.Author.Rules.{rules}
+use lib.Dec.{T}
+use lib.ListN.{length, take}
+use lib.Seq.{length-take-le}
+use lib.Ieee.{Float}
+use Rattle.definitions.specs.Template.{TemplateFields, active_offset}
+use Rattle.laws.proofs.set.SoundTemplate.{TemplateFits}
+use Rattle.clip.specs.Storing.{Stores}
+use Rattle.definitions.specs.Examining.{empty_set}
+use Rattle.clip.specs.Holding.{manifest}
+use Rattle.template.specs.Expanding.{template_fields, template_fields_number, knot_count, expanded_set}
+use Rattle.clip.proofs.Laws.{all_fit, lent}
+use Rattle.template.proofs.Expansion.{few-knots}
+use Rattle.template.proofs.Templates.{few-blocks, template-refuses, template-beyond, template-settles}
+use Rattle.template.proofs.expand_template.Goals.{After-knot_count-m, After-shared_slice_known-2-1, Else-number-ne0, Start as At-start}
+use Rattle.template.proofs.expand_template.Goals as goal
+
+abbrev fields : At-start → TemplateFields
+fields c = template_fields c.args.template.now c.args.times c.args.offset c.args.blocks.now (manifest c.args.default c.args.interpolate)
+
+none : (c : Else-number-ne0) → template_fields_number (fields c.before.before.before.before) ≡ 0
+none c = sym c.fields_number-number.ensures ∙ c.if-number-ne0.false
+
+abbrev entry : After-knot_count-m → At-start
+entry c = c.before.before.before.before.before.before.before
+
+-- the clips and the knots have room
+few : (c : After-knot_count-m) → c.promote-promoted.result.count ≤ 256
+few c = c.if-n-gt-CLIPS.false
+
+few-lent : (c : After-knot_count-m) → c.knot_count-m.result ≤ 512
+few-lent c = omega (arith, c.knot_count-m.ensures, few-knots (entry c).args.offset c.promote-promoted.result.count (few c))
+
+clips-lent : (c : After-knot_count-m) → length (take c.promote-promoted.result.count c.promote-promoted.result.items) ≡ c.promote-promoted.result.count
+clips-lent c = lent 256 c.promote-promoted.result.count c.promote-promoted.result.items c.promote-promoted.ensures.long (few c)
+
+-- what owning `f64`s tells: the format holds them
+fitting : (c : After-shared_slice_known-2-1) → TemplateFits (fields c.before.before)
+fitting c = record { blocks = all_fit c.args.blocks.now c.shared_slice_known-2-1.given; value = subst T (sym c.well_formed.1.1.1.1.0.1.1.1.0.1) tt }
+
+pub returns-then-number-ne0 : goal.returns-then-number-ne0
+returns-then-number-ne0 c =
+    let s = c.before.before.before.before.before in
+    template-refuses (fields s) c.fields_number-number.result c.refused.result c.fields_number-number.ensures c.if-number-ne0.true c.refused.ensures
+
+pub returns-then-n-gt-CLIPS : goal.returns-then-n-gt-CLIPS
+returns-then-n-gt-CLIPS c =
+    let s = c.before.before.before.before.before.before.before in
+    template-beyond (fields s) c.refused-then-n-gt-CLIPS.result (none c.before.before.before) (omega (arith, c.if-n-gt-CLIPS.true, c.promote-promoted.ensures.count)) c.refused-then-n-gt-CLIPS.ensures
+
+pub slice_bounds-expand_lists-end : goal.slice_bounds-expand_lists-end
+slice_bounds-expand_lists-end c = sym (clips-lent c.before.before)
+
+pub slice_bounds-starts-end : goal.slice_bounds-starts-end
+slice_bounds-starts-end c = omega (arith, few c.before.before)
+
+pub slice_bounds-expand_lists-end-2 : goal.slice_bounds-expand_lists-end-2
+slice_bounds-expand_lists-end-2 c = sym (length-take-le _ _ (few c.before.before.before))
+
+pub slice_bounds-numbers-end : goal.slice_bounds-numbers-end
+slice_bounds-numbers-end c = omega (arith, few c.before.before.before)
+
+pub slice_bounds-expand_lists-end-3 : goal.slice_bounds-expand_lists-end-3
+slice_bounds-expand_lists-end-3 c = sym (length-take-le _ _ (few c.before.before.before.before))
+
+pub slice_bounds-xs-end : goal.slice_bounds-xs-end
+slice_bounds-xs-end c = omega (arith, few-lent c.before.before.before.before)
+
+pub slice_bounds-expand_lists-end-4 : goal.slice_bounds-expand_lists-end-4
+slice_bounds-expand_lists-end-4 c = sym (length-take-le _ _ (few-lent c.before.before.before.before.before))
+
+pub slice_bounds-ys-end : goal.slice_bounds-ys-end
+slice_bounds-ys-end c = omega (arith, few-lent c.before.before.before.before.before)
+
+pub slice_bounds-expand_lists-end-5 : goal.slice_bounds-expand_lists-end-5
+slice_bounds-expand_lists-end-5 c = sym (length-take-le _ _ (few-lent c.before.before.before.before.before.before))
+
+pub expand_lists-requires : goal.expand_lists-requires
+expand_lists-requires c =
+    let b = c.before.before.before.before.before.before in
+    let n = b.promote-promoted.result.count in
+    let t = clips-lent b in
+    let k : b.knot_count-m.result ≡ knot_count (entry b).args.offset (length (take n b.promote-promoted.result.items)) = b.knot_count-m.ensures ∙ ap (knot_count (entry b).args.offset) (sym t) in
+    record {
+      for-times = length-take-le _ _ (few b) ∙ sym t;
+      for-numbers = length-take-le _ _ (few b) ∙ sym t;
+      for-xs = length-take-le _ _ (few-lent b) ∙ k;
+      for-ys = length-take-le _ _ (few-lent b) ∙ k;
+      few = omega (arith, t, few b);
+      few-blocks = few-blocks (fields (entry b)) (none b.before.before.before);
+    }
+
+pub returns : goal.returns
+returns c =
+    let b = c.before.before.before.before.before.before.before.before.before.before.before in
+    let s = entry b in
+    let f = fields s in
+    let p = b.promote-promoted.ensures in
+    let r = c.expand_lists in
+    template-settles f r.result (fitting b.before.before.before.before.before) (none b.before.before.before) (omega (arith, p.count, few b))
+    (subst (λ (ts : List Float). Stores empty_set (expanded_set ts s.args.times (active_offset f) s.args.blocks.now (manifest s.args.default s.args.interpolate)) r.result) (p.list (few b)) r.ensures)

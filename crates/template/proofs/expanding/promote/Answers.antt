@@ -1,0 +1,45 @@
+-- `template::expanding::promote` meets its contract: the times before t are written, and t begins the rest. Assumes nothing.
+use Prim.Native.Nat.{ℕ, ◌-◌}
+use mathlib.Core.Path.{◌≡◌, sym, ap, ◌∙◌}
+use native.Mathlib.Omega.{arith}
+use borrow.Author.Rules.{rules}
+use lib.ListN.{take}
+use lib.Ieee.{of_bits}
+use Rattle.gf.specs.Doubles.{◌⊕◌, ◌⊗◌, 0·5, 10000·0}
+use Rattle.template.proofs.Promotion.{Promoting, promote-start, promote-next, promote-ends, promote-length, promote-more, promotes}
+use Rattle.template.proofs.expanding.promote.Goals as goal
+
+pub loop-i-init : goal.loop-i-init
+unfolding of_bits
+loop-i-init c =
+    let x = c.args.times in
+    promote-start (x.start ⊗ 10000·0) (x.stride ⊗ 10000·0) (x.end ⊗ 10000·0 ⊕ 0·5) c.no_blocks-none.result.items c.no_blocks-none.ensures.room.long
+
+pub loop-i-preserved : goal.loop-i-preserved
+unfolding of_bits
+loop-i-preserved c =
+    let k = c.loop-i in
+    let x = c.args.times in
+    promote-next (x.start ⊗ 10000·0) (x.stride ⊗ 10000·0) (x.end ⊗ 10000·0 ⊕ 0·5) k.items k.t k.i k.invariant (omega arith) c.if-t-bound.true
+
+pub returns-else-t-bound : goal.returns-else-t-bound
+unfolding of_bits
+returns-else-t-bound c =
+    let k = c.loop-i in
+    let x = c.args.times in
+    promotes x k.items k.i k.invariant.long (promote-length (x.start ⊗ 10000·0) (x.stride ⊗ 10000·0) (x.end ⊗ 10000·0 ⊕ 0·5) k.items k.t k.i k.invariant c.if-t-bound.false) (λ h. promote-ends (x.start ⊗ 10000·0) (x.stride ⊗ 10000·0) (x.end ⊗ 10000·0 ⊕ 0·5) k.items k.t k.i k.invariant c.if-t-bound.false)
+
+pub returns-then-t-bound-2 : goal.returns-then-t-bound-2
+unfolding of_bits
+returns-then-t-bound-2 c =
+    let k = c.loop-i in
+    let x = c.args.times in
+    promotes x k.items 257 k.invariant.long (promote-more (x.start ⊗ 10000·0) (x.stride ⊗ 10000·0) (x.end ⊗ 10000·0 ⊕ 0·5) k.items k.t k.i k.invariant (omega arith) c.if-t-bound-2.true) (λ h. absurd (omega arith))
+
+pub returns : goal.returns
+unfolding of_bits
+returns c =
+    let k = c.loop-i in
+    let x = c.args.times in
+    let n : k.i ≡ 256 = omega arith in
+    promotes x k.items 256 k.invariant.long (sym n ∙ promote-length (x.start ⊗ 10000·0) (x.stride ⊗ 10000·0) (x.end ⊗ 10000·0 ⊕ 0·5) k.items k.t k.i k.invariant c.if-t-bound-2.false) (λ h. ap (λ (m : ℕ). take m k.items) (sym n) ∙ promote-ends (x.start ⊗ 10000·0) (x.stride ⊗ 10000·0) (x.end ⊗ 10000·0 ⊕ 0·5) k.items k.t k.i k.invariant c.if-t-bound-2.false)

@@ -1,0 +1,138 @@
+-- `bake::bake_by_pages` meets its contract: the changes are counted, and only where there is room for them written. Assumes nothing.
+use mathlib.Core.Path.{◌≡◌, sym, ap, ◌∙◌, subst}
+use Prim.Native.Nat.{ℕ, ◌+◌, ◌-◌, ◌≤◌, ◌<◌, min}
+use native.Mathlib.Omega.{arith}
+use borrow.Author.Rules.{rules}
+use lib.ListN.{length}
+use Rattle.gf.specs.Doubles.{least, most}
+use Rattle.definitions.specs.ClipSet.{ClipSet}
+use Rattle.definitions.specs.Samples.{Samples}
+use Rattle.definitions.specs.Track.{slots}
+use Rattle.definitions.specs.Moments.{outputs}
+use Rattle.laws.specs.cell.Keys.{entry_at_key}
+use Rattle.laws.specs.cell.Lent.{set_of, samples_of}
+use Rattle.cell.specs.step.Entries.{entry_is}
+use Rattle.run.proofs.Filling.{Long}
+use Rattle.track.specs.span.Changes.{changes_of}
+use Rattle.track.specs.declared.bake.Baked.{Baked}
+use Rattle.track.specs.Bakes.{BakeIs}
+use Rattle.track.proofs.Walks.{slots-is, slots-long, room_of, filled-total, filled-done, filled-all}
+use Rattle.track.proofs.Baking.{page-copied, bake-refused, bake-done}
+use Rattle.track.proofs.bake.bake_by_pages.Goals.{After-fill-first, Start as At-start}
+use Rattle.track.proofs.bake.bake_by_pages.Goals as goal
+
+-- the set and the samples that are lent, and how many changes there are
+abbrev set : At-start → ClipSet
+set a = set_of (length a.args.ends.now) a.args.starts.now a.args.clips.now a.args.xs.now a.args.ys.now a.args.blocks.now a.args.m
+
+abbrev lent : At-start → Samples
+lent a = samples_of a.args.times.now a.args.values.now a.args.marks.now a.args.ends.now
+
+abbrev count : At-start → ℕ
+count a = length (changes_of (set a) (lent a) least most)
+
+abbrev room : At-start → ℕ
+room a = min (length a.args.outtimes.now) (min (length a.args.outvalues.now) (length a.args.outmarks.now))
+
+-- from the first page back to the entry
+abbrev entry : After-fill-first → At-start
+entry f = f.before.before.before.before.before.before.before.before.before.before.before.before.before.before.before.before.before.before.before.before.before.before
+
+-- the value at the lowest key
+head-is : (a : At-start) → entry_is a.args.from.last ≡ entry_at_key (set a) (lent a) least
+head-is a = a.requires.1.1.0.last ∙ ap (entry_at_key (set a) (lent a)) a.requires.1.1.1.0
+
+-- the changes on the first page and behind it
+total : (f : After-fill-first) → count (entry f) ≡ f.fill-first.result.count + length (changes_of (set (entry f)) (lent (entry f)) f.fill-first.result.cursor.key most)
+total f = filled-total _ _ _ _ _ _ f.fill-first.ensures (entry f).requires.1.1.1.0
+
+-- the page is as long as it was
+page-long : (f : After-fill-first) → let a = (entry f).args in Long (outputs a.pagetimes.now a.pagevalues.now a.pagemarks.now) (outputs f.fill-first.new.outtimes f.fill-first.new.outvalues f.fill-first.new.outmarks)
+page-long f = record { times = f.fill-first.auto.1.1.1.1.1.1.1.1.1.1.1.1.1.0; values = f.fill-first.auto.1.1.1.1.1.1.1.1.1.1.1.1.1.1.0; marks = f.fill-first.auto.1.1.1.1.1.1.1.1.1.1.1.1.1.1.1.0 }
+
+pub fill-first-requires : goal.fill-first-requires
+fill-first-requires c = let a = c.before.before.before.before.before.before.before.before.before.before.before.before.before.before.before.before.before.before.before.before.before in (a.requires.0, (a.requires.1.0, a.requires.1.1.0))
+
+pub returns-then-room-count : goal.returns-then-room-count
+returns-then-room-count c =
+    let f = c.before.before.before.before.before.before.before.before in
+    let a = entry f in
+    let r = f.shortest-room.ensures in
+    let h = c.if-room-count.true in
+    let t = total f in
+    let less : room a < count a = omega arith in
+    subst (λ (b : Baked). BakeIs (set a) (lent a) (outputs a.args.outtimes.now a.args.outvalues.now a.args.outmarks.now) (outputs a.args.outtimes.now a.args.outvalues.now a.args.outmarks.now) b) (sym c.refused.ensures)
+    (bake-refused (set a) (lent a) a.args.outtimes.now a.args.outvalues.now a.args.outmarks.now less)
+
+pub write_page-requires : goal.write_page-requires
+write_page-requires c =
+    let f = c.before.before.before.before.before.before.before.before.before.before.before.before.before.before in
+    let a = entry f in
+    let l = page-long f in
+    let s = slots-is a.args.pagetimes.now a.args.pagevalues.now a.args.pagemarks.now in
+    let n = f.fill.ensures.fits in
+    let r = f.shortest-room.ensures in
+    let h = c.if-room-count.false in
+    (room_of _ _ _ _ (omega (arith, l.times, l.values, l.marks)), room_of _ _ _ _ (omega arith))
+
+pub returns-then-first : goal.returns-then-first
+returns-then-first c =
+    let f = c.before.before.before.before.before.before.before.before.before.before.before.before.before.before.before.before.before.before.before.before.before in
+    let a = entry f in
+    let d = filled-done _ _ least _ _ _ f.fill.ensures a.pre.1.1.1.0 c.if-first.true in
+    let r = f.shortest-room.ensures in
+    let h = c.if-room-count.false in
+    let n : f.fill.result.count ≡ count a = d.0 in
+    let fits : count a ≤ room a = omega arith in
+    bake-done (set a) (lent a) a.args.outtimes.now a.args.outvalues.now a.args.outmarks.now _ _ _ _ fits (head-is a) d.0
+    (c.write_page.ensures ∙ page-copied (changes_of (set a) (lent a) least most) (outputs a.args.pagetimes.now a.args.pagevalues.now a.args.pagemarks.now) (outputs f.fill.new.1.1.1.1.1.1.1.1.1.1.1.1.1.0 f.fill.new.1.1.1.1.1.1.1.1.1.1.1.1.1.1.0 f.fill.new.1.1.1.1.1.1.1.1.1.1.1.1.1.1.1.0) (outputs a.args.outtimes.now a.args.outvalues.now a.args.outmarks.now) f.fill.result.count d.0 d.1)
+
+pub count_within-rest-requires : goal.count_within-rest-requires
+count_within-rest-requires c =
+    let f = c.before.before.before.before.before.before.before.before.before.before.before in
+    let a = entry f in
+    (a.pre.0, (a.pre.1.0, (f.fill-first.ensures.passed.cursor, slots-long (page-long f) a.pre.1.1.1.1)))
+
+pub returns-then-left-rest : goal.returns-then-left-rest
+returns-then-left-rest c =
+    let f = c.before.before.before.before.before.before.before.before.before.before.before.before.before.before.before.before.before.before.before.before in
+    let a = entry f in
+    let k = c.before.before.before.before.before.before.before.before in
+    let r = f.shortest-room.ensures in
+    let h = c.if-room-count.false in
+    let t = total f in
+    let e = k.count_within-rest.ensures in
+    let b = c.if-left-rest.true in
+    let n : f.shortest-room.result - f.fill-first.result.count < length (changes_of (set a) (lent a) f.fill-first.result.cursor.key most) = omega arith in
+    let less : room a < count a = omega arith in
+    subst (λ (b : Baked). BakeIs (set a) (lent a) (outputs a.args.outtimes.now a.args.outvalues.now a.args.outmarks.now) (outputs a.args.outtimes.now a.args.outvalues.now a.args.outmarks.now) b) (sym c.refused-then-left-rest.ensures)
+    (bake-refused (set a) (lent a) a.args.outtimes.now a.args.outvalues.now a.args.outmarks.now less)
+
+pub fill-filled-requires : goal.fill-filled-requires
+fill-filled-requires c = let a = c.before.before.before.before.before.before.before.before.before.before.before.before.before.before.before.before.before.before.before.before.before.before.before.before.before.before.before.before.before.before.before.before.before.before.before.before.before.before.before.before.before.before.before.before in (a.requires.0, (a.requires.1.0, a.requires.1.1.0))
+
+pub shape_of-pagetimes : goal.shape_of-pagetimes
+shape_of-pagetimes c = c.count_within-rest.auto.1.1.1.1.1.1.1.1.1.1.1.1.1.1.0 ∙ c.fill-first.auto.1.1.1.1.1.1.1.1.1.1.1.1.1.0
+
+pub shape_of-pagevalues : goal.shape_of-pagevalues
+shape_of-pagevalues c = c.count_within-rest.auto.1.1.1.1.1.1.1.1.1.1.1.1.1.1.1.0 ∙ c.fill-first.auto.1.1.1.1.1.1.1.1.1.1.1.1.1.1.0
+
+pub shape_of-pagemarks : goal.shape_of-pagemarks
+shape_of-pagemarks c = c.count_within-rest.auto.1.1.1.1.1.1.1.1.1.1.1.1.1.1.1.1.0 ∙ c.fill-first.auto.1.1.1.1.1.1.1.1.1.1.1.1.1.1.1.0
+
+pub returns : goal.returns
+returns c =
+    let f = c.before.before.before.before.before.before.before.before.before.before.before.before.before.before.before.before.before.before.before.before.before.before.before.before.before.before.before.before.before in
+    let a = entry f in
+    let k = c.before.before.before.before.before.before.before.before.before.before.before.before.before.before.before.before.before in
+    let r = f.shortest-room.ensures in
+    let h = c.if-room-count.false in
+    let t = total f in
+    let e = k.count_within-rest.ensures in
+    let b = c.if-left-rest.false in
+    let n : length (changes_of (set a) (lent a) f.fill-first.result.cursor.key most) ≤ f.shortest-room.result - f.fill-first.result.count = omega arith in
+    let q = slots-is a.args.outtimes.now a.args.outvalues.now a.args.outmarks.now in
+    let l : count a ≤ slots (outputs a.args.outtimes.now a.args.outvalues.now a.args.outmarks.now) = omega arith in
+    let d = filled-all _ _ least _ _ _ c.fill-filled.ensures a.pre.1.1.1.0 l in
+    let fits : count a ≤ room a = omega arith in
+    bake-done (set a) (lent a) a.args.outtimes.now a.args.outvalues.now a.args.outmarks.now _ _ _ _ fits (head-is a) d.0 d.1

@@ -1,0 +1,12 @@
+-- `count::change_count` meets its contract: without segments there are no inverse times. Assumes nothing.
+use Rattle.window.proofs.Parts.{ready-readable}
+use Rattle.cell.proofs.Lent.{few-knots}
+use Rattle.track.proofs.Walks.{no-latest}
+use borrow.Author.Rules.{rules}
+use Rattle.track.proofs.count.change_count.Goals as goal
+
+pub count_from_least-requires : goal.count_from_least-requires
+count_from_least-requires c = let s = c.before.before.before.before.before.before.before.before.before.before.before in (s.requires, no-latest _ _)
+
+pub latest_inverses-latest-requires : goal.latest_inverses-latest-requires
+latest_inverses-latest-requires c = let a = c.before.before.before.before.before.before.before.before.before.before in (a.requires.knots-paired, (few-knots a.requires, (ready-readable a.requires).segments))

@@ -1,0 +1,13 @@
+-- `fill::least_cursor` meets its contract. Assumes nothing.
+use mathlib.Core.Path.{refl}
+use lib.Dec.{lit≤}
+use Rattle.cell.proofs.Lent.{no-place-is}
+use borrow.Author.Rules.{rules}
+use Rattle.track.proofs.fill.least_cursor.Goals as goal
+
+pub returns : goal.returns
+returns c =
+    let a = c.before.before.before.before.before.before.before.before.before.before.before in (
+      record { keys = record { low = lit≤ tt; order = lit≤ tt; high = lit≤ tt }; last = c.entry_at-last.ensures; place = no-place-is a.requires c.no_place-place.result c.no_place-place.ensures },
+      refl,
+    )

@@ -1,0 +1,53 @@
+-- `track::span::knotless_step` meets its contract: the window's cell up to the next start. Assumes nothing.
+use mathlib.Core.Path.{refl, sym, ap, ◌∙◌, subst}
+use Prim.Native.Nat.{ℕ, ◌-◌, min}
+use native.Mathlib.Omega.{arith}
+use lib.ListN.{length}
+use Rattle.definitions.specs.Track.{written_entry}
+use Rattle.window.specs.declared.Bound.TheVariants.{At}
+use Rattle.value.specs.Answers.{answer_in, Answerable}
+use Rattle.cell.specs.declared.Cell.{Cell}
+use Rattle.track.specs.declared.span.ReadBy.TheVariants.{ByCell}
+use Rattle.track.specs.span.Runs.{read_on}
+use Rattle.track.specs.span.Steps.{ReadsAt}
+use borrow.Author.Rules.{rules}
+use Rattle.track.proofs.span.knotless_step.Goals.{After-knotless_cell-cell, Start as At-start}
+use Rattle.track.proofs.span.knotless_step.Goals as goal
+
+abbrev entry : After-knotless_cell-cell → At-start
+entry c = c.before.before.before.before.before.before
+
+-- the cell that was handed out can be read
+asks : (c : After-knotless_cell-cell) → ReadsAt (entry c).args.times.now (entry c).args.values.now (entry c).args.marks.now (entry c).args.ends.now c.knotless_cell-cell.result (At (entry c).args.at.window.max) (entry c).args.k
+asks c = let a = (entry c).args in subst (λ (d : Cell). ReadsAt a.times.now a.values.now a.marks.now a.ends.now d (At a.at.window.max) a.k) (sym c.knotless_cell-cell.ensures) (entry c).requires
+
+pub key-next-requires : goal.key-next-requires
+key-next-requires c = (entry c).requires.number
+
+pub overflow_sub-next : goal.overflow_sub-next
+overflow_sub-next c = omega (arith, c.key-next.ensures, (entry c.before).requires.later)
+
+pub read_on-read-requires : goal.read_on-read-requires
+read_on-read-requires c = let A = asks c.before.before in (A.point, A.read)
+
+pub answer_of-requires : goal.answer_of-requires
+answer_of-requires c =
+    let q = c.before.before.before in
+    let a = (entry q).args in
+    (subst (Answerable (length a.values.now) a.ends.now) (sym c.read_on-read.ensures) (asks q).said, (asks q).flagged)
+
+pub returns : goal.returns
+returns c =
+    let l = c.before.before.before in
+    let q = l.before.before in
+    let a = (entry q).args in
+    record {
+      way = ap ByCell q.knotless_cell-cell.ensures;
+      here =
+          c.entry_of-here.ensures
+          ∙ ap written_entry (c.answer_of.ensures
+          ∙ ap (answer_in a.m a.values.now a.marks.now a.ends.now) (c.read_on-read.ensures ∙ ap (λ (d : Cell). read_on a.times.now a.ends.now d a.k) q.knotless_cell-cell.ensures));
+      upto = l.lesser-hi.ensures ∙ ap (λ (e : ℕ). min a.top (e - 1)) l.key-next.ensures;
+      start = refl;
+      window = refl;
+    }

@@ -1,0 +1,105 @@
+-- `track::span::span_at` meets its contract: in the window of k a run, or else the cell. Assumes nothing.
+use mathlib.Core.Path.{◌≡◌, sym, subst, ◌∙◌}
+use mathlib.Core.Bool.{◌&&◌}
+use Prim.Native.Nat.{◌<◌}
+use native.Mathlib.Omega.{arith}
+use lib.Dec.{eqb, ltb}
+use lib.ListN.{length}
+use lib.Ieee.{Float}
+use borrow.Author.Tests.{eqb-true, ltb-true}
+use Rattle.gf.specs.Doubles.{of_key}
+use Rattle.gf.proofs.KeyLaws.{of_key-fits, of_key-finite}
+use Rattle.definitions.specs.Doubles.{FiniteDouble}
+use Rattle.laws.proofs.list.Tests.{holds, is_true, both_l, both_r}
+use Rattle.value.proofs.WindowOf.{window-lent, window-nears}
+use Rattle.cell.specs.WindowPlaces.{PlaceAt}
+use Rattle.cell.proofs.Lent.{place-window}
+use Rattle.run.specs.begin.Begins.{RunBeginIs}
+use Rattle.run.specs.declared.begin.RunBegin.TheVariants.{At}
+use Rattle.track.proofs.span.RunsFrom.{window-least}
+use Rattle.track.proofs.span.Steps.{knotless-asks, knotless-steps, run-asks, run-steps, cell-step-asks, found-step}
+use borrow.Author.Rules.{rules}
+use Rattle.track.proofs.span.span_at.Goals.{After-place_at-at, In-At, Start as At-start, Then-is_knotless}
+use Rattle.track.proofs.span.span_at.Goals as goal
+
+abbrev entry : After-place_at-at → At-start
+entry c = c.before.before.before.before.before.before.before.before.before.before.before.before
+
+finite-key : (a : At-start) → FiniteDouble (of_key a.args.k)
+finite-key a = let K = a.requires.1.1.1 in record { fitting = of_key-fits a.args.k; finitely = of_key-finite a.args.k K.low (omega (arith, K.order, K.high)) }
+
+-- the place is that of k
+place : (c : After-place_at-at) → PlaceAt (entry c).args.starts.now (entry c).args.clips.now (entry c).args.xs.now (entry c).args.ys.now (entry c).args.blocks.now (entry c).args.m (entry c).args.times.now (entry c).args.values.now (entry c).args.marks.now (entry c).args.ends.now (of_key (entry c).args.k) c.place_at-at.result.start c.place_at-at.result.window
+place c =
+    let a = (entry c).args in
+    subst (λ (t : Float). PlaceAt a.starts.now a.clips.now a.xs.now a.ys.now a.blocks.now a.m a.times.now a.values.now a.marks.now a.ends.now t c.place_at-at.result.start c.place_at-at.result.window) c.of_key-t.ensures c.place_at-at.ensures
+
+pub place_at-at-requires : goal.place_at-at-requires
+place_at-at-requires c = let a = c.before.before.before.before.before.before.before.before.before.before.before in (a.requires.0, (a.requires.1.1.0, subst FiniteDouble (sym c.of_key-t.ensures) (finite-key a)))
+
+-- several starts, and no knots
+knotless : (c : Then-is_knotless) → (1 < length (entry c.before.before).args.starts.now) × (length (entry c.before.before).args.xs.now ≡ 0)
+knotless c =
+    let a = entry c.before.before in
+    let b = holds (ltb 1 (length a.args.starts.now) && eqb (length a.args.xs.now) 0) (sym c.is_knotless.ensures ∙ c.if-is_knotless.true) in
+    let m = both_l (ltb 1 (length a.args.starts.now)) (eqb (length a.args.xs.now) 0) b in
+    let e = both_r (ltb 1 (length a.args.starts.now)) (eqb (length a.args.xs.now) 0) b in
+    (ltb-true 1 _ (is_true _ m), eqb-true _ 0 (is_true _ e))
+
+pub knotless_step-requires : goal.knotless_step-requires
+knotless_step-requires c =
+    let q = c.before.before in
+    let a = entry q in
+    let n = knotless c in
+    knotless-asks a.pre.0 a.args.k a.args.top a.pre.1.1.1 q.place_at-at.result (place q) n.0 n.1
+
+pub returns-then-is_knotless : goal.returns-then-is_knotless
+returns-then-is_knotless c =
+    let q = c.before.before.before in
+    let a = entry q in
+    let n = knotless c.before in
+    knotless-steps a.pre.0 a.args.k a.args.top a.pre.1.1.1 q.place_at-at.result (place q) n.0 n.1 c.knotless_step.result c.knotless_step.ensures
+
+pub run_begin-found-requires : goal.run_begin-found-requires
+run_begin-found-requires c =
+    let q = c.before.before.before.before in
+    let a = entry q in
+    let n = c.if-starts-gt1.true in
+    let f = subst FiniteDouble (sym q.of_key-t.ensures) (finite-key a) in
+    let W = place-window a.pre.0 q.of_key-t.result f q.place_at-at.result.start q.place_at-at.result.window q.place_at-at.ensures (omega arith) in (
+      window-nears a.pre.0 q.place_at-at.result.start q.place_at-at.result.window W q.of_key-t.result (q.place_at-at.ensures.place (omega arith)) f a.args.latest.now a.pre.1.0,
+      (window-lent a.pre.0 q.place_at-at.result.start q.place_at-at.result.window W, window-least a.pre.0 q.place_at-at.result.start q.place_at-at.result.window W),
+    )
+
+-- a run begins at k
+abbrev placed : In-At → After-place_at-at
+placed c = c.before.before.before.before.before.before.before.before
+
+run : (c : In-At) → RunBeginIs (entry (placed c)).args.xs.now (entry (placed c)).args.ys.now (entry (placed c)).args.latest.now (entry (placed c)).args.times.now (placed c).place_at.result.window (of_key (entry (placed c)).args.k) (At c.in-At.i c.in-At.l c.in-At.h c.in-At.n)
+run c =
+    let o = c.before in
+    let q = placed c in
+    let a = entry q in
+    let g = c.found-1.given in
+    let x = subst (λ (t : Float). RunBeginIs a.args.xs.now a.args.ys.now a.args.latest.now a.args.times.now q.place_at.result.window t o.run_begin-found.result) q.before.of-key.ensures o.run_begin-found.ensures in
+    subst (RunBeginIs a.args.xs.now a.args.ys.now a.args.latest.now a.args.times.now q.place_at.result.window (of_key a.args.k)) g.1 x
+
+pub run_step-requires : goal.run_step-requires
+run_step-requires c =
+    let q = placed c in
+    let a = entry q in
+    let y = run c in
+    run-asks a.pre.0 a.args.k a.args.top a.pre.1.1.1 q.place_at.result (place q) c.if-starts-gt1.true y.0 a.args.latest.now _ _ _ y.1
+
+pub returns-in-At : goal.returns-in-At
+returns-in-At c =
+    let q = placed c.before in
+    let a = entry q in
+    let y = run c.before in
+    run-steps a.pre.0 a.args.k a.args.top a.pre.1.1.1 q.place_at.result (place q) c.if-starts-gt1.true y.0 a.args.latest.now _ _ _ y.1 _ c.run_step.result c.run_step.ensures
+
+pub cell_step-requires : goal.cell_step-requires
+cell_step-requires c = let q = c.before.before.before in let a = entry q in cell-step-asks a.pre.0 a.args.k a.args.top a.pre.1.1.1 q.place_at-at.result (place q) a.args.latest.now a.pre.1.0
+
+pub returns : goal.returns
+returns c = let q = c.before.before.before.before in let a = entry q in found-step a.pre.0 a.args.k a.args.top a.pre.1.1.1 q.place_at-at.result (place q) c.cell_step.result c.cell_step.ensures

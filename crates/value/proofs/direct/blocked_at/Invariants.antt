@@ -1,0 +1,18 @@
+-- `value::direct::blocked_at` meets its contract: those counted and what is left of the list answer for the whole. Assumes nothing.
+use Prim.Native.Nat.{ℕ, ◌+◌, ◌-◌, ◌≤◌}
+use mathlib.Core.Path.{◌≡◌, refl, sym, ap, ◌∙◌}
+use mathlib.Core.Bool.{Bool, ◌||◌}
+use native.Mathlib.Omega.{arith}
+use borrow.Author.Rules.{rules}
+use lib.Dec.{ltb}
+use lib.ListN.{length, get_or, drop}
+use lib.Ieee.{Float, nan, eq}
+use Rattle.definitions.specs.Lists.{any}
+use Rattle.lists.proofs.Fronts.{any_found, at_most_one, counted-all}
+use Rattle.value.proofs.direct.blocked_at.Given as goal
+
+abbrev pub invariant-loop-i : goal.invariant-loop-i
+invariant-loop-i l = (l.i ≤ length l.blocks) × (l.found ≤ l.i) × (any (same l.start) l.blocks ≡ (ltb 0 l.found || any (same l.start) (drop l.i l.blocks)))
+
+abbrev pub decreases-loop-i : goal.decreases-loop-i
+decreases-loop-i l = length l.blocks - l.i

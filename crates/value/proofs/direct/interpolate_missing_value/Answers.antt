@@ -1,0 +1,63 @@
+-- `value::direct::interpolate_missing_value` meets its contract: the default, then the search back, then the search on. Assumes nothing.
+use native.Mathlib.Omega.{arith}
+use mathlib.Core.Path.{sym, ap, ◌∙◌}
+use borrow.Author.Tests.{not-true, not-false}
+use Rattle.definitions.specs.declared.Source.TheVariants.{Sample as sample}
+use Rattle.value.specs.direct.Reads.{reading_is}
+use Rattle.value.proofs.direct.Sources.{stands-default, stands-off, stands-before, stands_after, stands-none}
+use Rattle.value.proofs.direct.ReadsLaws.{first-is, search-asks}
+use borrow.Author.Rules.{rules}
+use Rattle.value.proofs.direct.interpolate_missing_value.Goals.{After-default-1, Else-not-m, Start as At-start}
+use Rattle.value.proofs.direct.interpolate_missing_value.Goals as goal
+
+abbrev entry : After-default-1 → At-start
+entry k = k.before.before.before.before.before.before.before.before.before.before
+
+-- where both searches begin
+abbrev searching : Else-not-m → After-default-1
+searching k = k.before.before.before.before
+
+pub returns-then-default-eq0 : goal.returns-then-default-eq0
+returns-then-default-eq0 c = let s = entry c.before.before in stands-default s.pre.0 s.args.p c.if-default-eq0.true
+
+pub returns-then-not-m : goal.returns-then-not-m
+returns-then-not-m c =
+    let k = c.before.before in
+    let s = entry k.before.before in
+    stands-off s.pre.0 s.args.p k.if-default-eq0.false (not-true s.args.m.interpolate c.if-not-m.true)
+
+pub nearest_before-back-requires : goal.nearest_before-back-requires
+nearest_before-back-requires c =
+    let s = entry (searching c) in
+    (search-asks s.pre.0, omega arith)
+
+pub returns-in-Of : goal.returns-in-Of
+returns-in-Of c =
+    let k = c.before.before in
+    let s = entry (searching k) in
+    let g = c.back-1.given in
+    stands-before s.pre.0 s.args.p k.if-default-eq0.false (not-false s.args.m.interpolate k.if-not-m.false) (sample g.0.0 g.0.1.0) (sym (ap reading_is g.1) ∙ c.nearest_before-back.ensures ∙ first-is s.pre.0 _)
+
+pub nearest_from-on-requires : goal.nearest_from-on-requires
+nearest_from-on-requires c =
+    let s = entry (searching c.before.before) in
+    (search-asks s.pre.0, omega arith)
+
+pub returns-in-Of-on : goal.returns-in-Of-on
+returns-in-Of-on c =
+    let n = c.before in
+    let b = n.before in
+    let k = b.before.before in
+    let s = entry (searching k) in
+    let g = c.on-1.given in
+    stands_after s.pre.0 s.args.p k.if-default-eq0.false (not-false s.args.m.interpolate k.if-not-m.false) (sample g.0.0 g.0.1.0)
+    (sym (ap reading_is b.in_default.is) ∙ b.nearest_before-back.ensures ∙ first-is s.pre.0 _) (sym (ap reading_is g.1) ∙ n.nearest_from-on.ensures ∙ first-is s.pre.0 _)
+
+pub returns : goal.returns
+returns c =
+    let n = c.before in
+    let b = n.before in
+    let k = b.before.before in
+    let s = entry (searching k) in
+    stands-none s.pre.0 s.args.p k.if-default-eq0.false (not-false s.args.m.interpolate k.if-not-m.false)
+    (sym (ap reading_is b.in_default.is) ∙ b.nearest_before-back.ensures ∙ first-is s.pre.0 _) (sym (ap reading_is c.in_default-on.is) ∙ n.nearest_from-on.ensures ∙ first-is s.pre.0 _)

@@ -1,0 +1,33 @@
+-- `value::windowed::clip_time` meets its contract. Assumes nothing.
+use mathlib.Core.Path.{sym, ap, ◌∙◌}
+use lib.Dec.{T}
+use lib.Ieee.{binary64, fits}
+use Rattle.definitions.specs.declared.Segment.{Segment}
+use Rattle.definitions.specs.ClipSet.{clip}
+use Rattle.definitions.specs.Timing.{on_segment, map_stage_to_clip}
+use Rattle.value.specs.ClipTimes.{OnSegment}
+use Rattle.value.proofs.ClipTimes.{on-between, on-segment}
+use borrow.Author.Rules.{rules}
+use Rattle.value.proofs.windowed.clip_time.Goals.{Start as At-start, Then-is_between}
+use Rattle.value.proofs.windowed.clip_time.Goals as goal
+
+-- what owning an `f64` tells: the format holds it
+held : (s : At-start) → T (fits binary64 s.args.t.0)
+held s = search rules
+
+on : (o : Then-is_between) → OnSegment o.args.xs.now o.args.t.0 o.args.knot
+on o = on-between _ _ _ (sym o.is_between.ensures ∙ o.if-is_between.true)
+
+pub segment_at-requires : goal.segment_at-requires
+segment_at-requires c = (c.requires.1, (on c).place)
+
+pub returns-then-is_between : goal.returns-then-is_between
+unfolding map_stage_to_clip
+returns-then-is_between c =
+    let o = c.before.before in
+    let s = o.before.before.before.before in
+    let a = s.args in
+    ap clip
+    (c.clip_time.ensures
+    ∙ ap (λ (q : Segment). on_segment q.a q.b a.t.0) c.segment_at.ensures
+    ∙ on-segment a.xs.now a.ys.now s.requires.0 s.requires.1 a.t.0 (held s) a.knot (on o))

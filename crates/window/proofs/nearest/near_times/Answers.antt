@@ -1,0 +1,25 @@
+-- `window::nearest::near_times` meets its contract. Assumes nothing.
+use mathlib.Core.Path.{sym, ap, ◌∙◌, subst}
+use Prim.Native.Nat.{◌+◌}
+use native.Mathlib.Omega.{arith}
+use Rattle.definitions.specs.Lists.{keep}
+use Rattle.window.specs.declared.Neighbours.{Neighbours}
+use Rattle.window.specs.Bounds.{inside}
+use Rattle.window.specs.nearest.Nearest.{Searched}
+use Rattle.window.specs.nearest.Beside.{with_place}
+use Rattle.window.proofs.nearest.Beside.{beside-searched, last-small}
+use borrow.Author.Rules.{rules}
+use Rattle.window.proofs.nearest.near_times.Goals as goal
+
+pub overflow_add-i : goal.overflow_add-i
+overflow_add-i c =
+    let s = c.before.before in
+    omega (arith, s.requires.1.1.1, last-small s.args.xs.now s.requires.0 s.args.t s.requires.1.0.fitting)
+
+pub returns : goal.returns
+returns c =
+    let s = c.before.before.before in
+    let a = s.args in
+    subst (λ (n : Neighbours). Searched a.t (keep (inside a.w) a.xs.now) a.known n)
+    (sym (c.near_place.ensures ∙ ap (λ (h : Neighbours). with_place a.w a.t a.xs.now h (a.i + 1)) c.near_place-here.ensures))
+    (beside-searched a.t a.w a.xs.now s.requires.1.1.0 s.requires.1.0 s.requires.0 a.i s.requires.1.1.1 a.known)
