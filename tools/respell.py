@@ -11,9 +11,10 @@ import os
 import re
 import sys
 
-# A name whose turning is no plain snake case.
+# Names whose turning is no plain snake case.
 TABLE = {
     "every-getD": "every-get_or",
+    "◌orElse◌": "◌or_else◌",
 }
 # Types and lemmas that share a word with other names: turned only in the files named.
 HERE = {

@@ -20,7 +20,7 @@ use Rattle.definitions.specs.Doubles.{FiniteDouble}
 use Rattle.definitions.specs.ClipSet.{ClipSet, knot_times, stage}
 use Rattle.definitions.specs.Timing.{last_at_most, active_position}
 use Rattle.definitions.specs.Samples.{Samples, clip_times}
-use Rattle.definitions.specs.Value.{contributes, blocked_at, manifest_default, gap_source, ◌orElse◌, direct_source, gathered, jump}
+use Rattle.definitions.specs.Value.{contributes, blocked_at, manifest_default, gap_source, ◌or_else◌, direct_source, gathered, jump}
 use Rattle.laws.specs.cell.Knots.{line_of}
 use Rattle.laws.specs.cell.Stretches.{several_starts, boundaries}
 use Rattle.laws.specs.cell.Cells as Cells

@@ -16,7 +16,7 @@ use Rattle.definitions.specs.declared.Source.TheVariants.{Blocked}
 use Rattle.definitions.specs.Lists.{any}
 use Rattle.definitions.specs.ClipSet.{ClipSet, stage}
 use Rattle.definitions.specs.Samples.{Samples, clip_begin, clip_end}
-use Rattle.definitions.specs.Value.{first_reading, interpolate_missing_value, manifest_default, ◌orElse◌}
+use Rattle.definitions.specs.Value.{first_reading, interpolate_missing_value, manifest_default, ◌or_else◌}
 use Rattle.laws.specs.cell.Lent.{AcceptedLists, set_of, samples_of, start, active_of}
 use Rattle.window.specs.Parts.{part_of}
 use Rattle.window.proofs.Parts.{ready-clip, ready-readable}

@@ -19,7 +19,7 @@ use Rattle.definitions.specs.Lists.{any}
 use Rattle.definitions.specs.ClipSet.{ClipSet, mark_value, stage, active_times}
 use Rattle.definitions.specs.Timing.{last_at_most, active_position, map_stage_to_clip}
 use Rattle.definitions.specs.Samples.{Samples, clip_begin, clip_times, held_place}
-use Rattle.definitions.specs.Value.{◌orElse◌, marked, says, blocked_at, contributes, sample_of, read_clip, first_reading, interpolate_missing_value, own_reading, manifest_default, gap_source, source_at, direct_source, reading_time, value_source, value_in_set}
+use Rattle.definitions.specs.Value.{◌or_else◌, marked, says, blocked_at, contributes, sample_of, read_clip, first_reading, interpolate_missing_value, own_reading, manifest_default, gap_source, source_at, direct_source, reading_time, value_source, value_in_set}
 use Rattle.dispatch.specs.NamedSets.{NamedSet, Answering, fit_of}
 use Rattle.dispatch.specs.SetSamples.{SetSamples, clips_of, samples_at}
 use Rattle.dispatch.specs.Dispatch.{value_in, value_of}

@@ -16,7 +16,7 @@ use Rattle.definitions.specs.Timing.{last_at_most, active_position, map_time, ma
 use Rattle.definitions.specs.Samples.{Samples, clip_times, held_place}
 use Rattle.definitions.specs.declared.Source.{Source}
 use Rattle.definitions.specs.declared.Source.TheVariants.{Sample as sample, Absent as absent}
-use Rattle.definitions.specs.Value.{sample_of, read_clip, contributes, manifest_default, gap_source, ◌orElse◌, source_at, direct_source, value_source}
+use Rattle.definitions.specs.Value.{sample_of, read_clip, contributes, manifest_default, gap_source, ◌or_else◌, source_at, direct_source, value_source}
 use Rattle.laws.specs.list.Places.{Fits}
 use Rattle.laws.proofs.cell.Places.{place_mono}
 use Rattle.laws.specs.cell.Knots.{Line, line_of, along}

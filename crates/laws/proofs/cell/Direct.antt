@@ -17,7 +17,7 @@ use Rattle.definitions.specs.ClipSet.{ClipSet, active_times, stage, clip}
 use Rattle.definitions.specs.Timing.{last_at_most, active_position, map_time, map_stage_to_clip}
 use Rattle.definitions.specs.Samples.{Samples, clip_begin, clip_end, clip_times, held_place}
 use Rattle.definitions.specs.declared.Source.{Source}
-use Rattle.definitions.specs.Value.{sample_of, read_clip, manifest_default, gap_source, ◌orElse◌, contributes, source_at, direct_source}
+use Rattle.definitions.specs.Value.{sample_of, read_clip, manifest_default, gap_source, ◌or_else◌, contributes, source_at, direct_source}
 use Rattle.laws.specs.list.Every.{Every}
 use Rattle.laws.proofs.list.Every.{every_map, every_take, every_drop}
 use Rattle.laws.specs.list.Places.{Fits}

@@ -22,7 +22,7 @@ use Rattle.definitions.specs.declared.SampleRead.TheVariants.{Of}
 use Rattle.definitions.specs.ClipSet.{ClipSet, mark_value, stage}
 use Rattle.definitions.specs.Timing.{active_position, map_stage_to_clip}
 use Rattle.definitions.specs.Samples.{Samples, clip_begin, clip_end, clip_times, held_place}
-use Rattle.definitions.specs.Value.{◌orElse◌, marked, says, sample_of, read_clip, contributes, manifest_default, gap_source, source_at, direct_source, gathered, lower_neighbour, upper_neighbour, jump, between, reading_time, value_source, value_in_set, sample_read, value_read}
+use Rattle.definitions.specs.Value.{◌or_else◌, marked, says, sample_of, read_clip, contributes, manifest_default, gap_source, source_at, direct_source, gathered, lower_neighbour, upper_neighbour, jump, between, reading_time, value_source, value_in_set, sample_read, value_read}
 use Rattle.laws.specs.Facts.{clip_read, Stands, SampleStands, OneClip}
 use Rattle.laws.specs.list.Every.{Every}
 use Rattle.laws.specs.list.Places.{Fits}

@@ -15,7 +15,7 @@ use Rattle.definitions.specs.declared.Source.TheVariants.{Default as default, Bl
 use Rattle.definitions.specs.ClipSet.{ClipSet, mark_value, stage}
 use Rattle.definitions.specs.Timing.{active_position}
 use Rattle.definitions.specs.Samples.{Samples}
-use Rattle.definitions.specs.Value.{◌orElse◌, blocked_at, contributes, read_clip, first_reading, interpolate_missing_value, own_reading, manifest_default, gap_source, source_at, direct_source, reading_time, value_source}
+use Rattle.definitions.specs.Value.{◌or_else◌, blocked_at, contributes, read_clip, first_reading, interpolate_missing_value, own_reading, manifest_default, gap_source, source_at, direct_source, reading_time, value_source}
 use Rattle.laws.specs.list.Every.{Every}
 use Rattle.laws.proofs.list.Every.{every_take, every_drop}
 

@@ -9,7 +9,7 @@ use Rattle.definitions.specs.Timing.{active_position}
 use Rattle.definitions.specs.Samples.{Samples, clip_times}
 use Rattle.definitions.specs.declared.Source.{Source}
 use Rattle.definitions.specs.declared.Source.TheVariants.{Absent as absent}
-use Rattle.definitions.specs.Value.{contributes, manifest_default, gap_source, ◌orElse◌, direct_source}
+use Rattle.definitions.specs.Value.{contributes, manifest_default, gap_source, ◌or_else◌, direct_source}
 use Rattle.laws.specs.cell.Knots.{Line, line_of}
 use Rattle.laws.specs.cell.Stretches.{held_from}
 

@@ -17,7 +17,7 @@ use Rattle.definitions.specs.ClipSet.{ClipSet, stage}
 use Rattle.definitions.specs.declared.Missing.{Missing}
 use Rattle.definitions.specs.Timing.{last_at_most, active_position}
 use Rattle.definitions.specs.Samples.{Samples, clip_times}
-use Rattle.definitions.specs.Value.{◌orElse◌, blocked_at, contributes, read_clip, first_reading, interpolate_missing_value, source_at, direct_source}
+use Rattle.definitions.specs.Value.{◌or_else◌, blocked_at, contributes, read_clip, first_reading, interpolate_missing_value, source_at, direct_source}
 use Rattle.laws.specs.cell.Lent.{start, active_of, set_of, samples_of, AcceptedLists}
 use Rattle.laws.proofs.cell.Lent.{zip-here}
 use Rattle.window.proofs.Parts.{ready-active, ready-position}

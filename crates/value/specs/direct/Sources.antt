@@ -3,7 +3,7 @@ use Rattle.std.specs.Prelude.{ℕ}
 use Rattle.definitions.specs.declared.Source.{Source}
 use Rattle.definitions.specs.ClipSet.{ClipSet}
 use Rattle.definitions.specs.Samples.{Samples}
-use Rattle.definitions.specs.Value.{◌orElse◌, manifest_default, gap_source}
+use Rattle.definitions.specs.Value.{◌or_else◌, manifest_default, gap_source}
 
 module _ (set : ClipSet) (s : Samples) (p : ℕ) where
   abbrev pub stand_in : Source

@@ -6,7 +6,7 @@ use Rattle.gf.proofs.clip_number.to_index.Goals as goal
 pub truncating_f64_to_u64-requires : goal.truncating_f64_to_u64-requires
 truncating_f64_to_u64-requires c =
     let x = c.args.x in
-    (above_minus_one x c.requires.1, below_power 64 x c.requires.0 c.requires.1 c.requires.2)
+    record { lower_bound = above_minus_one x c.requires.1; upper_bound = below_power 64 x c.requires.0 c.requires.1 c.requires.2 }
 
 pub returns : goal.returns
 returns c =
