@@ -21,6 +21,96 @@ def norm(s):
     return s.replace("_", "-")
 
 
+CLAUSES = {}
+
+
+def read_clauses():
+    """The names of the requires and of the ensures of each function that has several."""
+    for crate in sorted(os.listdir("crates")):
+        top = os.path.join("crates", crate, "src")
+        for folder, _, files in os.walk(top):
+            for n in files:
+                if not n.endswith(".rt"):
+                    continue
+                rel = os.path.relpath(os.path.join(folder, n), top)[:-3].split("/")
+                if rel[-1] in ("lib", "main"):
+                    rel = rel[:-1]
+                scope, fn = "", None
+                for line in open(os.path.join(folder, n), encoding="utf-8"):
+                    m = re.match(r"^impl(?:<[^>]*>)? (?:\w+ for )?(\w+)", line)
+                    if m:
+                        scope = m.group(1)
+                    if line.startswith("}"):
+                        scope = ""
+                    m = re.match(r"^\s*(?:pub(?:\([^)]*\))? )?(?:extern \"C\" )?fn (\w+)", line)
+                    if m:
+                        fn = "::".join([crate] + rel + ([scope] if scope else []) + [m.group(1)])
+                    m = re.match(r"^\s*(requires|ensures) (\w+) \{", line)
+                    if m and fn:
+                        CLAUSES.setdefault((fn, m.group(1)), []).append(m.group(2))
+
+
+def clause(callee, kind, rest):
+    """The rest of a path behind .requires or .ensures, where the clauses were nested pairs and have names now."""
+    names = CLAUSES.get((callee, kind))
+    if not names or len(names) < 2 or not rest or not rest[0].isdigit():
+        return rest
+    i, rest = 0, list(rest)
+    while i < len(names) - 1 and rest and rest[0] == "1":
+        i += 1
+        rest.pop(0)
+    if i < len(names) - 1:
+        if not rest or rest[0] != "0":
+            return ["?"] + rest
+        rest.pop(0)
+    return [names[i]] + rest
+
+
+def named(callee, kind, term):
+    """A term that ends in a pair of the clauses, as a record of them."""
+    names = CLAUSES.get((callee, kind))
+    t = term.rstrip()
+    if not names or len(names) < 2 or not t.endswith(")"):
+        return term
+    d, i = 0, len(t)
+    while i:
+        i -= 1
+        d += (t[i] in ")}]") - (t[i] in "({[")
+        if d == 0:
+            break
+    before = t[:i].rstrip()
+    if before and not before.endswith("in"):
+        return term
+
+    def split(u):
+        u = u.strip()
+        if not (u.startswith("(") and u.endswith(")")):
+            return None
+        out, depth, cur = [], 0, ""
+        for ch in u[1:-1]:
+            depth += (ch in "({[") - (ch in ")}]")
+            if depth < 0:
+                return None
+            if ch == "," and depth == 0:
+                out.append(cur.strip())
+                cur = ""
+            else:
+                cur += ch
+        if cur.strip():
+            out.append(cur.strip())
+        return out
+
+    parts = split(t[i:])
+    while parts and 1 < len(parts) < len(names):
+        more = split(parts[-1])
+        if not more or len(more) < 2:
+            break
+        parts = parts[:-1] + more
+    if not parts or len(parts) != len(names):
+        return term
+    return t[:i] + "record { " + "; ".join(f"{n} = {p}" for n, p in zip(names, parts)) + " }"
+
+
 class Names:
     def __init__(self, d):
         self.places = d["places"]
@@ -33,6 +123,7 @@ class Names:
         self.loops = d["loops"]
         self.changed = d["changed"]
         self.params = d["params"]
+        self.answered = set()
 
     def up(self, i, n):
         for _ in range(n):
@@ -121,7 +212,9 @@ def flat(names, at, n, fields):
     rest = fields[1:]
     if p is None:
         p = at
-    if f in ("args", "requires", "well-formed", "pre"):
+    if f == "requires":
+        return ["requires"] + clause(names.callee, "requires", rest)
+    if f in ("args", "well-formed", "pre"):
         return [fields[0].replace("-", "_")] + rest
     chain = list(names.chain(at))
     for q in chain:
@@ -143,6 +236,8 @@ def flat(names, at, n, fields):
 
 def argument(names, q, rest):
     """What a call left in an argument goes by the argument's name, and no longer by its position."""
+    if rest and rest[0] == "ensures":
+        return ["ensures"] + clause(names.places[q][3], "ensures", rest[1:])
     params = names.params.get(names.places[q][3])
     if not params or not rest or rest[0] != "new":
         return rest
@@ -154,64 +249,127 @@ def argument(names, q, rest):
     return rest
 
 
-def turn_body(names, text, env, told, where):
-    env = dict(env)
-    shift = {}
+def binders(sig):
+    """The explicit parameters of a signature, as texts of their types, with their names or None."""
+    out, i = [], 0
+    while True:
+        while i < len(sig) and sig[i].isspace():
+            i += 1
+        if i >= len(sig):
+            return out
+        if sig[i] in "({":
+            d, j = 0, i
+            while True:
+                d += (sig[j] in "({[") - (sig[j] in ")}]")
+                j += 1
+                if d == 0:
+                    break
+            group = sig[i + 1 : j - 1]
+            m = re.match(r"([^:()]+?) : (.*)$", group, re.S)
+            rest = sig[j:].lstrip()
+            if m and (rest.startswith("→") or rest.startswith("(") or rest.startswith("{")):
+                if sig[i] == "(":
+                    out += [(n, m.group(2)) for n in m.group(1).split()]
+                i = j
+                if rest.startswith("→"):
+                    i = sig.index("→", j) + 1
+                continue
+        # a type with an arrow after it
+        d, j = 0, i
+        while j < len(sig) and not (d == 0 and sig[j] == "→"):
+            d += (sig[j] in "({[") - (sig[j] in ")}]")
+            j += 1
+        if j >= len(sig):
+            return out
+        out.append((None, sig[i:j].strip()))
+        i = j + 1
 
-    def path(m):
+
+def one_argument(text, i):
+    """The argument that begins at i or after blanks, as its place in the text."""
+    while i < len(text) and text[i] in " \n":
+        i += 1
+    if i >= len(text) or text[i] in ")}],;":
+        return None
+    j = i
+    if text[i] in "({[":
+        d = 0
+        while j < len(text):
+            d += (text[j] in "({[") - (text[j] in ")}]")
+            j += 1
+            if d == 0:
+                break
+        return i, j
+    while j < len(text) and text[j] not in " \n(){}[],;":
+        j += 1
+    return i, j
+
+
+def turn_body(names, text, env, told, where, helpers, owner):
+    env = dict(env)
+
+    def field(m):
         var, fields = m.group(1), m.group(2)[1:].split(".")
         if var not in env:
             return m.group(0)
-        at = env[var]
         n = 0
         while n < len(fields) and fields[n] == "before":
             n += 1
         rest = fields[n:]
-        n += shift.get(var, 0)
         if not rest:
-            h = names.hops(at, n)
-            if h is None:
-                told.append(f"{where}: no place of its own: {m.group(0)}")
-                return m.group(0)
-            return var + ".before" * h
-        new = flat(names, at, n, rest)
+            return m.group(0)
+        new = flat(names, env[var], n, rest)
         if new is None:
             told.append(f"{where}: {m.group(0)}")
             return m.group(0)
         return ".".join([var] + new)
 
-    out = []
-    pos = 0
-    # lets in order, since a bound name may be a place
-    for m in re.finditer(rf"\blet ({WORD}) = ({WORD})((?:\.before)*) in\b|(?<![^\s(){{}}\[\],;])({WORD})((?:\.{WORD})+)", text):
-        out.append(text[pos : m.start()])
-        pos = m.end()
-        if m.group(1):
-            var, src, befores = m.group(1), m.group(2), m.group(3)
-            if src in env:
-                n = befores.count(".before")
-                h = names.hops(env[src], n)
-                if h is None:
-                    # its fields are those of the place below
-                    env[var] = env[src]
-                    out.append(f"let {var} = {src} in")
-                    shift[var] = n
-                    told.append(f"{where}: no place of its own: let {var} = {src}{befores}")
-                else:
-                    env[var] = names.up(env[src], n)
-                    shift[var] = 0
-                    out.append(f"let {var} = {src}{'.before' * h} in")
-            else:
-                out.append(m.group(0))
-        else:
-            mm = PATH.match(text, m.start())
-            out.append(path(mm) if mm else m.group(0))
-    out.append(text[pos:])
-    return "".join(out)
+    # a name that is bound to a place is bound to the one that it is above of, whose fields are those of both
+    def bound(m):
+        var, src = m.group(1), m.group(2)
+        if src not in env:
+            return m.group(0)
+        env[var] = env[src]
+        return f"let {var} = {src} in"
+
+    text = re.sub(rf"\blet ({WORD}) = ({WORD})((?:\.before)*) in\b", bound, text)
+    text = PATH.sub(field, text)
+    # a place that a lemma takes
+    out, pos = "", 0
+    for m in NAME.finditer(text):
+        if m.group(1) not in helpers or m.start() < pos:
+            continue
+        i, here = m.end(), None
+        for k in range(max(helpers[m.group(1)]) + 1):
+            span = one_argument(text, i)
+            if span is None:
+                break
+            i = span[1]
+            if k in helpers[m.group(1)]:
+                arg = text[span[0] : span[1]]
+                q = re.match(rf"^\(?({WORD})((?:\.before)*)\)?$", arg)
+                if q and q.group(1) in env:
+                    at, goal = env[q.group(1)], helpers[m.group(1)][k]
+                    if goal not in names.chain(at):
+                        told.append(f"{where}: not below: {m.group(1)} {arg}")
+                        continue
+                    new = q.group(1)
+                    if at != goal and m.group(1) in names.answered:
+                        h = 0
+                        while at is not None and at != goal:
+                            at = names.up(at, names.arms[at][1] if names.arms[at] else 1)
+                            h += 1
+                        new += ".before" * h
+                    elif at != goal:
+                        new = f"(goal.at.{owner or names.by_name[at]} {new}).{names.by_name[goal]}"
+                    out += text[pos : span[0]] + new
+                    pos = span[1]
+    return out + text[pos:]
 
 
 def turn(folder, module, d):
     names = Names(d)
+    names.callee = module.replace("Rattle.", "", 1).replace(".proofs.", "::", 1).replace(".", "::")
     src = os.path.join(folder, "Proof.antt")
     text = open(src, encoding="utf-8").read()
     told = []
@@ -243,6 +401,27 @@ def turn(folder, module, d):
     by_old = {norm(o): (n, names.index[norm(at[0])]) for (o, n), at in zip(names.needs, names.asked_at)}
     loop_new = {norm(l[0][0]): l for l in loops}
 
+    NOT = any(re.match(r"use borrow\.Author\.Tests\.\{.*not-(true|false)", h) for h in head)
+    # the lemmas over places, and which of their arguments is one
+    helpers, params_of = {}, {}
+    for g in decls:
+        sig = []
+        for j, line in enumerate(g["lines"]):
+            if j and (line.startswith("unfolding") or re.match(re.escape(g["name"]) + r"\b", line)):
+                break
+            sig.append(line)
+        text_of = "\n".join(sig)
+        text_of = text_of[text_of.index(" :") + 2 :]
+        bs = binders(text_of)
+        params_of[g["name"]] = bs
+        at = {}
+        for k, (_, t) in enumerate(bs):
+            m = re.match(r"^\(?tie\.([A-Z][^\s(){}\[\],;.]*)", t)
+            if m and norm(m.group(1)) in names.index:
+                at[k] = names.index[norm(m.group(1))]
+        if at:
+            helpers[g["name"]] = at
+
     answer_of = {}
     for g in decls:
         m = re.search(r":\s+tie\.Need-(\S+)", g["lines"][0] + " " + (g["lines"][1].strip() if len(g["lines"]) > 1 else ""))
@@ -268,6 +447,8 @@ def turn(folder, module, d):
     for n, v in answer_of.items():
         if v:
             rename[n] = v[0][0]
+            names.answered.add(n)
+            helpers[n] = {0: v[0][1]}
 
     taken = set()
 
@@ -345,7 +526,17 @@ def turn(folder, module, d):
             params = m.group(1).split()
             env = {params[0]: at} if params else {}
             keep = [p for p in params if p != "κs"]
-            term = turn_body(names, body[m.end():], env, told, where)
+            term = turn_body(names, body[m.end():], env, told, where, helpers, new)
+            if NOT:
+                term = re.sub(rf"\(not-(?:true|false) \S+ ({WORD}(?:\.{WORD})*\.if-not-{WORD}\.{WORD})\)", r"\1", term)
+                term = re.sub(rf"not-(?:true|false) \S+ ({WORD}(?:\.{WORD})*\.if-not-{WORD}\.{WORD})", r"\1", term)
+            asked = re.match(r"^(.*)-requires(-\d+)?$", next((norm(o) for o, n in names.needs if n == new), ""))
+            if asked:
+                for callee in names.params:
+                    if norm(callee.split("::")[-1]) == asked.group(1):
+                        term = named(callee, "requires", term)
+            elif new.startswith("returns"):
+                term = named(names.callee, "ensures", term)
             pre = body[: m.start()]
             ans += g["note"] + [f"pub {new} : goal.{new}"] + ([pre.rstrip("\n")] if pre.strip() else []) + [f"{new} {' '.join(keep)} =" .replace("  ", " ") + renamed(places(term)), ""]
             if len(v) > 1:
@@ -359,13 +550,22 @@ def turn(folder, module, d):
             if key in names.index:
                 for v in m.group(1).split():
                     env[v] = names.index[key]
-        body = turn_body(names, body, env, told, where)
+        for k, at in helpers.get(g["name"], {}).items():
+            for m in re.finditer(r"^\s*" + re.escape(g["name"]) + r"((?: [^\n=]+?)?) =(?=\s|$)", body, re.M):
+                ps = [p for p in arguments(m.group(1)) if not p.startswith("{")]
+                if k < len(ps):
+                    env[ps[k]] = at
+        own_name = g["name"]
+        body = turn_body(names, body, env, told, where, {h: v for h, v in helpers.items() if h != own_name}, None)
+        if NOT:
+            body = re.sub(rf"\(not-(?:true|false) \S+ ({WORD}(?:\.{WORD})*\.if-not-{WORD}\.{WORD})\)", r"\1", body)
+            body = re.sub(rf"not-(?:true|false) \S+ ({WORD}(?:\.{WORD})*\.if-not-{WORD}\.{WORD})", r"\1", body)
         ans += g["note"] + [renamed(places(body)), ""]
     for new, at, a in extra:
         t = re.sub(r"\s+", " ", a)
         m = re.match(r"^\(λ (\S+?)( κs)?\. (.*)\)$", t)
         if m:
-            term = turn_body(names, m.group(3), {m.group(1): at}, told, src)
+            term = turn_body(names, m.group(3), {m.group(1): at}, told, src, helpers, new)
             ans += [f"pub {new} : goal.{new}", f"{new} {m.group(1)} = {renamed(places(term))}", ""]
         else:
             ans += [f"pub {new} : goal.{new}", f"{new} c = {renamed(t)} c", ""]
@@ -399,6 +599,7 @@ def turn(folder, module, d):
 
 def main(argv):
     to, crates = argv[0], argv[1:]
+    read_clauses()
     for c in crates:
         with open(os.path.join(to, "crates", c, "names.json"), encoding="utf-8") as f:
             all_names = json.load(f)

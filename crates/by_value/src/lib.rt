@@ -2,7 +2,7 @@
 
 #![tactic(auto)]
 
-ghost use Rattle.definitions.specs.Moments.{was, after, outs_were, outs_left};
+ghost use Rattle.definitions.specs.Moments.{outputs};
 ghost use Rattle.laws.specs.cell.Lent.{samples_were};
 ghost use Rattle.clip.specs.Holding.{manifest};
 ghost use Rattle.clip.specs.Preparing.{MadeSet};
@@ -38,7 +38,7 @@ pub fn accept(
     interpolate: bool,
 ) -> Accepted
     requires { Made resolver }
-    ensures { Accepts resolver (explicit_fields clips (was starts) (was numbers) (was xs) (was ys) (was blocks) (manifest default interpolate)) result }
+    ensures { Accepts resolver (explicit_fields clips starts.now numbers.now xs.now ys.now blocks.now (manifest default interpolate)) result }
 {
     let prepared = explicit::parse_set(
         clips,
@@ -65,7 +65,7 @@ pub fn accept_template(
     interpolate: bool,
 ) -> Accepted
     requires { Made resolver }
-    ensures { Expands resolver (template_fields (was template) times offset (was blocks) (manifest default interpolate)) result }
+    ensures { Expands resolver (template_fields template.now times offset blocks.now (manifest default interpolate)) result }
 {
     let prepared = template::expand_template(template, times, offset, blocks, default, interpolate);
     settle(resolver, prepared)
@@ -232,7 +232,7 @@ pub fn stage_sample_times(
     out: &mut [f64],
 ) -> Counted
     requires { Made resolver }
-    ensures { TellsTimes resolver (samples_were times values marks ends) (was out) (after out) result }
+    ensures { TellsTimes resolver (samples_were times values marks ends) out.old out.new result }
 {
     let counts = resolver.set.counts;
     let manifest = resolver.set.manifest;
@@ -268,7 +268,7 @@ pub fn stage_samples(
     outmarks: &mut [u8],
 ) -> Counted
     requires { Made resolver }
-    ensures { TellsSamples resolver (samples_were times values marks ends) (was outtimes) (after outtimes) (was outmarks) (after outmarks) result }
+    ensures { TellsSamples resolver (samples_were times values marks ends) outtimes.old outtimes.new outmarks.old outmarks.new result }
 {
     let counts = resolver.set.counts;
     let manifest = resolver.set.manifest;
@@ -372,7 +372,7 @@ pub fn bake(
     outmarks: &mut [u8],
 ) -> Baked
     requires { Made resolver }
-    ensures { BakesTrack resolver (samples_were times values marks ends) (outs_were outtimes outvalues outmarks) result (outs_left outtimes outvalues outmarks) }
+    ensures { BakesTrack resolver (samples_were times values marks ends) (outputs outtimes.old outvalues.old outmarks.old) result (outputs outtimes.new outvalues.new outmarks.new) }
 {
     let counts = resolver.set.counts;
     let manifest = resolver.set.manifest;

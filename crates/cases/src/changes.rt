@@ -1,7 +1,6 @@
 // The calls that change what stands: each reads its fields, and hands back what the operation replied.
 pub(crate) mod named;
 
-ghost use Rattle.definitions.specs.Moments.{was};
 ghost use Rattle.resolver.specs.State.{Made};
 ghost use Rattle.resolver.specs.Promises.{Accepts, Expands};
 ghost use Rattle.cases.specs.declared.lines.calls.Change.TheVariants.{Explicit, Template, Retime};
@@ -115,7 +114,7 @@ fn accept_read(
     resolver: Resolver,
 ) -> Accepted
     requires { Made resolver }
-    ensures { Accepts resolver (explicit_of read (was starts) (was numbers) (was xs) (was ys) (was blocks)) result }
+    ensures { Accepts resolver (explicit_of read starts.now numbers.now xs.now ys.now blocks.now) result }
 {
     let filling = read.filling;
     let default = Default {
@@ -197,7 +196,7 @@ pub(crate) fn read_template(
 
 fn expand_read(read: TemplateRead, bytes: &[u8], blocks: &[f64], resolver: Resolver) -> Accepted
     requires { Made resolver }
-    ensures { Expands resolver (template_of read (was bytes) (was blocks)) result }
+    ensures { Expands resolver (template_of read bytes.now blocks.now) result }
 {
     let filling = read.filling;
     let times = read.times;

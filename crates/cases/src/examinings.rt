@@ -1,7 +1,6 @@
 // The lines that examine a set: its fields are read as those of an acceptance, and no resolver is touched.
 ghost use Rattle.std.specs.Prelude.{◌<◌};
 ghost use Rattle.definitions.specs.Examining.{explicitly, by_template};
-ghost use Rattle.definitions.specs.Moments.{was};
 ghost use Rattle.clip.specs.Preparing.{Examines};
 ghost use Rattle.cases.specs.Changes.{explicit_of, template_of};
 ghost use Rattle.cases.specs.Prepared.{Looks};
@@ -41,7 +40,7 @@ fn examine_read(
     ys: &[f64],
     blocks: &[f64],
 ) -> Prepared
-    ensures { Examines (explicitly (explicit_of read (was starts) (was numbers) (was xs) (was ys) (was blocks))) result }
+    ensures { Examines (explicitly (explicit_of read starts.now numbers.now xs.now ys.now blocks.now)) result }
 {
     let filling = read.filling;
     let default = Default {
@@ -90,7 +89,7 @@ fn explicit(line: &[u8], at: usize, slot: usize) -> Looked
 }
 
 fn expand_read(read: TemplateRead, bytes: &[u8], blocks: &[f64]) -> Prepared
-    ensures { Examines (by_template (template_of read (was bytes) (was blocks))) result }
+    ensures { Examines (by_template (template_of read bytes.now blocks.now)) result }
 {
     let filling = read.filling;
     let times = read.times;

@@ -1,5 +1,4 @@
 // The lines that call the dispatcher. Its sets stand in eight lists, beside the resolver.
-ghost use Rattle.definitions.specs.Moments.{after};
 ghost use Rattle.resolver.specs.State.{Made};
 ghost use Rattle.pages.specs.Pages as Pages;
 ghost use Rattle.pages.specs.Pages.{pages};
@@ -24,7 +23,7 @@ pub(crate) fn renew(
     counts: &mut [u64; SHAPES],
     bytes: &mut [u8; NAMES],
 )
-    ensures { Pages.Made (pages (after starts) (after numbers) (after xs) (after ys) (after blocks) (after defaults) (after counts) (after bytes)) }
+    ensures { Pages.Made (pages starts.new numbers.new xs.new ys.new blocks.new defaults.new counts.new bytes.new) }
 {
     pages::fresh(starts, numbers, xs, ys, blocks, defaults, counts, bytes);
 }
@@ -48,7 +47,7 @@ pub(crate) fn change(
     requires fact_2 { MadeSlots slots }
     requires fact_3 { Pages.Made (pages starts.old numbers.old xs.old ys.old blocks.old defaults.old counts.old bytes.old) }
     ensures fact_1 { Stays session result }
-    ensures fact_2 { Pages.Made (pages (after starts) (after numbers) (after xs) (after ys) (after blocks) (after defaults) (after counts) (after bytes)) }
+    ensures fact_2 { Pages.Made (pages starts.new numbers.new xs.new ys.new blocks.new defaults.new counts.new bytes.new) }
 {
     let said = crate::changes::named::change(
         line, slots, starts, numbers, xs, ys, blocks, defaults, counts, bytes,

@@ -1,7 +1,6 @@
 // The hash of a track that is too long to print: its changes are walked, and none is kept.
 ghost use Rattle.std.specs.Prelude.{◌≡◌, ◌≤◌, length};
 ghost use Rattle.gf.specs.Doubles as Key;
-ghost use Rattle.definitions.specs.Moments.{was};
 ghost use Rattle.laws.specs.cell.Keys.{entry_at_key};
 ghost use Rattle.laws.specs.cell.Lent.{set_of, samples_of, AcceptedLists};
 ghost use Rattle.window.specs.search.Latest.{LatestOf};
@@ -107,7 +106,7 @@ fn walk_page(
     requires accepted_lists { AcceptedLists starts.now clips.now xs.now ys.now blocks.now m times.now values.now marks.now ends.now }
     requires latest_of { LatestOf xs.now ys.now latest.now }
     requires cursor_is { CursorIs starts.now clips.now xs.now ys.now blocks.now m times.now values.now marks.now ends.now Key.most from }
-    ensures { PageIs (was starts) (was clips) (was xs) (was ys) (was blocks) m (was times) (was values) (was marks) (was ends) from.key Key.most result.filled }
+    ensures { PageIs starts.now clips.now xs.now ys.now blocks.now m times.now values.now marks.now ends.now from.key Key.most result.filled }
 {
     let mut pagetimes: [f64; PAGE] = [0.0; PAGE];
     let mut pagevalues: [f64; PAGE] = [0.0; PAGE];

@@ -10,7 +10,6 @@ pub mod step;
 
 ghost use Rattle.std.specs.Prelude.{◌≡◌, ◌-◌, length};
 ghost use Rattle.definitions.specs.Doubles.{FiniteDouble};
-ghost use Rattle.definitions.specs.Moments.{was};
 ghost use Rattle.laws.specs.list.Places.{Ascending};
 ghost use Rattle.window.specs.Bounds.{UpperIs};
 ghost use Rattle.cell.specs.CellAndEnd.{cell_is, held_of, direct_in, CellAsks, CellIn};
@@ -44,7 +43,7 @@ pub struct CellAndEnd {
 fn first_above(xs: &[f64], t: f64) -> Bound
     requires ascending { Ascending xs.now }
     requires finite_double { FiniteDouble t }
-    ensures { UpperIs (was xs) t result }
+    ensures { UpperIs xs.now t result }
 {
     if xs.len() == 0 {
         return Bound::Nothing;
@@ -64,7 +63,7 @@ fn direct_cell(starts: &[f64], xs: &[f64], ys: &[f64], w: Window, t: f64) -> Cel
     requires ascending_1 { Ascending xs.now }
     requires ascending_2 { length xs.now ≡ length ys.now }
     requires finite_double { FiniteDouble t }
-    ensures { cell_is result ≡ direct_in (was starts) (was xs) (was ys) w t }
+    ensures { cell_is result ≡ direct_in starts.now xs.now ys.now w t }
 {
     if starts.len() == 0 {
         return Cell::Constant(Source::Absent);
@@ -80,7 +79,7 @@ fn direct_cell(starts: &[f64], xs: &[f64], ys: &[f64], w: Window, t: f64) -> Cel
 // missing or two knots share an x between them.
 fn held_from(xs: &[f64], near: NeighboursAndHints) -> Bound
     requires { Ascending xs.now }
-    ensures { result ≡ held_of (was xs) near.lower near.upper }
+    ensures { result ≡ held_of xs.now near.lower near.upper }
 {
     let lower = near.lower;
     let upper = near.upper;
@@ -118,7 +117,7 @@ pub fn cell_at(
     t: f64,
 ) -> CellAndEnd
     requires { CellAsks starts.now xs.now ys.now times.now latest.now place.window t }
-    ensures { CellIn (was starts) (was xs) (was ys) (was times) place.window t result.cell result.end }
+    ensures { CellIn starts.now xs.now ys.now times.now place.window t result.cell result.end }
 {
     let w = place.window;
     if starts.len() < 2 {

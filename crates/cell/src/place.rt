@@ -4,7 +4,6 @@ ghost use Rattle.std.specs.Float.Ieee.{eq};
 ghost use Rattle.definitions.specs.Lists.{any};
 ghost use Rattle.definitions.specs.Doubles.{FiniteDouble};
 ghost use Rattle.definitions.specs.Samples.{clip_begin, clip_end};
-ghost use Rattle.definitions.specs.Moments.{was};
 ghost use Rattle.laws.specs.cell.Lent.{AcceptedLists};
 ghost use Rattle.value.specs.WindowOf.{WindowIs};
 ghost use Rattle.cell.specs.WindowPlaces.{no_place, PlaceIs, PlaceAt, Follows};
@@ -28,7 +27,7 @@ pub struct WindowPlace {
 
 // The place of a walk that has not begun: in no window.
 pub fn no_place(starts: &[f64]) -> WindowPlace
-    ensures { result ≡ no_place (length (was starts)) }
+    ensures { result ≡ no_place (length starts.now) }
 {
     let w = Window {
         start: 0.0,
@@ -50,7 +49,7 @@ pub fn no_place(starts: &[f64]) -> WindowPlace
 // The clip contributes from this start, and it has samples.
 fn has_reading(blocks: &[f64], m: Missing, ends: &[u64], start: f64, clip: u64) -> bool
     requires { clip < length ends.now }
-    ensures { result ≡ (not (m.interpolate && any (λ (b : Float). eq b start) (was blocks)) && ltb (clip_begin (was ends) clip) (clip_end (was ends) clip)) }
+    ensures { result ≡ (not (m.interpolate && any (λ (b : Float). eq b start) blocks.now) && ltb (clip_begin ends.now clip) (clip_end ends.now clip)) }
 {
     if contributes(blocks, m, start) {
         return clip_begin(ends, clip) < clip_end(ends, clip);
@@ -69,7 +68,7 @@ fn follows(
     p: usize,
 ) -> bool
     requires { clip < length ends.now }
-    ensures { (result ≡ true) → Follows (was blocks) m (was ends) start clip place.start place.window p }
+    ensures { (result ≡ true) → Follows blocks.now m ends.now start clip place.start place.window p }
 {
     if p == 0 {
         return false;
@@ -103,7 +102,7 @@ fn window_after(
     requires accepted_lists { AcceptedLists starts.now clips.now xs.now ys.now blocks.now m times.now values.now marks.now ends.now }
     requires place_is { PlaceIs starts.now clips.now xs.now ys.now blocks.now m times.now values.now marks.now ends.now place.start place.window }
     requires p_in_bounds { p < length starts.now }
-    ensures { WindowIs (was starts) (was clips) (was xs) (was ys) (was blocks) m (was times) (was values) (was marks) (was ends) p result }
+    ensures { WindowIs starts.now clips.now xs.now ys.now blocks.now m times.now values.now marks.now ends.now p result }
 {
     let start = starts[p];
     let clip = clips[p];
@@ -144,7 +143,7 @@ pub fn place_at(
     requires accepted_lists { AcceptedLists starts.now clips.now xs.now ys.now blocks.now m times.now values.now marks.now ends.now }
     requires place_is { PlaceIs starts.now clips.now xs.now ys.now blocks.now m times.now values.now marks.now ends.now place.start place.window }
     requires finite_double { FiniteDouble t }
-    ensures { PlaceAt (was starts) (was clips) (was xs) (was ys) (was blocks) m (was times) (was values) (was marks) (was ends) t result.start result.window }
+    ensures { PlaceAt starts.now clips.now xs.now ys.now blocks.now m times.now values.now marks.now ends.now t result.start result.window }
 {
     if starts.len() == 0 {
         return place;

@@ -8,7 +8,6 @@ pub mod entry;
 
 ghost use Rattle.std.specs.Prelude.{◌≡◌, ◌≤◌, ◌<◌, eqb, length};
 ghost use Rattle.gf.specs.Doubles as Key;
-ghost use Rattle.definitions.specs.Moments.{was};
 ghost use Rattle.laws.specs.list.Places.{Ascending};
 ghost use Rattle.laws.specs.track.Steps.{Once, StepAt, FirstStep};
 ghost use Rattle.laws.specs.cell.Keys.{Keys};
@@ -25,7 +24,7 @@ fn is_read(ts: &[f64], line: Line, q: usize, k: u64) -> bool
     requires ascending_1 { Ascending ts.now }
     requires ascending_2 { q < length ts.now }
     requires le_k { (Key.least ≤ k) × (k ≤ Key.most) }
-    ensures { result ≡ eqb (place_on (was ts) line k) q }
+    ensures { result ≡ eqb (place_on ts.now line k) q }
 {
     is_place(ts, q, along(line, gf::of_key(k)))
 }
@@ -84,7 +83,7 @@ fn step_between(ts: &[f64], line: Line, q: usize, k: u64, hi: u64) -> u64
     requires once { Once (place_on ts.now line) k hi }
     requires k_value { place_on ts.now line k ≡ q }
     requires fact { place_on ts.now line hi ≡ q → ⊥ }
-    ensures { StepAt (place_on (was ts) line) k hi result }
+    ensures { StepAt (place_on ts.now line) k hi result }
 {
     let mut a = k;
     let mut b = hi;
@@ -107,7 +106,7 @@ fn step_above(ts: &[f64], line: Line, q: usize, top: f64, k: u64, hi: u64) -> Ne
     requires keys { Keys k hi }
     requires once { Once (place_on ts.now line) k hi }
     requires k_value { place_on ts.now line k ≡ q }
-    ensures { FirstStep (place_on (was ts) line) k hi result }
+    ensures { FirstStep (place_on ts.now line) k hi result }
 {
     let mut a = k;
     let mut width: u64 = 1;
@@ -134,7 +133,7 @@ fn step_below(ts: &[f64], line: Line, q: usize, k: u64, hi: u64) -> u64
     requires once { Once (place_on ts.now line) k hi }
     requires k_value { place_on ts.now line k ≡ q }
     requires fact { place_on ts.now line hi ≡ q → ⊥ }
-    ensures { StepAt (place_on (was ts) line) k hi result }
+    ensures { StepAt (place_on ts.now line) k hi result }
 {
     let mut b = hi;
     let mut width: u64 = 1;
@@ -159,7 +158,7 @@ pub fn next_step(ts: &[f64], line: Line, q: usize, top: f64, k: u64, hi: u64) ->
     requires keys { Keys k hi }
     requires once { Once (place_on ts.now line) k hi }
     requires k_value { place_on ts.now line k ≡ q }
-    ensures { FirstStep (place_on (was ts) line) k hi result }
+    ensures { FirstStep (place_on ts.now line) k hi result }
 {
     let g = guess(ts, line, q, k, hi);
     if is_read(ts, line, q, g) {

@@ -2,7 +2,6 @@
 ghost use Rattle.std.specs.Prelude.{◌≡◌, ◌&&◌, ◌≤◌, length};
 ghost use Rattle.std.specs.Float.Ieee.Scale.{finite};
 ghost use Rattle.definitions.specs.Retime.{is_identity, moved};
-ghost use Rattle.definitions.specs.Moments.{was, after};
 ghost use Rattle.laws.specs.cell.Lent.{active_of, knots_of, set_of};
 ghost use Rattle.clip.specs.Holding.{ArraysWhole, clip_set_of, manifest_of};
 ghost use Rattle.clip.specs.Storing.{Stores};
@@ -43,7 +42,7 @@ fn unpack_moved(
 )
     requires fact_1 { ArraysWhole set }
     requires fact_2 { RoomForAll set times.old numbers.old xs.old ys.old blocks.old }
-    ensures { set_of set.clips (after times) (after numbers) (after xs) (after ys) (after blocks) (manifest_of set) ≡ moved o (clip_set_of set) }
+    ensures { set_of set.clips times.new numbers.new xs.new ys.new blocks.new (manifest_of set) ≡ moved o (clip_set_of set) }
 {
     let active = set.active;
     let knots = set.knots;
@@ -60,8 +59,8 @@ fn unpack_moved(
 fn sort_turned(scale: f64, times: &mut [f64], numbers: &mut [u64], xs: &mut [f64], ys: &mut [f64])
     requires times_len { (length times.old ≡ length numbers.old) × (length times.old ≤ 512) }
     requires xs_len { (length xs.old ≡ length ys.old) × (length xs.old ≤ 512) }
-    ensures numbers_value { active_of (after times) (after numbers) ≡ active_turned scale (active_of (was times) (was numbers)) }
-    ensures ys_value { knots_of (after xs) (after ys) ≡ knots_turned scale (knots_of (was xs) (was ys)) }
+    ensures numbers_value { active_of times.new numbers.new ≡ active_turned scale (active_of times.old numbers.old) }
+    ensures ys_value { knots_of xs.new ys.new ≡ knots_turned scale (knots_of xs.old ys.old) }
 {
     if scale < 0.0 {
         lists::sorting::sort_starts(times, numbers);

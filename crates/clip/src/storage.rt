@@ -1,7 +1,6 @@
 // A set's lists in arrays with counts, made of plain lists and taken apart again.
 ghost use Rattle.std.specs.Prelude.{◌≡◌, [], ◌≤◌, length};
 ghost use Rattle.definitions.specs.ClipSet.{max_active, max_knots, max_blocks, active_times, knot_times};
-ghost use Rattle.definitions.specs.Moments.{was, after};
 ghost use Rattle.laws.specs.set.Sound.{knot_values};
 ghost use Rattle.laws.specs.cell.Lent.{active_of, knots_of};
 ghost use Rattle.clip.specs.Holding.{Room, Holds, active_in, active_clips, knots_in, blocks_in};
@@ -56,7 +55,7 @@ pub fn no_blocks() -> Blocks
 pub fn pack_active(times: &[f64], clips: &[u64]) -> Active
     requires fact_1 { length times.now ≡ length clips.now }
     requires fact_2 { length times.now ≤ max_active }
-    ensures { Holds max_active result.items result.count (active_of (was times) (was clips)) }
+    ensures { Holds max_active result.items result.count (active_of times.now clips.now) }
 {
     let none = no_active();
     let mut items = none.items;
@@ -75,7 +74,7 @@ pub fn pack_active(times: &[f64], clips: &[u64]) -> Active
 pub fn pack_knots(xs: &[f64], ys: &[f64]) -> Knots
     requires fact_1 { length xs.now ≡ length ys.now }
     requires fact_2 { length xs.now ≤ max_knots }
-    ensures { Holds max_knots result.items result.count (knots_of (was xs) (was ys)) }
+    ensures { Holds max_knots result.items result.count (knots_of xs.now ys.now) }
 {
     let none = no_knots();
     let mut items = none.items;
@@ -90,7 +89,7 @@ pub fn pack_knots(xs: &[f64], ys: &[f64]) -> Knots
 
 pub fn pack_blocks(times: &[f64]) -> Blocks
     requires { length times.now ≤ max_blocks }
-    ensures { Holds max_blocks result.items result.count (was times) }
+    ensures { Holds max_blocks result.items result.count times.now }
 {
     let none = no_blocks();
     let mut items = none.items;
@@ -108,8 +107,8 @@ pub fn unpack_active(active: Active, times: &mut [f64], clips: &mut [u64])
     requires fact_1 { Room max_active active.items active.count }
     requires fact_2 { length times.old ≡ active.count }
     requires fact_3 { length clips.old ≡ active.count }
-    ensures times_value { after times ≡ active_times (active_in active) }
-    ensures clips_value { after clips ≡ active_clips (active_in active) }
+    ensures times_value { times.new ≡ active_times (active_in active) }
+    ensures clips_value { clips.new ≡ active_clips (active_in active) }
 {
     let n = active.count;
     let mut i: usize = 0;
@@ -125,8 +124,8 @@ pub fn unpack_knots(knots: Knots, xs: &mut [f64], ys: &mut [f64])
     requires fact_1 { Room max_knots knots.items knots.count }
     requires fact_2 { length xs.old ≡ knots.count }
     requires fact_3 { length ys.old ≡ knots.count }
-    ensures xs_value { after xs ≡ knot_times (knots_in knots) }
-    ensures ys_value { after ys ≡ knot_values (knots_in knots) }
+    ensures xs_value { xs.new ≡ knot_times (knots_in knots) }
+    ensures ys_value { ys.new ≡ knot_values (knots_in knots) }
 {
     let n = knots.count;
     let mut i: usize = 0;
@@ -141,7 +140,7 @@ pub fn unpack_knots(knots: Knots, xs: &mut [f64], ys: &mut [f64])
 pub fn unpack_blocks(blocks: Blocks, times: &mut [f64])
     requires fact_1 { Room max_blocks blocks.items blocks.count }
     requires fact_2 { length times.old ≡ blocks.count }
-    ensures { after times ≡ blocks_in blocks }
+    ensures { times.new ≡ blocks_in blocks }
 {
     let n = blocks.count;
     let mut i: usize = 0;

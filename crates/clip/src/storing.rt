@@ -1,7 +1,6 @@
 // The last checks of every set, whether explicit, expanded or retimed: its lists are in order, and 2, 4, 5 or 9 may still refuse it.
 ghost use Rattle.std.specs.Prelude.{◌≡◌, ◌≤◌, length};
 ghost use Rattle.definitions.specs.ClipSet.{nan_default, sort_active, sort_knots};
-ghost use Rattle.definitions.specs.Moments.{was, after};
 ghost use Rattle.laws.specs.cell.Lent.{active_of, knots_of, set_of};
 ghost use Rattle.definitions.specs.Examining.{empty_set};
 ghost use Rattle.clip.specs.Preparing.{HandsBack};
@@ -29,7 +28,7 @@ pub fn is_nan_default(default: Default) -> bool
 }
 
 pub fn lists_number(times: &[f64], xs: &[f64], blocks: &[f64], default: Default) -> u8
-    ensures { result ≡ lists_number (was times) (was xs) (was blocks) default }
+    ensures { result ≡ lists_number times.now xs.now blocks.now default }
 {
     if lists::any_unstorable(times) {
         return refusal::UNSTORABLE;
@@ -63,7 +62,7 @@ pub fn store(
     manifest: Missing,
 ) -> Prepared
     requires { Fitting times.now numbers.now xs.now ys.now blocks.now }
-    ensures { HandsBack 0 (set_of clips (was times) (was numbers) (was xs) (was ys) (was blocks) manifest) result }
+    ensures { HandsBack 0 (set_of clips times.now numbers.now xs.now ys.now blocks.now manifest) result }
 {
     let default = manifest.default;
     let active = storage::pack_active(times, numbers);
@@ -91,7 +90,7 @@ pub fn check_and_store(
     manifest: Missing,
 ) -> Prepared
     requires { Fitting times.now numbers.now xs.now ys.now blocks.now }
-    ensures { Stores empty_set (set_of clips (was times) (was numbers) (was xs) (was ys) (was blocks) manifest) result }
+    ensures { Stores empty_set (set_of clips times.now numbers.now xs.now ys.now blocks.now manifest) result }
 {
     let number = lists_number(times, xs, blocks, manifest.default);
     if number != 0 {
@@ -104,8 +103,8 @@ pub fn check_and_store(
 pub fn sort_lists(times: &mut [f64], numbers: &mut [u64], xs: &mut [f64], ys: &mut [f64])
     requires times_len { (length times.old ≡ length numbers.old) × (length times.old ≤ 512) }
     requires xs_len { (length xs.old ≡ length ys.old) × (length xs.old ≤ 512) }
-    ensures numbers_value { active_of (after times) (after numbers) ≡ sort_active (active_of (was times) (was numbers)) }
-    ensures ys_value { knots_of (after xs) (after ys) ≡ sort_knots (knots_of (was xs) (was ys)) }
+    ensures numbers_value { active_of times.new numbers.new ≡ sort_active (active_of times.old numbers.old) }
+    ensures ys_value { knots_of xs.new ys.new ≡ sort_knots (knots_of xs.old ys.old) }
 {
     lists::sorting::sort_starts(times, numbers);
     lists::sorting::sort_knots(xs, ys);

@@ -1,6 +1,5 @@
 // An explicit set's fields: the numbers that they alone give.
 ghost use Rattle.std.specs.Prelude.{◌≡◌};
-ghost use Rattle.definitions.specs.Moments.{was};
 ghost use Rattle.explicit.specs.Parsing.{explicit_fields, misshapen, any_not_clip, fields_number};
 
 use clip::storing;
@@ -44,7 +43,7 @@ fn is_misshapen(
 
 // 3: a number that is none of a clip.
 fn any_not_clip(numbers: &[f64], clips: u64) -> bool
-    ensures { result ≡ any_not_clip clips (was numbers) }
+    ensures { result ≡ any_not_clip clips numbers.now }
 {
     let mut i: usize = 0;
     while i < numbers.len() {
@@ -66,7 +65,7 @@ pub fn fields_number(
     blocks: &[f64],
     manifest: Missing,
 ) -> u8
-    ensures { result ≡ fields_number (explicit_fields clips (was starts) (was numbers) (was xs) (was ys) (was blocks) manifest) }
+    ensures { result ≡ fields_number (explicit_fields clips starts.now numbers.now xs.now ys.now blocks.now manifest) }
 {
     if is_misshapen(
         clips,

@@ -6,7 +6,6 @@ mod fields;
 mod parsing;
 
 ghost use Rattle.definitions.specs.Examining.{explicitly};
-ghost use Rattle.definitions.specs.Moments.{was};
 ghost use Rattle.clip.specs.Holding.{manifest};
 ghost use Rattle.clip.specs.Preparing.{Examines};
 ghost use Rattle.explicit.specs.Parsing.{explicit_fields};
@@ -26,7 +25,7 @@ pub fn parse_set(
     default: Default,
     interpolate: bool,
 ) -> Prepared
-    ensures { Examines (explicitly (explicit_fields clips (was starts) (was numbers) (was xs) (was ys) (was blocks) (manifest default interpolate))) result }
+    ensures { Examines (explicitly (explicit_fields clips starts.now numbers.now xs.now ys.now blocks.now (manifest default interpolate))) result }
 {
     let manifest = Missing {
         default,

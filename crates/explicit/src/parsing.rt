@@ -2,7 +2,6 @@
 ghost use Rattle.std.specs.Prelude.{◌≡◌, map, length};
 ghost use Rattle.gf.specs.Doubles.{truncated};
 ghost use Rattle.definitions.specs.Explicit.{explicit_set};
-ghost use Rattle.definitions.specs.Moments.{was, after};
 ghost use Rattle.laws.specs.list.Every.{Every};
 ghost use Rattle.definitions.specs.Examining.{empty_set};
 ghost use Rattle.clip.specs.Storing.{Stores};
@@ -15,7 +14,7 @@ use definitions::Missing;
 fn copy_clips(numbers: &[f64], to: &mut [u64])
     requires fact_1 { Every Indexed numbers.now }
     requires fact_2 { length to.old ≡ length numbers.now }
-    ensures { after to ≡ map truncated (was numbers) }
+    ensures { to.new ≡ map truncated numbers.now }
 {
     let mut i: usize = 0;
     while i < numbers.len() {
@@ -40,7 +39,7 @@ pub fn parse_lists(
 ) -> Prepared
     requires fact_1 { fields_number (explicit_fields clips starts.now numbers.now xs.now ys.now blocks.now manifest) ≡ 0 }
     requires fact_2 { Lent starts.now xs.now times.old indices.old us.old vs.old }
-    ensures { Stores empty_set (explicit_set (explicit_fields clips (was starts) (was numbers) (was xs) (was ys) (was blocks) manifest)) result }
+    ensures { Stores empty_set (explicit_set (explicit_fields clips starts.now numbers.now xs.now ys.now blocks.now manifest)) result }
 {
     lists::writing::copy(starts, times);
     copy_clips(numbers, indices);

@@ -2,12 +2,11 @@
 
 #![tactic(auto)]
 
-ghost use Rattle.definitions.specs.Moments.{was};
 ghost use Rattle.clip.specs.Holding.{manifest};
 ghost use Rattle.clip.specs.Preparing.{MadeSet};
 ghost use Rattle.explicit.specs.Parsing.{explicit_fields};
 ghost use Rattle.template.specs.Expanding.{template_fields};
-ghost use Rattle.resolver.specs.State.{Made, lent_state, state_was, state_left, settled_state};
+ghost use Rattle.resolver.specs.State.{Made, lent_state, settled_state};
 ghost use Rattle.resolver.specs.Promises.{BeginsLent, Accepts, Expands, Retimes, Installs};
 
 use clip::ClipSet;
@@ -58,7 +57,7 @@ pub fn accept(
     interpolate: bool,
 ) -> Settled
     requires { Made (lent_state shape starts.old numbers.old xs.old ys.old blocks.old) }
-    ensures { Accepts (state_was shape starts numbers xs ys blocks) (explicit_fields clips (was newstarts) (was newnumbers) (was newxs) (was newys) (was newblocks) (manifest default interpolate)) (settled_state result starts numbers xs ys blocks) }
+    ensures { Accepts (lent_state shape starts.old numbers.old xs.old ys.old blocks.old) (explicit_fields clips newstarts.now newnumbers.now newxs.now newys.now newblocks.now (manifest default interpolate)) (settled_state result starts.new numbers.new xs.new ys.new blocks.new) }
 {
     let prepared = explicit::parse_set(
         clips,
@@ -100,7 +99,7 @@ pub fn accept_template(
     interpolate: bool,
 ) -> Settled
     requires { Made (lent_state shape starts.old numbers.old xs.old ys.old blocks.old) }
-    ensures { Expands (state_was shape starts numbers xs ys blocks) (template_fields (was template) times offset (was newblocks) (manifest default interpolate)) (settled_state result starts numbers xs ys blocks) }
+    ensures { Expands (lent_state shape starts.old numbers.old xs.old ys.old blocks.old) (template_fields template.now times offset newblocks.now (manifest default interpolate)) (settled_state result starts.new numbers.new xs.new ys.new blocks.new) }
 {
     let expanded = template::expand_template(
         template,
@@ -135,7 +134,7 @@ pub fn install(
 ) -> Shape
     requires made { Made (lent_state shape starts.old numbers.old xs.old ys.old blocks.old) }
     requires made_set { MadeSet set }
-    ensures { Installs (state_was shape starts numbers xs ys blocks) set (state_left result starts numbers xs ys blocks) }
+    ensures { Installs (lent_state shape starts.old numbers.old xs.old ys.old blocks.old) set (lent_state result starts.new numbers.new xs.new ys.new blocks.new) }
 {
     let counts = standing::unpacked(set, starts, numbers, xs, ys, blocks);
     let default = set.default;
@@ -162,7 +161,7 @@ pub fn retime(
     o: LayerOffset,
 ) -> Settled
     requires { Made (lent_state shape starts.old numbers.old xs.old ys.old blocks.old) }
-    ensures { Retimes (state_was shape starts numbers xs ys blocks) o (settled_state result starts numbers xs ys blocks) }
+    ensures { Retimes (lent_state shape starts.old numbers.old xs.old ys.old blocks.old) o (settled_state result starts.new numbers.new xs.new ys.new blocks.new) }
 {
     if !shape.stands {
         return Settled {

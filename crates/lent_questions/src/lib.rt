@@ -3,11 +3,11 @@
 #![tactic(auto)]
 
 ghost use Rattle.std.specs.Prelude.{◌≡◌};
-ghost use Rattle.definitions.specs.Moments.{was, after, outs_were, outs_left};
+ghost use Rattle.definitions.specs.Moments.{outputs};
 ghost use Rattle.definitions.specs.Questions.{refused};
 ghost use Rattle.laws.specs.cell.Lent.{samples_were};
 ghost use Rattle.track.specs.Bakes.{bake_code};
-ghost use Rattle.resolver.specs.State.{Made, lent_state, state_was};
+ghost use Rattle.resolver.specs.State.{Made, lent_state};
 ghost use Rattle.resolver.specs.Promises.{BakesTrack, TellsTimes, TellsSamples, TellsSampleCount, TellsChangeCount, TellsClip, TellsTime, TellsValue, TellsUntimed};
 
 use definitions::{StageTime, refusal};
@@ -28,7 +28,7 @@ pub fn clip_time<'a>(
     t: StageTime,
 ) -> TimeReply
     requires { Made (lent_state shape starts.now numbers.now xs.now ys.now blocks.now) }
-    ensures { TellsTime (state_was shape starts numbers xs ys blocks) t result }
+    ensures { TellsTime (lent_state shape starts.now numbers.now xs.now ys.now blocks.now) t result }
 {
     if !shape.stands {
         return TimeReply::Refused(refusal::NO_SET);
@@ -50,7 +50,7 @@ pub fn active_clip<'a>(
     t: StageTime,
 ) -> ClipReply
     requires { Made (lent_state shape starts.now numbers.now xs.now ys.now blocks.now) }
-    ensures { TellsClip (state_was shape starts numbers xs ys blocks) t result }
+    ensures { TellsClip (lent_state shape starts.now numbers.now xs.now ys.now blocks.now) t result }
 {
     if !shape.stands {
         return ClipReply::Refused(refusal::NO_SET);
@@ -80,7 +80,7 @@ pub fn value<'a>(
     t: StageTime,
 ) -> ValueReply
     requires { Made (lent_state shape starts.now numbers.now xs.now ys.now blocks.now) }
-    ensures { TellsValue (state_was shape starts numbers xs ys blocks) (samples_were times values marks ends) t result }
+    ensures { TellsValue (lent_state shape starts.now numbers.now xs.now ys.now blocks.now) (samples_were times values marks ends) t result }
 {
     if !shape.stands {
         return ValueReply::Refused(refusal::NO_SET);
@@ -122,7 +122,7 @@ pub fn untimed<'a>(
     ends: &[u64],
 ) -> UntimedReply
     requires { Made (lent_state shape starts.now numbers.now xs.now ys.now blocks.now) }
-    ensures { TellsUntimed (state_was shape starts numbers xs ys blocks) (samples_were times values marks ends) result }
+    ensures { TellsUntimed (lent_state shape starts.now numbers.now xs.now ys.now blocks.now) (samples_were times values marks ends) result }
 {
     if !shape.stands {
         return UntimedReply::Refused(refusal::NO_SET);
@@ -149,7 +149,7 @@ pub fn stage_sample_times<'a>(
     out: &mut [f64],
 ) -> Counted
     requires { Made (lent_state shape starts.now numbers.now xs.now ys.now blocks.now) }
-    ensures { TellsTimes (state_was shape starts numbers xs ys blocks) (samples_were times values marks ends) (was out) (after out) result }
+    ensures { TellsTimes (lent_state shape starts.now numbers.now xs.now ys.now blocks.now) (samples_were times values marks ends) out.old out.new result }
 {
     if !shape.stands {
         return refused_list(refusal::NO_SET);
@@ -177,7 +177,7 @@ pub fn stage_samples<'a>(
     outmarks: &mut [u8],
 ) -> Counted
     requires { Made (lent_state shape starts.now numbers.now xs.now ys.now blocks.now) }
-    ensures { TellsSamples (state_was shape starts numbers xs ys blocks) (samples_were times values marks ends) (was outtimes) (after outtimes) (was outmarks) (after outmarks) result }
+    ensures { TellsSamples (lent_state shape starts.now numbers.now xs.now ys.now blocks.now) (samples_were times values marks ends) outtimes.old outtimes.new outmarks.old outmarks.new result }
 {
     if !shape.stands {
         return refused_list(refusal::NO_SET);
@@ -216,7 +216,7 @@ pub fn stage_sample_count<'a>(
     ends: &[u64],
 ) -> Counted
     requires { Made (lent_state shape starts.now numbers.now xs.now ys.now blocks.now) }
-    ensures { TellsSampleCount (state_was shape starts numbers xs ys blocks) (samples_were times values marks ends) result }
+    ensures { TellsSampleCount (lent_state shape starts.now numbers.now xs.now ys.now blocks.now) (samples_were times values marks ends) result }
 {
     if !shape.stands {
         return refused_list(refusal::NO_SET);
@@ -246,7 +246,7 @@ pub fn change_count<'a>(
     ends: &[u64],
 ) -> Counted
     requires { Made (lent_state shape starts.now numbers.now xs.now ys.now blocks.now) }
-    ensures { TellsChangeCount (state_was shape starts numbers xs ys blocks) (samples_were times values marks ends) result }
+    ensures { TellsChangeCount (lent_state shape starts.now numbers.now xs.now ys.now blocks.now) (samples_were times values marks ends) result }
 {
     if !shape.stands {
         return refused_list(refusal::NO_SET);
@@ -291,7 +291,7 @@ pub fn bake<'a>(
     outmarks: &mut [u8],
 ) -> Baked
     requires { Made (lent_state shape starts.now numbers.now xs.now ys.now blocks.now) }
-    ensures { BakesTrack (state_was shape starts numbers xs ys blocks) (samples_were times values marks ends) (outs_were outtimes outvalues outmarks) result (outs_left outtimes outvalues outmarks) }
+    ensures { BakesTrack (lent_state shape starts.now numbers.now xs.now ys.now blocks.now) (samples_were times values marks ends) (outputs outtimes.old outvalues.old outmarks.old) result (outputs outtimes.new outvalues.new outmarks.new) }
 {
     if !shape.stands {
         return refused_bake(refusal::NO_SET);

@@ -19,7 +19,6 @@ ghost use Rattle.definitions.specs.Doubles.{two_equal, three_equal};
 ghost use Rattle.definitions.specs.ClipSet.{any_unstorable};
 ghost use Rattle.definitions.specs.Timing.{last_at_most, map_time, map_stage_to_clip};
 ghost use Rattle.definitions.specs.Reading.{partition_point};
-ghost use Rattle.definitions.specs.Moments.{was};
 ghost use Rattle.laws.specs.list.Places.{Ascending};
 ghost use Rattle.laws.specs.cell.Lent.{knots_of};
 
@@ -38,7 +37,7 @@ fn unstorable(time: f64) -> u64
 
 // A time that is not finite, or beyond 2^40, is among them. No early exit, so that the loop vectorises.
 pub fn any_unstorable(times: &[f64]) -> bool
-    ensures { result ≡ any_unstorable (was times) }
+    ensures { result ≡ any_unstorable times.now }
 {
     let mut found: u64 = 0;
     let mut i: usize = 0;
@@ -51,7 +50,7 @@ pub fn any_unstorable(times: &[f64]) -> bool
 
 // Two neighbours are equal. In a sorted list all equals are neighbours.
 pub fn two_equal(times: &[f64]) -> bool
-    ensures { result ≡ two_equal (was times) }
+    ensures { result ≡ two_equal times.now }
 {
     let mut i: usize = 0;
     while i + 1 < times.len() {
@@ -74,7 +73,7 @@ fn are_equal(a: f64, b: f64, c: f64) -> bool
 
 // Three neighbours are equal.
 pub fn three_equal(times: &[f64]) -> bool
-    ensures { result ≡ three_equal (was times) }
+    ensures { result ≡ three_equal times.now }
 {
     let mut i: usize = 0;
     while i + 2 < times.len() {
@@ -98,7 +97,7 @@ fn one_if(b: bool) -> usize
 // How many of the n times from a place on are at most `t`. No early exit, so that the loop vectorises.
 fn count_at_most(times: &[f64], from: usize, n: usize, t: f64) -> usize
     requires { from + n ≤ length times.now }
-    ensures { result ≡ count_from (λ i. le (get_or (was times) i nan) t) from n }
+    ensures { result ≡ count_from (λ i. le (get_or times.now i nan) t) from n }
 {
     let mut found: usize = 0;
     let mut i: usize = 0;
@@ -112,7 +111,7 @@ fn count_at_most(times: &[f64], from: usize, n: usize, t: f64) -> usize
 // How many of the times are at most `t`, where they ascend: the Rust's `partition_point`. Elsewhere it is what the search by halves finds.
 // The last few are counted: a count has no branches to foretell.
 pub fn partition_point(times: &[f64], t: f64) -> usize
-    ensures { result ≡ partition_point (was times) t }
+    ensures { result ≡ partition_point times.now t }
 {
     let mut at: usize = 0;
     let mut n = times.len();
@@ -131,7 +130,7 @@ pub fn partition_point(times: &[f64], t: f64) -> usize
 // starts and knots are, halves alone are quicker.
 pub fn last_at_most(times: &[f64], t: f64) -> usize
     requires { Ascending times.now }
-    ensures { result ≡ last_at_most (was times) t }
+    ensures { result ≡ last_at_most times.now t }
 {
     let mut lo: usize = 0;
     let mut hi = times.len();
@@ -150,7 +149,7 @@ pub fn last_at_most(times: &[f64], t: f64) -> usize
 fn y_at(xs: &[f64], ys: &[f64], t: f64) -> f64
     requires fact_1 { Ascending xs.now }
     requires fact_2 { length xs.now ≡ length ys.now }
-    ensures { result ≡ map_time (knots_of (was xs) (was ys)) t }
+    ensures { result ≡ map_time (knots_of xs.now ys.now) t }
 {
     let n = xs.len();
     if n == 0 {
@@ -176,7 +175,7 @@ fn y_at(xs: &[f64], ys: &[f64], t: f64) -> f64
 pub fn map_time(xs: &[f64], ys: &[f64], t: StageTime) -> ClipTime
     requires fact_1 { Ascending xs.now }
     requires fact_2 { length xs.now ≡ length ys.now }
-    ensures { result ≡ map_stage_to_clip (knots_of (was xs) (was ys)) t }
+    ensures { result ≡ map_stage_to_clip (knots_of xs.now ys.now) t }
 {
     ClipTime(y_at(xs, ys, t.0))
 }

@@ -1,7 +1,6 @@
 // The search in an ascending list, begun at a place where the answer may be.
 ghost use Rattle.std.specs.Prelude.{◌≡◌, true, ◌<◌, leb, ltb, eqb, length};
 ghost use Rattle.definitions.specs.Timing.{last_at_most};
-ghost use Rattle.definitions.specs.Moments.{was};
 ghost use Rattle.laws.specs.list.Places.{Ascending};
 
 use super::last_at_most;
@@ -10,7 +9,7 @@ use super::last_at_most;
 fn is_reached(times: &[f64], place: usize, t: f64) -> bool
     requires fact_1 { Ascending times.now }
     requires fact_2 { place < length times.now }
-    ensures { result ≡ leb place (last_at_most (was times) t) }
+    ensures { result ≡ leb place (last_at_most times.now t) }
 {
     if place == 0 {
         return true;
@@ -22,7 +21,7 @@ fn is_reached(times: &[f64], place: usize, t: f64) -> bool
 fn is_passed(times: &[f64], place: usize, t: f64) -> bool
     requires fact_1 { Ascending times.now }
     requires fact_2 { place < length times.now }
-    ensures { result ≡ ltb place (last_at_most (was times) t) }
+    ensures { result ≡ ltb place (last_at_most times.now t) }
 {
     let next = place + 1;
     if next < times.len() {
@@ -35,7 +34,7 @@ fn is_passed(times: &[f64], place: usize, t: f64) -> bool
 pub fn is_place(times: &[f64], place: usize, t: f64) -> bool
     requires fact_1 { Ascending times.now }
     requires fact_2 { place < length times.now }
-    ensures { result ≡ eqb (last_at_most (was times) t) place }
+    ensures { result ≡ eqb (last_at_most times.now t) place }
 {
     if is_passed(times, place, t) {
         return false;
@@ -46,7 +45,7 @@ pub fn is_place(times: &[f64], place: usize, t: f64) -> bool
 // A hint may be any number: one beyond the list is never the place.
 fn is_near(times: &[f64], place: usize, t: f64) -> bool
     requires { Ascending times.now }
-    ensures { (result ≡ true) → last_at_most (was times) t ≡ place }
+    ensures { (result ≡ true) → last_at_most times.now t ≡ place }
 {
     if place < times.len() {
         return is_place(times, place, t);
@@ -57,7 +56,7 @@ fn is_near(times: &[f64], place: usize, t: f64) -> bool
 // As `last_at_most`, wherever the search begins: at the hint, then behind it and before it.
 pub fn last_at_most_near(times: &[f64], t: f64, hint: usize) -> usize
     requires { Ascending times.now }
-    ensures { result ≡ last_at_most (was times) t }
+    ensures { result ≡ last_at_most times.now t }
 {
     if is_near(times, hint, t) {
         return hint;

@@ -3,7 +3,6 @@
 ghost use Rattle.std.specs.Prelude.{◌≡◌, ◌+◌, ◌<◌, length};
 ghost use Rattle.definitions.specs.Timing.{on_segment};
 ghost use Rattle.definitions.specs.Value as Value;
-ghost use Rattle.definitions.specs.Moments.{was};
 ghost use Rattle.lists.specs.Segments.{knot_at, segment_at};
 
 use definitions::{Knot, Segment};
@@ -11,7 +10,7 @@ use definitions::{Knot, Segment};
 // The knot at the place `i`.
 pub fn knot_at(xs: &[f64], ys: &[f64], i: usize) -> Knot
     requires { (length xs.now ≡ length ys.now) × (i < length xs.now) }
-    ensures { result ≡ knot_at (was xs) (was ys) i }
+    ensures { result ≡ knot_at xs.now ys.now i }
 {
     Knot { x: xs[i], y: ys[i] }
 }
@@ -20,7 +19,7 @@ pub fn knot_at(xs: &[f64], ys: &[f64], i: usize) -> Knot
 pub fn segment_at(xs: &[f64], ys: &[f64], i: usize) -> Segment
     requires fact_1 { length xs.now ≡ length ys.now }
     requires fact_2 { i + 1 < length xs.now }
-    ensures { result ≡ segment_at (was xs) (was ys) i }
+    ensures { result ≡ segment_at xs.now ys.now i }
 {
     let a = knot_at(xs, ys, i);
     let b = knot_at(xs, ys, i + 1);

@@ -1,13 +1,12 @@
 // Lists written over lent ones of their length.
 ghost use Rattle.std.specs.Prelude.{◌≡◌, map, reverse, length};
 ghost use Rattle.definitions.specs.Retime.{apply};
-ghost use Rattle.definitions.specs.Moments.{was, after};
 
 use definitions::LayerOffset;
 
 pub fn copy(from: &[f64], to: &mut [f64])
     requires { length to.old ≡ length from.now }
-    ensures { after to ≡ was from }
+    ensures { to.new ≡ from.now }
 {
     let mut i: usize = 0;
     while i < from.len() {
@@ -18,7 +17,7 @@ pub fn copy(from: &[f64], to: &mut [f64])
 
 pub fn copy_numbers(from: &[u64], to: &mut [u64])
     requires { length to.old ≡ length from.now }
-    ensures { after to ≡ was from }
+    ensures { to.new ≡ from.now }
 {
     let mut i: usize = 0;
     while i < from.len() {
@@ -29,7 +28,7 @@ pub fn copy_numbers(from: &[u64], to: &mut [u64])
 
 // Each time becomes offset + scale·time, two roundings: the Rust's `LayerOffset::apply`.
 pub fn move_times(times: &mut [f64], o: LayerOffset)
-    ensures { after times ≡ map (apply o) (was times) }
+    ensures { times.new ≡ map (apply o) times.old }
 {
     let mut i: usize = 0;
     while i < times.len() {
@@ -40,7 +39,7 @@ pub fn move_times(times: &mut [f64], o: LayerOffset)
 
 // The last entry first. Two entries change places at a time.
 pub fn reverse(xs: &mut [f64])
-    ensures { after xs ≡ reverse (was xs) }
+    ensures { xs.new ≡ reverse xs.old }
 {
     let n = xs.len();
     let mut i: usize = 0;
@@ -53,7 +52,7 @@ pub fn reverse(xs: &mut [f64])
 }
 
 pub fn reverse_numbers(xs: &mut [u64])
-    ensures { after xs ≡ reverse (was xs) }
+    ensures { xs.new ≡ reverse xs.old }
 {
     let n = xs.len();
     let mut i: usize = 0;

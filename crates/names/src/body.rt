@@ -3,7 +3,6 @@
 ghost use Rattle.std.specs.Prelude.{◌≡◌, ◌&&◌, ◌+◌, ◌≤◌, ◌<◌, max, T, ltb, length};
 ghost use Rattle.gf.specs.Doubles.{storable};
 ghost use Rattle.definitions.specs.Names as Names;
-ghost use Rattle.definitions.specs.Moments.{was, after};
 ghost use Rattle.names.specs.Pattern.{width_of, with_dot};
 ghost use Rattle.names.specs.Put.{put};
 ghost use Rattle.names.specs.Body.{body_of, sign_of, pointed};
@@ -122,7 +121,7 @@ pub fn body_length(b: Body) -> usize
 
 fn put_sign(minus: bool, out: &mut [u8], at: usize)
     requires { at + length (sign_of minus) ≤ length out.old }
-    ensures { after out ≡ put (was out) at (sign_of minus) }
+    ensures { out.new ≡ put out.old at (sign_of minus) }
 {
     if minus {
         out[at] = b'-';
@@ -131,7 +130,7 @@ fn put_sign(minus: bool, out: &mut [u8], at: usize)
 
 fn put_fraction(k: usize, n: u64, out: &mut [u8], at: usize)
     requires { at + with_dot k ≤ length out.old }
-    ensures { after out ≡ put (was out) at (pointed k n) }
+    ensures { out.new ≡ put out.old at (pointed k n) }
 {
     if k == 0 {
         return;
@@ -143,7 +142,7 @@ fn put_fraction(k: usize, n: u64, out: &mut [u8], at: usize)
 // Writes a body from the slot `at` on.
 pub fn put_body(b: Body, out: &mut [u8], at: usize)
     requires { at + length (body_of b) ≤ length out.old }
-    ensures { after out ≡ put (was out) at (body_of b) }
+    ensures { out.new ≡ put out.old at (body_of b) }
 {
     put_sign(b.minus, out, at);
     let whole = at + sign_length(b.minus);

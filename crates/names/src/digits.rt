@@ -2,7 +2,6 @@
 
 ghost use Rattle.std.specs.Prelude.{◌≡◌, ◌+◌, ◌≤◌, length};
 ghost use Rattle.definitions.specs.Names as Names;
-ghost use Rattle.definitions.specs.Moments.{was, after};
 ghost use Rattle.names.specs.Put.{put};
 
 // How many decimal digits n has, 1 for 0.
@@ -21,7 +20,7 @@ pub fn places(n: u64) -> usize
 // Writes the last `width` digits of n from the slot `at` on, the last one first.
 pub fn put_digits(n: u64, width: usize, out: &mut [u8], at: usize)
     requires { at + width ≤ length out.old }
-    ensures { after out ≡ put (was out) at (Names.digits width n) }
+    ensures { out.new ≡ put out.old at (Names.digits width n) }
 {
     let mut left = n;
     let mut i = width;

@@ -10,7 +10,6 @@ pub mod pattern;
 
 ghost use Rattle.std.specs.Prelude.{◌≡◌, ◌++◌, ◌+◌, ◌-◌, ◌≤◌, length, take, drop};
 ghost use Rattle.definitions.specs.Names.{split, readable};
-ghost use Rattle.definitions.specs.Moments.{was, after};
 ghost use Rattle.names.specs.Put.{put};
 ghost use Rattle.names.specs.Body.{body_of};
 ghost use Rattle.names.specs.Named.{Names};
@@ -29,7 +28,7 @@ pub enum Named {
 
 // Whether a template has a pattern that can be read.
 pub fn is_readable(template: &[u8]) -> bool
-    ensures { result ≡ readable (split (was template)) }
+    ensures { result ≡ readable (split template.now) }
 {
     let p = pattern::parse(template);
     pattern::is_readable(template, p)
@@ -40,7 +39,7 @@ fn put_name(template: &[u8], p: Pattern, b: Body, out: &mut [u8])
     requires first_le_suffix { (p.first ≤ p.suffix) × (p.suffix ≤ length template.now) }
     requires suffix_in_bounds { p.first + length (body_of b) + (length template.now - p.suffix) ≤ length out.old }
     requires b_len_bound { length (body_of b) ≤ 268 }
-    ensures { after out ≡ put (was out) 0 (take p.first (was template) ++ (body_of b ++ drop p.suffix (was template))) }
+    ensures { out.new ≡ put out.old 0 (take p.first template.now ++ (body_of b ++ drop p.suffix template.now)) }
 {
     let first = p.first;
     let suffix = p.suffix;
@@ -53,7 +52,7 @@ fn put_name(template: &[u8], p: Pattern, b: Body, out: &mut [u8])
 
 // The name of the template at a clip time: 1, 2, 6, then 22.
 pub fn name(template: &[u8], time: ClipTime, out: &mut [u8]) -> Named
-    ensures { Names (was template) time (was out) (after out) result }
+    ensures { Names template.now time out.old out.new result }
 {
     if TEMPLATE_BYTES < template.len() {
         return Named::Refused(refusal::MISSHAPEN);

@@ -2,7 +2,6 @@
 
 ghost use Rattle.std.specs.Prelude.{◌≡◌, length, drop};
 ghost use Rattle.definitions.specs.Names.{before_hash, hash_run, readable};
-ghost use Rattle.definitions.specs.Moments.{was};
 ghost use Rattle.names.specs.Pattern.{Parses, fraction_run, has_hash, pattern_of};
 
 // `first` is where the first run of `#` begins and `width` its length; `fraction` is the length of
@@ -17,7 +16,7 @@ pub struct Pattern {
 
 // How many bytes stand before the first `#`.
 fn before_hash(template: &[u8]) -> usize
-    ensures { result ≡ length (before_hash (was template)) }
+    ensures { result ≡ length (before_hash template.now) }
 {
     let mut i = 0usize;
     while i < template.len() {
@@ -31,7 +30,7 @@ fn before_hash(template: &[u8]) -> usize
 
 // The length of the run of `#` that begins at `from`.
 fn hash_run(template: &[u8], from: usize) -> usize
-    ensures { result ≡ hash_run (drop from (was template)) }
+    ensures { result ≡ hash_run (drop from template.now) }
 {
     let mut i = from;
     while i < template.len() {
@@ -45,7 +44,7 @@ fn hash_run(template: &[u8], from: usize) -> usize
 
 // The length of a second run, behind a `.` at `from`: 0 where there is none.
 fn fraction_run(template: &[u8], from: usize) -> usize
-    ensures { result ≡ fraction_run (drop from (was template)) }
+    ensures { result ≡ fraction_run (drop from template.now) }
 {
     if template.len() <= from {
         return 0;
@@ -58,7 +57,7 @@ fn fraction_run(template: &[u8], from: usize) -> usize
 
 // Whether a `#` stands at `from` or later.
 fn has_hash(template: &[u8], from: usize) -> bool
-    ensures { result ≡ has_hash (drop from (was template)) }
+    ensures { result ≡ has_hash (drop from template.now) }
 {
     let mut i = from;
     while i < template.len() {
@@ -72,7 +71,7 @@ fn has_hash(template: &[u8], from: usize) -> bool
 
 // The pattern as it is split, readable or not.
 pub fn parse(template: &[u8]) -> Pattern
-    ensures { Parses (was template) result }
+    ensures { Parses template.now result }
 {
     let first = before_hash(template);
     let width = hash_run(template, first);
@@ -96,7 +95,7 @@ pub fn parse(template: &[u8]) -> Pattern
 
 // The widths are within their limits, and no `#` is left in the suffix.
 pub fn is_readable(template: &[u8], p: Pattern) -> bool
-    ensures { result ≡ readable (pattern_of (was template) p) }
+    ensures { result ≡ readable (pattern_of template.now p) }
 {
     if p.width < 1 {
         return false;

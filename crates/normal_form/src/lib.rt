@@ -3,7 +3,7 @@
 #![tactic(auto)]
 
 ghost use Rattle.std.specs.Prelude.{◌≡◌};
-ghost use Rattle.definitions.specs.Moments.{was, outs_were, outs_left};
+ghost use Rattle.definitions.specs.Moments.{outputs};
 ghost use Rattle.normal_form.specs.Normalizes.{Normalizes, listed_number};
 
 use definitions::limits::SAMPLES;
@@ -15,7 +15,7 @@ mod sorting;
 
 // The number by which lists in any order are refused, before their normal form is looked at.
 fn listed_number(times: &[f64], values: &[f64], marks: &[u8]) -> u8
-    ensures { result ≡ listed_number (was times) (was values) (was marks) }
+    ensures { result ≡ listed_number times.now values.now marks.now }
 {
     if scans::unlike_lengths(times, values, marks) {
         return refusal::MISSHAPEN;
@@ -42,7 +42,7 @@ pub fn normalize_time_samples(
     outvalues: &mut [f64],
     outmarks: &mut [u8],
 ) -> Counted
-    ensures { Normalizes (was times) (was values) (was marks) (outs_were outtimes outvalues outmarks) (outs_left outtimes outvalues outmarks) result }
+    ensures { Normalizes times.now values.now marks.now (outputs outtimes.old outvalues.old outmarks.old) (outputs outtimes.new outvalues.new outmarks.new) result }
 {
     let number = listed_number(times, values, marks);
     if number != 0 {

@@ -6,7 +6,6 @@ pub mod layout;
 pub mod placing;
 pub mod storing;
 
-ghost use Rattle.definitions.specs.Moments.{was, after};
 ghost use Rattle.pages.specs.Pages.{pages};
 ghost use Rattle.pages.specs.Placing.{Begins};
 
@@ -21,7 +20,7 @@ pub fn fresh(
     counts: &mut [u64],
     bytes: &mut [u8],
 ) -> bool
-    ensures { Begins (pages (was starts) (was numbers) (was xs) (was ys) (was blocks) (was defaults) (was counts) (was bytes)) result (pages (after starts) (after numbers) (after xs) (after ys) (after blocks) (after defaults) (after counts) (after bytes)) }
+    ensures { Begins (pages starts.old numbers.old xs.old ys.old blocks.old defaults.old counts.old bytes.old) result (pages starts.new numbers.new xs.new ys.new blocks.new defaults.new counts.new bytes.new) }
 {
     if !storing::sized(starts, numbers, xs, ys, blocks, defaults, counts, bytes) {
         return false;

@@ -1,6 +1,5 @@
 // A set written to its page, or moved there, and its name and place written beside it.
 ghost use Rattle.std.specs.Prelude.{◌<◌};
-ghost use Rattle.definitions.specs.Moments.{was, after};
 ghost use Rattle.clip.specs.Preparing.{MadeSet};
 ghost use Rattle.dispatch.specs.NamedSets.{max_sets};
 ghost use Rattle.resolver.specs.State as desk;
@@ -25,7 +24,7 @@ pub fn put_set(
     requires fact_1 { PageRoom starts.old numbers.old xs.old ys.old blocks.old }
     requires fact_2 { i < max_sets }
     requires fact_3 { MadeSet set }
-    ensures { PutAt i set (was starts) (was numbers) (was xs) (was ys) (was blocks) result (after starts) (after numbers) (after xs) (after ys) (after blocks) }
+    ensures { PutAt i set starts.old numbers.old xs.old ys.old blocks.old result starts.new numbers.new xs.new ys.new blocks.new }
 {
     let a = i * layout::PAGE;
     let b = i * layout::KNOT_PAGE;
@@ -53,7 +52,7 @@ pub fn enter(
     declares: bool,
 )
     requires { Enters defaults.old counts.old bytes.old n name.now }
-    ensures { Entered n shape (was name) declares (was defaults) (was counts) (was bytes) (after defaults) (after counts) (after bytes) }
+    ensures { Entered n shape name.now declares defaults.old counts.old bytes.old defaults.new counts.new bytes.new }
 {
     storing::store_shape(shape, n, defaults, counts, bytes);
     storing::store_name(name, declares, n, bytes);
@@ -75,7 +74,7 @@ pub fn move_set(
     requires fact_1 { PageRoom starts.old numbers.old xs.old ys.old blocks.old }
     requires fact_2 { i < max_sets }
     requires fact_3 { desk.Made (page_state shape i starts.old numbers.old xs.old ys.old blocks.old) }
-    ensures { MovedAt i shape o (was starts) (was numbers) (was xs) (was ys) (was blocks) result (after starts) (after numbers) (after xs) (after ys) (after blocks) }
+    ensures { MovedAt i shape o starts.old numbers.old xs.old ys.old blocks.old result starts.new numbers.new xs.new ys.new blocks.new }
 {
     let a = i * layout::PAGE;
     let b = i * layout::KNOT_PAGE;

@@ -1,6 +1,5 @@
 // A set's page in each of the lent lists: what of it is no list is read there as a resolver's shape, and written there.
 ghost use Rattle.std.specs.Prelude.{◌≡◌, ◌≤◌, ◌<◌, length};
-ghost use Rattle.definitions.specs.Moments.{was, after};
 ghost use Rattle.dispatch.specs.SetOrder.{max_name};
 ghost use Rattle.dispatch.specs.NamedSets.{max_sets};
 ghost use Rattle.pages.specs.Pages.{pages, SizedIs, shape_in, Sizes, bit};
@@ -23,7 +22,7 @@ pub fn sized(
     counts: &[u64],
     bytes: &[u8],
 ) -> bool
-    ensures { SizedIs (pages (was starts) (was numbers) (was xs) (was ys) (was blocks) (was defaults) (was counts) (was bytes)) result }
+    ensures { SizedIs (pages starts.now numbers.now xs.now ys.now blocks.now defaults.now counts.now bytes.now) result }
 {
     if starts.len() != layout::ENTRIES {
         return false;
@@ -55,7 +54,7 @@ pub fn sized(
 // The shape of the i-th set.
 pub fn shape_at(defaults: &[f64], counts: &[u64], bytes: &[u8], i: usize) -> Shape
     requires { (Sizes defaults.now counts.now bytes.now) × (i < max_sets) }
-    ensures { result ≡ shape_in (was defaults) (was counts) (was bytes) i }
+    ensures { result ≡ shape_in defaults.now counts.now bytes.now i }
 {
     let default = Default {
         mark: bytes[layout::MARKS + i],
@@ -96,7 +95,7 @@ pub fn store_shape(
 )
     requires fact_1 { Sizes defaults.old counts.old bytes.old }
     requires fact_2 { i < max_sets }
-    ensures { ShapeStored shape i (was defaults) (was counts) (was bytes) (after defaults) (after counts) (after bytes) }
+    ensures { ShapeStored shape i defaults.old counts.old bytes.old defaults.new counts.new bytes.new }
 {
     let manifest = shape.manifest;
     let default = manifest.default;
@@ -112,7 +111,7 @@ pub fn store_shape(
 
 fn copy_bytes(from: &[u8], to: &mut [u8])
     requires { length to.old ≡ length from.now }
-    ensures { after to ≡ was from }
+    ensures { to.new ≡ from.now }
 {
     let mut i: usize = 0;
     while i < from.len() {
@@ -126,7 +125,7 @@ pub fn store_name(name: &[u8], declares: bool, i: usize, bytes: &mut [u8])
     requires fact_1 { length bytes.old ≡ 4144 }
     requires fact_2 { i < max_sets }
     requires fact_3 { length name.now ≤ max_name }
-    ensures { after bytes ≡ name_stored (was name) declares i (was bytes) }
+    ensures { bytes.new ≡ name_stored name.now declares i bytes.old }
 {
     let at = i * PAGE;
     let begin = at + 1;

@@ -1,6 +1,5 @@
 -- A resolver's state, by value and lent, and what of it stands by the calls, the `Model` of the definitions. Assumes nothing.
 use Rattle.std.specs.Prelude.{ℕ, cond, List, Float}
-use Rattle.definitions.specs.Moments.{Lent, was, after}
 use Rattle.definitions.specs.ClipSet.{Model, no_set, standing}
 use Rattle.laws.specs.set.Sound.{SoundModel}
 use Rattle.standing.specs.Standing.{set_in, Whole}
@@ -25,14 +24,6 @@ lent_state h starts numbers xs ys blocks = record {
   set = record { clips = h.clips; counts = h.counts; starts = starts; numbers = numbers; xs = xs; ys = ys; blocks = blocks; manifest = h.manifest };
 }
 
--- as it was lent
-abbrev pub state_was : Shape → Lent Float → Lent ℕ → Lent Float → Lent Float → Lent Float → Resolver
-state_was h starts numbers xs ys blocks = lent_state h (was starts) (was numbers) (was xs) (was ys) (was blocks)
-
--- as it is left: the shape that is handed back, and the lists
-abbrev pub state_left : Shape → Lent Float → Lent ℕ → Lent Float → Lent Float → Lent Float → Resolver
-state_left h starts numbers xs ys blocks = lent_state h (after starts) (after numbers) (after xs) (after ys) (after blocks)
-
--- the same with the number
-abbrev pub settled_state : Settled → Lent Float → Lent ℕ → Lent Float → Lent Float → Lent Float → Accepted
-settled_state r starts numbers xs ys blocks = record { number = r.number; resolver = state_left r.shape starts numbers xs ys blocks }
+-- the state and the number that a change leaves
+abbrev pub settled_state : Settled → List Float → List ℕ → List Float → List Float → List Float → Accepted
+settled_state r starts numbers xs ys blocks = record { number = r.number; resolver = lent_state r.shape starts numbers xs ys blocks }

@@ -2,7 +2,6 @@
 ghost use Rattle.std.specs.Prelude.{◌≡◌, ◌⊎◌, true, not, cond, ◌+◌, ◌≤◌, ◌<◌, T, length};
 ghost use Rattle.std.specs.Float.{inf};
 ghost use Rattle.std.specs.Float.Ieee.{is_nan, lt, le};
-ghost use Rattle.definitions.specs.Moments.{was};
 ghost use Rattle.laws.specs.list.Places.{Ascending};
 ghost use Rattle.window.specs.search.Windowed.{samples_in, Lent, Nearing};
 ghost use Rattle.run.specs.begin.Begins.{BeforeIs, LastIs, PastLatest, RunBeginIs};
@@ -48,7 +47,7 @@ fn place_passed(s: Segment, n: usize) -> usize
 // The last inverse time below `ceil`, by the turn at the double below it.
 fn last_before(cs: &[f64], s: Segment, ceil: f64) -> Bound
     requires { T (not (is_nan ceil)) }
-    ensures { BeforeIs (was cs) (s.a, s.b) ceil result }
+    ensures { BeforeIs cs.now (s.a, s.b) ceil result }
 {
     let k = gf::key(ceil);
     if k <= LEAST {
@@ -77,7 +76,7 @@ fn last_in(xs: &[f64], ys: &[f64], cs: &[f64], i: usize, max: f64) -> Bound
     requires ascending_2 { length xs.now ≡ length ys.now }
     requires ascending_3 { i + 1 < length xs.now }
     requires t { T (not (is_nan max)) }
-    ensures { LastIs (was xs) (was ys) (was cs) i max result }
+    ensures { LastIs xs.now ys.now cs.now i max result }
 {
     let s = segment_at(xs, ys, i);
     let ceil = lesser_time(max, s.b.x);
@@ -96,7 +95,7 @@ fn is_below(start: f64, t: f64, h: f64) -> bool
 
 // Whether no inverse time of the segments before the knot at i is above l.
 fn is_past(latest: &[f64], i: usize, l: f64) -> bool
-    ensures { (result ≡ true) → PastLatest (was latest) i l }
+    ensures { (result ≡ true) → PastLatest latest.now i l }
 {
     if i == 0 {
         return true;
@@ -123,7 +122,7 @@ pub fn run_begin(
     requires nearing_1 { Nearing xs.now ys.now latest.now (samples_in times.now w) w t }
     requires nearing_2 { Lent times.now w }
     requires fact { (w.min ≡ inf true) ⊎ (w.min ≡ w.start) }
-    ensures { RunBeginIs (was xs) (was ys) (was latest) (was times) w t result }
+    ensures { RunBeginIs xs.now ys.now latest.now times.now w t result }
 {
     let begin = w.begin;
     let end = w.end;

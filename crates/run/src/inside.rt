@@ -2,7 +2,7 @@
 // Only the clip's slices are handed on, so that a pass over them stays in registers.
 ghost use Rattle.std.specs.Prelude.{◌≡◌, ◌≤◌, ◌<◌, length};
 ghost use Rattle.gf.specs.Doubles as Key;
-ghost use Rattle.definitions.specs.Moments.{was, outputs, outs_were, outs_left};
+ghost use Rattle.definitions.specs.Moments.{outputs};
 ghost use Rattle.laws.specs.list.Places.{Ascending};
 ghost use Rattle.window.specs.SoundSegments.{SoundSegment};
 ghost use Rattle.cell.specs.step.Entries.{entry_is};
@@ -30,7 +30,7 @@ pub enum NextInRun {
 fn entry_along(cs: &[f64], vs: &[f64], ms: &[u8], line: Line, k: u64, hint: usize) -> Entry
     requires reads { Reads cs.now vs.now ms.now }
     requires le_k { (Key.least ≤ k) × (k ≤ Key.most) }
-    ensures { entry_is result ≡ reading_at (was cs) (was vs) (was ms) line k }
+    ensures { entry_is result ≡ reading_at cs.now vs.now ms.now line k }
 {
     let place = last_at_most_near(cs, along(line, gf::of_key(k)), hint);
     entry_of_sample(vs, ms, place)
@@ -42,7 +42,7 @@ fn sample_in_run(cs: &[f64], s: Segment, i: usize, p: usize, hi: u64) -> NextInR
     requires sound_segment_2 { Ascending cs.now }
     requires i_in_bounds_1 { i < length cs.now }
     requires i_in_bounds_2 { Spanned cs.now (s.a, s.b) i }
-    ensures { SampleIs (was cs) (s.a, s.b) i p hi result }
+    ensures { SampleIs cs.now (s.a, s.b) i p hi result }
 {
     let m = gf::key(stage_time(s, cs[i]));
     if hi < m {
@@ -56,7 +56,7 @@ fn next_in_run(cs: &[f64], s: Segment, n: usize, hi: u64) -> NextInRun
     requires sound_segment_1 { SoundSegment (s.a, s.b) }
     requires sound_segment_2 { Ascending cs.now }
     requires place_in_run { PlaceInRun cs.now (s.a, s.b) n }
-    ensures { NextFromPlace (was cs) (s.a, s.b) n hi result }
+    ensures { NextFromPlace cs.now (s.a, s.b) n hi result }
 {
     let ca = s.a.y;
     let cb = s.b.y;
@@ -97,7 +97,7 @@ pub fn fill_run(
 ) -> Went
     requires passing_on { PassingOn cs.now vs.now ms.now (s.a, s.b) (entry_is last) k hi }
     requires room { Room room slot (outputs outtimes.old outvalues.old outmarks.old) }
-    ensures { WalkedOn (was cs) (was vs) (was ms) (s.a, s.b) (entry_is last) k hi room slot (outs_were outtimes outvalues outmarks) (outs_left outtimes outvalues outmarks) result }
+    ensures { WalkedOn cs.now vs.now ms.now (s.a, s.b) (entry_is last) k hi room slot (outputs outtimes.old outvalues.old outmarks.old) (outputs outtimes.new outvalues.new outmarks.new) result }
 {
     let line = Line::Segment(s);
     let mut at = k;

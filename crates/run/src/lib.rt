@@ -11,7 +11,7 @@ pub mod walk;
 
 ghost use Rattle.std.specs.Prelude.{◌≡◌, ◌≤◌, ◌<◌, length};
 ghost use Rattle.gf.specs.Doubles as Key;
-ghost use Rattle.definitions.specs.Moments.{was, outputs, outs_were, outs_left};
+ghost use Rattle.definitions.specs.Moments.{outputs};
 ghost use Rattle.laws.specs.list.Places.{Ascending};
 ghost use Rattle.laws.specs.cell.Keys.{Keys};
 ghost use Rattle.cell.specs.step.Lines.{place_on};
@@ -31,7 +31,7 @@ use walk::{Went, offer};
 pub fn entry_of_sample(vs: &[f64], ms: &[u8], place: usize) -> Entry
     requires place_in_bounds { place < length vs.now }
     requires place_in_bounds_2 { place < length ms.now }
-    ensures { entry_is result ≡ entry_at (was vs) (was ms) place }
+    ensures { entry_is result ≡ entry_at vs.now ms.now place }
 {
     if ms[place] == 0 {
         return entry_of(Answer::Value(vs[place]));
@@ -43,7 +43,7 @@ pub fn entry_of_sample(vs: &[f64], ms: &[u8], place: usize) -> Entry
 fn place_beside(ts: &[f64], line: Line, k: u64, place: usize) -> usize
     requires ascending { Ascending ts.now }
     requires le_k { (Key.least ≤ k) × (k ≤ Key.most) }
-    ensures { result ≡ place_on (was ts) line k }
+    ensures { result ≡ place_on ts.now line k }
 {
     last_at_most_near(ts, along(line, gf::of_key(k)), place)
 }
@@ -66,7 +66,7 @@ pub fn fill_changes(
     requires keys { Keys k hi }
     requires left_once { LeftOnce (place_on ts.now line) k hi }
     requires room { Room room n (outputs outtimes.old outvalues.old outmarks.old) }
-    ensures { Walked (reading_at (was ts) (was vs) (was ms) line) k hi room n (outs_were outtimes outvalues outmarks) (outs_left outtimes outvalues outmarks) result }
+    ensures { Walked (reading_at ts.now vs.now ms.now line) k hi room n (outputs outtimes.old outvalues.old outmarks.old) (outputs outtimes.new outvalues.new outmarks.new) result }
 {
     let top = along(line, gf::of_key(hi));
     let mut at = k;

@@ -1,7 +1,7 @@
 // A walk over keys that writes changes while there are slots: one change that is offered, and where the walk stands.
 ghost use Rattle.std.specs.Prelude.{◌≤◌};
 ghost use Rattle.gf.specs.Doubles as Key;
-ghost use Rattle.definitions.specs.Moments.{outputs, outs_were, outs_left};
+ghost use Rattle.definitions.specs.Moments.{outputs};
 ghost use Rattle.cell.specs.step.Entries.{entry_is};
 ghost use Rattle.run.specs.Walks.{Room, Offered};
 
@@ -31,7 +31,7 @@ pub fn offer(
 ) -> usize
     requires le_k { (Key.least ≤ k) × (k ≤ Key.most) }
     requires room { Room room n (outputs outtimes.old outvalues.old outmarks.old) }
-    ensures { Offered (entry_is last) (entry_is here) k room n (outs_were outtimes outvalues outmarks) (outs_left outtimes outvalues outmarks) result }
+    ensures { Offered (entry_is last) (entry_is here) k room n (outputs outtimes.old outvalues.old outmarks.old) (outputs outtimes.new outvalues.new outmarks.new) result }
 {
     if alike(here, last) {
         return n;

@@ -2,7 +2,6 @@
 
 #![tactic(auto)]
 
-ghost use Rattle.definitions.specs.Moments.{was};
 ghost use Rattle.sdf.specs.Judged.{Judged};
 
 use definitions::refusal;
@@ -22,7 +21,7 @@ pub struct Counted {
 // The number by which the samples are refused for a set with `clips` clips, and 0 if they are accepted.
 // Sound lists are told in few passes; what is wrong with others is looked for after.
 pub fn samples_number(clips: u64, times: &[f64], values: &[f64], marks: &[u8], ends: &[u64]) -> u8
-    ensures { Judged clips (was times) (was values) (was marks) (was ends) result }
+    ensures { Judged clips times.now values.now marks.now ends.now result }
 {
     if scans::unlike_lengths(times, values, marks) {
         return refusal::MISSHAPEN;

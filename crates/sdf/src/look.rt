@@ -1,6 +1,5 @@
 // A clip's samples, seen through a look over the lent lists by the clip's two ends.
 ghost use Rattle.std.specs.Prelude.{◌≡◌, ◌+◌};
-ghost use Rattle.definitions.specs.Moments.{was};
 ghost use Rattle.sdf.specs.look.Reads.{Inside, Readable, marked_at, held_is, held_reading};
 
 use definitions::{Answer, ClipTime};
@@ -26,7 +25,7 @@ pub enum HeldPlace {
 // What the sample at a place behind `begin` says. A block read is a reading.
 fn marked_at(values: &[f64], marks: &[u8], begin: usize, place: usize) -> Answer
     requires { Inside values.now marks.now (begin + place) }
-    ensures { result ≡ marked_at (was values) (was marks) (begin + place) }
+    ensures { result ≡ marked_at values.now marks.now (begin + place) }
 {
     let at = begin + place;
     if marks[at] == 0 {
@@ -45,7 +44,7 @@ fn held_reading(
     t: ClipTime,
 ) -> HeldPlace
     requires { Readable times.now values.now marks.now begin end }
-    ensures { held_is result ≡ held_reading (was times) (was values) (was marks) begin end t }
+    ensures { held_is result ≡ held_reading times.now values.now marks.now begin end t }
 {
     if begin == end {
         return HeldPlace::Nothing;
@@ -102,7 +101,7 @@ pub fn read_clip(
     t: ClipTime,
 ) -> HeldPlace
     requires { Readable times.now values.now marks.now begin end }
-    ensures { held_is result ≡ held_reading (was times) (was values) (was marks) begin end t }
+    ensures { held_is result ≡ held_reading times.now values.now marks.now begin end t }
 {
     over(times, values, marks, begin, end).read(t)
 }
@@ -117,7 +116,7 @@ pub fn answer_in(
     place: usize,
 ) -> Answer
     requires { Inside values.now marks.now (begin + place) }
-    ensures { result ≡ marked_at (was values) (was marks) (begin + place) }
+    ensures { result ≡ marked_at values.now marks.now (begin + place) }
 {
     over(times, values, marks, begin, end).answer(place)
 }

@@ -2,12 +2,11 @@
 
 ghost use Rattle.std.specs.Prelude.{◌≡◌, ◌<◌, length};
 ghost use Rattle.definitions.specs.Samples.{clip_begin, clip_end};
-ghost use Rattle.definitions.specs.Moments.{was};
 
 // Each clip's samples begin where those of the clip before end.
 pub fn clip_begin(ends: &[u64], clip: u64) -> usize
     requires { clip < length ends.now }
-    ensures { result ≡ clip_begin (was ends) clip }
+    ensures { result ≡ clip_begin ends.now clip }
 {
     if clip == 0 {
         return 0;
@@ -18,7 +17,7 @@ pub fn clip_begin(ends: &[u64], clip: u64) -> usize
 
 pub fn clip_end(ends: &[u64], clip: u64) -> usize
     requires { clip < length ends.now }
-    ensures { result ≡ clip_end (was ends) clip }
+    ensures { result ≡ clip_end ends.now clip }
 {
     let at = clip as usize;
     ends[at] as usize

@@ -7,14 +7,13 @@ ghost use Rattle.definitions.specs.Lists.{any, zip_with};
 ghost use Rattle.definitions.specs.Doubles as Doubles;
 ghost use Rattle.definitions.specs.ClipSet.{any_unstorable};
 ghost use Rattle.definitions.specs.Samples as Samples;
-ghost use Rattle.definitions.specs.Moments.{was};
 ghost use Rattle.sdf.specs.Parts as Parts;
 
 use definitions::limits::SAMPLES;
 
 // More samples than the limit, or lists of unlike length.
 pub fn unlike_lengths(times: &[f64], values: &[f64], marks: &[u8]) -> bool
-    ensures { result ≡ Samples.unlike_lengths (was times) (was values) (was marks) }
+    ensures { result ≡ Samples.unlike_lengths times.now values.now marks.now }
 {
     let count = times.len();
     if count > SAMPLES {
@@ -52,7 +51,7 @@ fn nan_found(a: f64, b: f64) -> u64
 // A NaN is in one of two lists. No early exit, so that the loop vectorises, and one comparison for an entry of each.
 fn any_nan_beside(left: &[f64], right: &[f64]) -> bool
     requires { length left.now ≡ length right.now }
-    ensures { result ≡ (any is_nan (was left) || any is_nan (was right)) }
+    ensures { result ≡ (any is_nan left.now || any is_nan right.now) }
 {
     let mut found: u64 = 0;
     let mut i: usize = 0;
@@ -65,7 +64,7 @@ fn any_nan_beside(left: &[f64], right: &[f64]) -> bool
 
 // A NaN is among the values: in one of two halves, which share the middle value of an odd number.
 fn any_not_a_number(values: &[f64]) -> bool
-    ensures { result ≡ any is_nan (was values) }
+    ensures { result ≡ any is_nan values.now }
 {
     let half = values.len() / 2;
     let end = values.len() - half;
@@ -75,7 +74,7 @@ fn any_not_a_number(values: &[f64]) -> bool
 // A NaN under the mark of a value is among the values.
 fn any_nan_marked(values: &[f64], marks: &[u8]) -> bool
     requires { length values.now ≡ length marks.now }
-    ensures { result ≡ any (λ (b : Bool). b) (zip_with Samples.nan_value (was values) (was marks)) }
+    ensures { result ≡ any (λ (b : Bool). b) (zip_with Samples.nan_value values.now marks.now) }
 {
     let mut i: usize = 0;
     while i < values.len() {
@@ -90,7 +89,7 @@ fn any_nan_marked(values: &[f64], marks: &[u8]) -> bool
 // The same, where the marks are looked at only if there is a NaN at all.
 pub fn any_nan(values: &[f64], marks: &[u8]) -> bool
     requires { length values.now ≡ length marks.now }
-    ensures { result ≡ any (λ (b : Bool). b) (zip_with Samples.nan_value (was values) (was marks)) }
+    ensures { result ≡ any (λ (b : Bool). b) (zip_with Samples.nan_value values.now marks.now) }
 {
     if any_not_a_number(values) {
         return any_nan_marked(values, marks);
@@ -109,7 +108,7 @@ fn larger(a: u8, b: u8) -> u8
 
 // A mark other than that of a value or a block is among them: the largest is.
 pub fn bad_marks(marks: &[u8]) -> bool
-    ensures { result ≡ Samples.bad_marks (was marks) }
+    ensures { result ≡ Samples.bad_marks marks.now }
 {
     let mut largest: u8 = 0;
     let mut i: usize = 0;
@@ -132,7 +131,7 @@ fn fall(time: f64, next: f64) -> u64
 
 // How many times are not below the one after them. No early exit, so that the loop vectorises, and each time is read once.
 fn falls(times: &[f64]) -> u64
-    ensures { result ≡ Parts.falls (was times) }
+    ensures { result ≡ Parts.falls times.now }
 {
     if times.len() == 0 {
         return 0;
@@ -151,7 +150,7 @@ fn falls(times: &[f64]) -> u64
 
 // Each time is below the one after it.
 pub fn ascending(times: &[f64]) -> bool
-    ensures { result ≡ Doubles.ascending (was times) }
+    ensures { result ≡ Doubles.ascending times.now }
 {
     falls(times) == 0
 }
@@ -160,7 +159,7 @@ pub fn ascending(times: &[f64]) -> bool
 fn fall_behind(times: &[f64], begin: usize, end: usize) -> u64
     requires fact_1 { begin ≤ end }
     requires fact_2 { end ≤ length times.now }
-    ensures { result ≡ cond (ltb begin end) (Parts.falls (take 2 (drop (end - 1) (was times)))) 0 }
+    ensures { result ≡ cond (ltb begin end) (Parts.falls (take 2 (drop (end - 1) times.now))) 0 }
 {
     if begin == end {
         return 0;
@@ -175,7 +174,7 @@ fn fall_behind(times: &[f64], begin: usize, end: usize) -> u64
 fn unstorable_bound(times: &[f64], begin: usize, end: usize) -> bool
     requires fact_1 { begin ≤ end }
     requires fact_2 { end ≤ length times.now }
-    ensures { result ≡ (ltb begin end && (not (storable (get_or (was times) begin nan)) || not (storable (get_or (was times) (end - 1) nan)))) }
+    ensures { result ≡ (ltb begin end && (not (storable (get_or times.now begin nan)) || not (storable (get_or times.now (end - 1) nan)))) }
 {
     if begin == end {
         return false;
@@ -189,7 +188,7 @@ fn unstorable_bound(times: &[f64], begin: usize, end: usize) -> bool
 // The ends close the list, the times ascend within each clip, and all may be stored: as many times fall as do between two clips,
 // and times that ascend lie between their first and their last. An end is a place of the list only once it is known to be inside.
 pub fn sound(times: &[f64], ends: &[u64]) -> bool
-    ensures { result ≡ (Samples.closes 0 (was ends) (length (was times)) && (Parts.parts_ascend (was times) (was ends) && not (any_unstorable (was times)))) }
+    ensures { result ≡ (Samples.closes 0 ends.now (length times.now) && (Parts.parts_ascend times.now ends.now && not (any_unstorable times.now))) }
 {
     let all = falls(times);
     let mut between: u64 = 0;

@@ -3,7 +3,6 @@
 #![tactic(auto)]
 
 ghost use Rattle.std.specs.Prelude.{◌≡◌, ◌<◌, get_or};
-ghost use Rattle.definitions.specs.Moments.{was, after};
 ghost use Rattle.clip.specs.Holding.{manifest};
 ghost use Rattle.clip.specs.Preparing.{MadeSet};
 ghost use Rattle.explicit.specs.Parsing.{explicit_fields};
@@ -20,7 +19,7 @@ use set_names::Found;
 // 23 where no set can stand under the name.
 fn name_number(counts: &[u64], bytes: &[u8], name: &[u8]) -> u8
     requires { Names counts.now bytes.now }
-    ensures { result ≡ name_number (was counts) (was bytes) (was name) }
+    ensures { result ≡ name_number counts.now bytes.now name.now }
 {
     let n = counts[0] as usize;
     if SETS <= n {
@@ -53,7 +52,7 @@ fn extend(
     requires fact_1 { Made (pages starts.old numbers.old xs.old ys.old blocks.old defaults.old counts.old bytes.old) }
     requires fact_2 { MadeSet set }
     requires fact_3 { name_number counts.old bytes.old name.now ≡ 0 }
-    ensures { Extends (pages (was starts) (was numbers) (was xs) (was ys) (was blocks) (was defaults) (was counts) (was bytes)) (was name) declares set (pages (after starts) (after numbers) (after xs) (after ys) (after blocks) (after defaults) (after counts) (after bytes)) }
+    ensures { Extends (pages starts.old numbers.old xs.old ys.old blocks.old defaults.old counts.old bytes.old) name.now declares set (pages starts.new numbers.new xs.new ys.new blocks.new defaults.new counts.new bytes.new) }
 {
     let n = counts[0] as usize;
     let shape = placing::put_set(starts, numbers, xs, ys, blocks, n, set);
@@ -76,7 +75,7 @@ pub fn install(
 ) -> u8
     requires made { Made (pages starts.old numbers.old xs.old ys.old blocks.old defaults.old counts.old bytes.old) }
     requires made_set { MadeSet set }
-    ensures { Installs (pages (was starts) (was numbers) (was xs) (was ys) (was blocks) (was defaults) (was counts) (was bytes)) (was name) declares set result (pages (after starts) (after numbers) (after xs) (after ys) (after blocks) (after defaults) (after counts) (after bytes)) }
+    ensures { Installs (pages starts.old numbers.old xs.old ys.old blocks.old defaults.old counts.old bytes.old) name.now declares set result (pages starts.new numbers.new xs.new ys.new blocks.new defaults.new counts.new bytes.new) }
 {
     let number = name_number(counts, bytes, name);
     if number != 0 {
@@ -110,7 +109,7 @@ pub fn accept(
     interpolate: bool,
 ) -> u8
     requires { Made (pages starts.old numbers.old xs.old ys.old blocks.old defaults.old counts.old bytes.old) }
-    ensures { Accepts (pages (was starts) (was numbers) (was xs) (was ys) (was blocks) (was defaults) (was counts) (was bytes)) (was name) declares (explicit_fields clips (was newstarts) (was newnumbers) (was newxs) (was newys) (was newblocks) (manifest default interpolate)) result (pages (after starts) (after numbers) (after xs) (after ys) (after blocks) (after defaults) (after counts) (after bytes)) }
+    ensures { Accepts (pages starts.old numbers.old xs.old ys.old blocks.old defaults.old counts.old bytes.old) name.now declares (explicit_fields clips newstarts.now newnumbers.now newxs.now newys.now newblocks.now (manifest default interpolate)) result (pages starts.new numbers.new xs.new ys.new blocks.new defaults.new counts.new bytes.new) }
 {
     let number = name_number(counts, bytes, name);
     if number != 0 {
@@ -165,7 +164,7 @@ pub fn accept_template(
     interpolate: bool,
 ) -> u8
     requires { Made (pages starts.old numbers.old xs.old ys.old blocks.old defaults.old counts.old bytes.old) }
-    ensures { Expands (pages (was starts) (was numbers) (was xs) (was ys) (was blocks) (was defaults) (was counts) (was bytes)) (was name) declares (template_fields (was template) times offset (was newblocks) (manifest default interpolate)) result (pages (after starts) (after numbers) (after xs) (after ys) (after blocks) (after defaults) (after counts) (after bytes)) }
+    ensures { Expands (pages starts.old numbers.old xs.old ys.old blocks.old defaults.old counts.old bytes.old) name.now declares (template_fields template.now times offset newblocks.now (manifest default interpolate)) result (pages starts.new numbers.new xs.new ys.new blocks.new defaults.new counts.new bytes.new) }
 {
     let number = name_number(counts, bytes, name);
     if number != 0 {
@@ -213,7 +212,7 @@ fn retime_at(
 ) -> u8
     requires fact_1 { Made (pages starts.old numbers.old xs.old ys.old blocks.old defaults.old counts.old bytes.old) }
     requires fact_2 { i < get_or counts.old 0 0 }
-    ensures { RetimesAt (pages (was starts) (was numbers) (was xs) (was ys) (was blocks) (was defaults) (was counts) (was bytes)) i o result (pages (after starts) (after numbers) (after xs) (after ys) (after blocks) (after defaults) (after counts) (after bytes)) }
+    ensures { RetimesAt (pages starts.old numbers.old xs.old ys.old blocks.old defaults.old counts.old bytes.old) i o result (pages starts.new numbers.new xs.new ys.new blocks.new defaults.new counts.new bytes.new) }
 {
     let shape = storing::shape_at(defaults, counts, bytes, i);
     let settled = placing::move_set(starts, numbers, xs, ys, blocks, i, shape, o);
@@ -238,7 +237,7 @@ pub fn retime(
     o: LayerOffset,
 ) -> u8
     requires { Made (pages starts.old numbers.old xs.old ys.old blocks.old defaults.old counts.old bytes.old) }
-    ensures { Retimes (pages (was starts) (was numbers) (was xs) (was ys) (was blocks) (was defaults) (was counts) (was bytes)) (was name) o result (pages (after starts) (after numbers) (after xs) (after ys) (after blocks) (after defaults) (after counts) (after bytes)) }
+    ensures { Retimes (pages starts.old numbers.old xs.old ys.old blocks.old defaults.old counts.old bytes.old) name.now o result (pages starts.new numbers.new xs.new ys.new blocks.new defaults.new counts.new bytes.new) }
 {
     let n = counts[0] as usize;
     let found = set_names::find(bytes, n, name);

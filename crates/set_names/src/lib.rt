@@ -5,7 +5,6 @@
 pub mod sorted;
 
 ghost use Rattle.std.specs.Prelude.{◌≡◌, ◌≤◌};
-ghost use Rattle.definitions.specs.Moments.{was};
 ghost use Rattle.dispatch.specs.SetOrder.{same_name, name_before, set_number};
 ghost use Rattle.dispatch.specs.NamedSets.{max_sets};
 ghost use Rattle.set_names.specs.Pages.{NamePages, names_in, number_of};
@@ -21,7 +20,7 @@ pub enum Found {
 }
 
 pub fn is_same(a: &[u8], b: &[u8]) -> bool
-    ensures { result ≡ same_name (was a) (was b) }
+    ensures { result ≡ same_name a.now b.now }
 {
     if a.len() != b.len() {
         return false;
@@ -37,7 +36,7 @@ pub fn is_same(a: &[u8], b: &[u8]) -> bool
 }
 
 pub fn is_before(a: &[u8], b: &[u8]) -> bool
-    ensures { result ≡ name_before (was a) (was b) }
+    ensures { result ≡ name_before a.now b.now }
 {
     let mut i: usize = 0;
     while i < b.len() {
@@ -59,7 +58,7 @@ pub fn is_before(a: &[u8], b: &[u8]) -> bool
 pub fn find(bytes: &[u8], n: usize, name: &[u8]) -> Found
     requires fact_1 { NamePages bytes.now n }
     requires fact_2 { n ≤ max_sets }
-    ensures { number_of result ≡ set_number (was name) (names_in (was bytes) n) }
+    ensures { number_of result ≡ set_number name.now (names_in bytes.now n) }
 {
     let mut i: usize = 0;
     while i < n {

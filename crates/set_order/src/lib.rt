@@ -8,7 +8,6 @@ ghost use Rattle.std.specs.Prelude.{◌≡◌, ℕ, ◌<◌, T, length};
 ghost use Rattle.std.proofs.Math.Option.{some};
 ghost use Rattle.definitions.specs.Lists.{any};
 ghost use Rattle.definitions.specs.Samples.{closes};
-ghost use Rattle.definitions.specs.Moments.{was};
 ghost use Rattle.dispatch.specs.SetOrder.{too_long, names_from, order_number};
 ghost use Rattle.dispatch.specs.NamedSets.{first_qualifying};
 ghost use Rattle.laws.specs.list.Every.{Every};
@@ -25,7 +24,7 @@ pub enum Answered {
 
 // No end falls behind the one before, and the last is `len`.
 fn ends_close(ends: &[u64], len: usize) -> bool
-    ensures { result ≡ closes 0 (was ends) len }
+    ensures { result ≡ closes 0 ends.now len }
 {
     let mut end: u64 = 0;
     let mut i: usize = 0;
@@ -42,7 +41,7 @@ fn ends_close(ends: &[u64], len: usize) -> bool
 // A name of the list is above its limit.
 fn any_too_long(bytes: &[u8], ends: &[u64]) -> bool
     requires { T (closes 0 ends.now (length bytes.now)) }
-    ensures { result ≡ any too_long (names_from 0 (was bytes) (was ends)) }
+    ensures { result ≡ any too_long (names_from 0 bytes.now ends.now) }
 {
     let mut begin: usize = 0;
     let mut i: usize = 0;
@@ -59,7 +58,7 @@ fn any_too_long(bytes: &[u8], ends: &[u64]) -> bool
 
 // 23, or 0 if the list is one that can be taken.
 pub fn order_number(bytes: &[u8], ends: &[u64]) -> u8
-    ensures { result ≡ order_number (some (lent_list (was bytes) (was ends))) }
+    ensures { result ≡ order_number (some (lent_list bytes.now ends.now)) }
 {
     if LISTED < ends.len() {
         return NOT_TAKEN;
@@ -77,7 +76,7 @@ pub fn order_number(bytes: &[u8], ends: &[u64]) -> u8
 fn qualifies(starts: &[u64], declares: &[u8], k: usize) -> bool
     requires fact_1 { k < length starts.now }
     requires fact_2 { length declares.now ≡ length starts.now }
-    ensures { result ≡ fit_at (was starts) (was declares) k }
+    ensures { result ≡ fit_at starts.now declares.now k }
 {
     if declares[k] == 0 {
         return false;
@@ -89,7 +88,7 @@ fn qualifies(starts: &[u64], declares: &[u8], k: usize) -> bool
 pub fn first_in_order(starts: &[u64], declares: &[u8], order: &[u64]) -> Answered
     requires fact_1 { length declares.now ≡ length starts.now }
     requires fact_2 { Every (λ (k : ℕ). k < length starts.now) order.now }
-    ensures { answered result ≡ first_qualifying (fit_in (was starts) (was declares)) 0 (was order) }
+    ensures { answered result ≡ first_qualifying (fit_in starts.now declares.now) 0 order.now }
 {
     let mut i: usize = 0;
     while i < order.len() {

@@ -1,7 +1,6 @@
 // The set that answers by an order list.
 ghost use Rattle.std.specs.Prelude.{◌≡◌, ◌≤◌, length};
 ghost use Rattle.std.proofs.Math.Option.{some};
-ghost use Rattle.definitions.specs.Moments.{was};
 ghost use Rattle.dispatch.specs.SetOrder.{order_number, order_in_force};
 ghost use Rattle.dispatch.specs.NamedSets.{max_sets, first_qualifying};
 ghost use Rattle.set_names.specs.Pages.{NamePages, names_in};
@@ -23,7 +22,7 @@ pub fn first_listed(
     requires fact_2 { length starts.now ≤ max_sets }
     requires fact_3 { length declares.now ≡ length starts.now }
     requires fact_4 { order_number (some (lent_list bytes.now ends.now)) ≡ 0 }
-    ensures { answered result ≡ first_qualifying (fit_in (was starts) (was declares)) 0 (order_in_force (some (lent_list (was bytes) (was ends))) (names_in (was names) (length (was starts)))) }
+    ensures { answered result ≡ first_qualifying (fit_in starts.now declares.now) 0 (order_in_force (some (lent_list bytes.now ends.now)) (names_in names.now (length starts.now))) }
 {
     let n = starts.len();
     let mut met = [false; SETS];

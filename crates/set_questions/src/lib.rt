@@ -6,7 +6,7 @@ ghost use Rattle.std.specs.Prelude.{◌≡◌, ◌+◌, ◌<◌, T, get_or};
 ghost use Rattle.std.specs.Float.Ieee.Scale.{finite};
 ghost use Rattle.definitions.specs.Lists.{◌then◌};
 ghost use Rattle.definitions.specs.Value.{value_read};
-ghost use Rattle.definitions.specs.Moments.{was, outs_were, outs_left};
+ghost use Rattle.definitions.specs.Moments.{outputs};
 ghost use Rattle.dispatch.specs.SetOrder.{order_number};
 ghost use Rattle.dispatch.specs.SetSamples.{samples_at, set_samples_number};
 ghost use Rattle.laws.specs.cell.Lent as lent;
@@ -58,7 +58,7 @@ fn question_number(
     marks: &[u8],
 ) -> u8
     requires { ClipCounts counts.now }
-    ensures { result ≡ (order_number (order_of given (was listed) (was nameends)) then set_samples_number (part 1 (get_or (was counts) 0 0) (was counts)) (samples_were lens ends times values marks)) }
+    ensures { result ≡ (order_number (order_of given listed.now nameends.now) then set_samples_number (part 1 (get_or counts.now 0 0) counts.now) (samples_were lens ends times values marks)) }
 {
     if given {
         let number = set_order::order_number(listed, nameends);
@@ -74,7 +74,7 @@ fn question_number(
 fn answering(counts: &[u64], bytes: &[u8], given: bool, listed: &[u8], nameends: &[u64]) -> Answered
     requires fact_1 { Sorted counts.now bytes.now }
     requires fact_2 { order_number (order_of given listed.now nameends.now) ≡ 0 }
-    ensures { AnswersOf (was counts) (was bytes) (order_of given (was listed) (was nameends)) result }
+    ensures { AnswersOf counts.now bytes.now (order_of given listed.now nameends.now) result }
 {
     let n = counts[0] as usize;
     let s = layout::STARTS + n;
@@ -117,7 +117,7 @@ fn read_at<'a>(
     requires fact_2 { k < get_or counts.now 0 0 }
     requires fact_3 { AcceptedFor (get_or counts.now (1 + k) 0) times.now values.now marks.now ends.now }
     requires fact_4 { T (finite t.0) }
-    ensures { result ≡ value_read (set_in (state_at (pages (was starts) (was numbers) (was xs) (was ys) (was blocks) (was defaults) (was counts) (was bytes)) k).set) (lent.samples_were times values marks ends) t }
+    ensures { result ≡ value_read (set_in (state_at (pages starts.now numbers.now xs.now ys.now blocks.now defaults.now counts.now bytes.now) k).set) (lent.samples_were times values marks ends) t }
 {
     let a = k * layout::PAGE;
     let b = k * layout::KNOT_PAGE;
@@ -162,7 +162,7 @@ fn bake_at<'a>(
     requires fact_1 { Made (pages starts.now numbers.now xs.now ys.now blocks.now defaults.now counts.now bytes.now) }
     requires fact_2 { k < get_or counts.now 0 0 }
     requires fact_3 { AcceptedFor (get_or counts.now (1 + k) 0) times.now values.now marks.now ends.now }
-    ensures { BakesSet (set_in (state_at (pages (was starts) (was numbers) (was xs) (was ys) (was blocks) (was defaults) (was counts) (was bytes)) k).set) (lent.samples_were times values marks ends) (outs_were outtimes outvalues outmarks) result (outs_left outtimes outvalues outmarks) }
+    ensures { BakesSet (set_in (state_at (pages starts.now numbers.now xs.now ys.now blocks.now defaults.now counts.now bytes.now) k).set) (lent.samples_were times values marks ends) (outputs outtimes.old outvalues.old outmarks.old) result (outputs outtimes.new outvalues.new outmarks.new) }
 {
     let a = k * layout::PAGE;
     let b = k * layout::KNOT_PAGE;
@@ -200,7 +200,7 @@ fn own_at(
     requires fact_1 { ClipCounts counts.now }
     requires fact_2 { k < get_or counts.now 0 0 }
     requires fact_3 { set_samples_number (part 1 (get_or counts.now 0 0) counts.now) (lent_samples lens.now ends.now times.now values.now marks.now) ≡ 0 }
-    ensures { OwnAt (part 1 (get_or (was counts) 0 0) (was counts)) (samples_were lens ends times values marks) k result }
+    ensures { OwnAt (part 1 (get_or counts.now 0 0) counts.now) (samples_were lens ends times values marks) k result }
 {
     let n = CLIPS + counts[0] as usize;
     set_samples::own_of(&counts[CLIPS..n], lens, ends, times, values, marks, k)
@@ -228,7 +228,7 @@ fn read_own<'a>(
     requires fact_2 { k < get_or counts.now 0 0 }
     requires fact_3 { set_samples_number (part 1 (get_or counts.now 0 0) counts.now) (lent_samples lens.now ends.now times.now values.now marks.now) ≡ 0 }
     requires fact_4 { T (finite t.0) }
-    ensures { result ≡ value_read (set_in (state_at (pages (was starts) (was numbers) (was xs) (was ys) (was blocks) (was defaults) (was counts) (was bytes)) k).set) (samples_at (part 1 (get_or (was counts) 0 0) (was counts)) (samples_were lens ends times values marks) k) t }
+    ensures { result ≡ value_read (set_in (state_at (pages starts.now numbers.now xs.now ys.now blocks.now defaults.now counts.now bytes.now) k).set) (samples_at (part 1 (get_or counts.now 0 0) counts.now) (samples_were lens ends times values marks) k) t }
 {
     let own = own_at(counts, k, lens, ends, times, values, marks);
     let begin = own.begin;
@@ -276,7 +276,7 @@ fn bake_own<'a>(
     requires fact_1 { Made (pages starts.now numbers.now xs.now ys.now blocks.now defaults.now counts.now bytes.now) }
     requires fact_2 { k < get_or counts.now 0 0 }
     requires fact_3 { set_samples_number (part 1 (get_or counts.now 0 0) counts.now) (lent_samples lens.now ends.now times.now values.now marks.now) ≡ 0 }
-    ensures { BakesSet (set_in (state_at (pages (was starts) (was numbers) (was xs) (was ys) (was blocks) (was defaults) (was counts) (was bytes)) k).set) (samples_at (part 1 (get_or (was counts) 0 0) (was counts)) (samples_were lens ends times values marks) k) (outs_were outtimes outvalues outmarks) result (outs_left outtimes outvalues outmarks) }
+    ensures { BakesSet (set_in (state_at (pages starts.now numbers.now xs.now ys.now blocks.now defaults.now counts.now bytes.now) k).set) (samples_at (part 1 (get_or counts.now 0 0) counts.now) (samples_were lens ends times values marks) k) (outputs outtimes.old outvalues.old outmarks.old) result (outputs outtimes.new outvalues.new outmarks.new) }
 {
     let own = own_at(counts, k, lens, ends, times, values, marks);
     let begin = own.begin;
@@ -324,7 +324,7 @@ pub fn value<'a>(
     t: StageTime,
 ) -> ValueReply
     requires { Made (pages starts.now numbers.now xs.now ys.now blocks.now defaults.now counts.now bytes.now) }
-    ensures { TellsValue (pages (was starts) (was numbers) (was xs) (was ys) (was blocks) (was defaults) (was counts) (was bytes)) (order_of given (was listed) (was nameends)) (samples_were lens ends times values marks) t result }
+    ensures { TellsValue (pages starts.now numbers.now xs.now ys.now blocks.now defaults.now counts.now bytes.now) (order_of given listed.now nameends.now) (samples_were lens ends times values marks) t result }
 {
     let number = question_number(
         counts, given, listed, nameends, lens, ends, times, values, marks,
@@ -389,7 +389,7 @@ pub fn bake<'a>(
     outmarks: &mut [u8],
 ) -> PlacedBake
     requires { Made (pages starts.now numbers.now xs.now ys.now blocks.now defaults.now counts.now bytes.now) }
-    ensures { BakesTrack (pages (was starts) (was numbers) (was xs) (was ys) (was blocks) (was defaults) (was counts) (was bytes)) (bake_arguments (order_of given (was listed) (was nameends)) (samples_were lens ends times values marks)) (outs_were outtimes outvalues outmarks) result (outs_left outtimes outvalues outmarks) }
+    ensures { BakesTrack (pages starts.now numbers.now xs.now ys.now blocks.now defaults.now counts.now bytes.now) (bake_arguments (order_of given listed.now nameends.now) (samples_were lens ends times values marks)) (outputs outtimes.old outvalues.old outmarks.old) result (outputs outtimes.new outvalues.new outmarks.new) }
 {
     let number = question_number(
         counts, given, listed, nameends, lens, ends, times, values, marks,

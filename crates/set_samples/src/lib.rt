@@ -3,7 +3,6 @@
 #![tactic(auto)]
 
 ghost use Rattle.std.specs.Prelude.{◌≡◌, ◌≤◌, ◌<◌, eqb, length};
-ghost use Rattle.definitions.specs.Moments.{was};
 ghost use Rattle.dispatch.specs.NamedSets.{max_sets};
 ghost use Rattle.dispatch.specs.SetSamples.{sum, set_samples_number};
 ghost use Rattle.set_samples.specs.Parting.{lent_samples, samples_were, earlier, Parted, Totals, FewClips, OwnAt};
@@ -57,7 +56,7 @@ fn parts_number(
 ) -> u8
     requires fact_1 { FewClips clips.now }
     requires fact_2 { Parted clips.now (lent_samples counts.now ends.now times.now values.now marks.now) }
-    ensures { result ≡ set_samples_number (was clips) (samples_were counts ends times values marks) }
+    ensures { result ≡ set_samples_number clips.now (samples_were counts ends times values marks) }
 {
     let mut i: usize = 0;
     let mut a: usize = 0;
@@ -83,7 +82,7 @@ fn parts_number(
 
 fn total_samples(counts: &[u64]) -> Total
     requires { length counts.now ≤ max_sets }
-    ensures { Totals (was counts) result }
+    ensures { Totals counts.now result }
 {
     let mut sum: usize = 0;
     let mut i: usize = 0;
@@ -100,7 +99,7 @@ fn total_samples(counts: &[u64]) -> Total
 
 fn total_clips(clips: &[u64]) -> usize
     requires { FewClips clips.now }
-    ensures { result ≡ sum (was clips) }
+    ensures { result ≡ sum clips.now }
 {
     let mut sum: usize = 0;
     let mut i: usize = 0;
@@ -121,7 +120,7 @@ pub fn samples_number(
     marks: &[u8],
 ) -> u8
     requires { FewClips clips.now }
-    ensures { result ≡ set_samples_number (was clips) (samples_were counts ends times values marks) }
+    ensures { result ≡ set_samples_number clips.now (samples_were counts ends times values marks) }
 {
     if values.len() != times.len() {
         return refusal::MISSHAPEN;
@@ -158,7 +157,7 @@ pub fn own_of(
     requires fact_1 { FewClips clips.now }
     requires fact_2 { k < length clips.now }
     requires fact_3 { set_samples_number clips.now (lent_samples counts.now ends.now times.now values.now marks.now) ≡ 0 }
-    ensures { OwnAt (was clips) (samples_were counts ends times values marks) k result }
+    ensures { OwnAt clips.now (samples_were counts ends times values marks) k result }
 {
     let mut i: usize = 0;
     let mut a: usize = 0;

@@ -2,7 +2,6 @@
 use Rattle.std.specs.Prelude.{◌≡◌, List, map, ℕ, ◌≤◌, ◌<◌, min, length, Float}
 use Rattle.definitions.specs.Lists.{written_over}
 use Rattle.definitions.specs.StageSamples.{StageSample}
-use Rattle.definitions.specs.Moments.{was, after, Lent}
 use Rattle.stage.specs.declared.Written.{Written}
 use Rattle.stage.specs.declared.Written.TheVariants.{Count, NoRoom}
 
@@ -26,7 +25,3 @@ abbrev pub SamplesWritten : List StageSample → (times₀ times₁ : List Float
 SamplesWritten l times₀ times₁ marks₀ marks₁ (Count n) =
     (n ≡ length l) × (length l ≤ min (length times₀) (length marks₀)) × (times₁ ≡ written_over (times_in l) times₀) × (marks₁ ≡ written_over (marks_in l) marks₀)
 SamplesWritten l times₀ times₁ marks₀ marks₁ NoRoom = (min (length times₀) (length marks₀) < length l) × (times₁ ≡ times₀) × (marks₁ ≡ marks₀)
-
--- the same of the two lent lists
-abbrev pub WritesSamples : List StageSample → Lent Float → Lent ℕ → Written → Type 0
-WritesSamples l times marks r = SamplesWritten l (was times) (after times) (was marks) (after marks) r

@@ -9,9 +9,8 @@ pub mod zero;
 
 ghost use Rattle.std.specs.Prelude.{◌≡◌, [], min, length};
 ghost use Rattle.definitions.specs.StageSamples.{stage_samples};
-ghost use Rattle.definitions.specs.Moments.{was, after};
 ghost use Rattle.laws.specs.cell.Lent.{AcceptedLists, samples_were};
-ghost use Rattle.stage.specs.Promises.{TimesWritten, WritesSamples};
+ghost use Rattle.stage.specs.Promises.{TimesWritten, SamplesWritten};
 ghost use Rattle.stage.specs.Times.{times_of, AcceptedTimes};
 ghost use Rattle.stage.specs.Marks.{unblocked};
 
@@ -41,7 +40,7 @@ pub fn stage_sample_times(
     out: &mut [f64],
 ) -> Written
     requires { AcceptedTimes starts.now clips.now xs.now ys.now times.now ends.now }
-    ensures { TimesWritten (times_of (was starts) (was clips) (was xs) (was ys) (was times) (was ends)) (was out) (after out) result }
+    ensures { TimesWritten (times_of starts.now clips.now xs.now ys.now times.now ends.now) out.old out.new result }
 {
     let reach = latest_inverses(xs, ys);
     let room = out.len();
@@ -63,7 +62,7 @@ pub fn stage_sample_count(
     ends: &[u64],
 ) -> usize
     requires { AcceptedTimes starts.now clips.now xs.now ys.now times.now ends.now }
-    ensures { result ≡ length (times_of (was starts) (was clips) (was xs) (was ys) (was times) (was ends)) }
+    ensures { result ≡ length (times_of starts.now clips.now xs.now ys.now times.now ends.now) }
 {
     let reach = latest_inverses(xs, ys);
     count_within(starts, clips, xs, ys, times, ends, &reach.items, ANY_COUNT)
@@ -93,7 +92,7 @@ pub fn stage_samples(
     outmarks: &mut [u8],
 ) -> Written
     requires { AcceptedLists starts.now clips.now xs.now ys.now [] m times.now values.now marks.now ends.now }
-    ensures { WritesSamples (stage_samples (unblocked (was starts) (was clips) (was xs) (was ys) m (was ends)) (samples_were times values marks ends)) outtimes outmarks result }
+    ensures { SamplesWritten (stage_samples (unblocked starts.now clips.now xs.now ys.now m ends.now) (samples_were times values marks ends)) outtimes.old outtimes.new outmarks.old outmarks.new result }
 {
     let reach = latest_inverses(xs, ys);
     let room = shorter(outtimes.len(), outmarks.len());

@@ -4,7 +4,6 @@ ghost use Rattle.std.specs.Prelude.{◌≡◌, [], ◌≤◌, length};
 ghost use Rattle.definitions.specs.Lists.{written_over};
 ghost use Rattle.definitions.specs.StageSamples.{supplied_at};
 ghost use Rattle.definitions.specs.Track.{mark_of};
-ghost use Rattle.definitions.specs.Moments.{was, after};
 ghost use Rattle.laws.specs.cell.Lent.{AcceptedLists, samples_were};
 ghost use Rattle.stage.specs.Marks.{gap_mark_of, unblocked, marks_at};
 
@@ -48,7 +47,7 @@ fn supplied_at(
     t: StageTime,
 ) -> u8
     requires { AcceptedLists starts.now clips.now xs.now ys.now [] m times.now values.now marks.now ends.now }
-    ensures { result ≡ supplied_at (unblocked (was starts) (was clips) (was xs) (was ys) m (was ends)) (samples_were times values marks ends) t }
+    ensures { result ≡ supplied_at (unblocked starts.now clips.now xs.now ys.now m ends.now) (samples_were times values marks ends) t }
 {
     if starts.len() == 0 {
         return gap_mark(m);
@@ -77,7 +76,7 @@ pub fn write_marks(
 )
     requires fact_1 { AcceptedLists starts.now clips.now xs.now ys.now [] m times.now values.now marks.now ends.now }
     requires fact_2 { length at.now ≤ length out.old }
-    ensures { after out ≡ written_over (marks_at (unblocked (was starts) (was clips) (was xs) (was ys) m (was ends)) (samples_were times values marks ends) (was at)) (was out) }
+    ensures { out.new ≡ written_over (marks_at (unblocked starts.now clips.now xs.now ys.now m ends.now) (samples_were times values marks ends) at.now) out.old }
 {
     let mut i: usize = 0;
     while i < at.len() {

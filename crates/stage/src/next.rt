@@ -3,7 +3,6 @@
 ghost use Rattle.std.specs.Prelude.{◌≡◌, ◌++◌, ◌<◌, T, length, get_or};
 ghost use Rattle.std.specs.Float.Ieee.Scale.{finite};
 ghost use Rattle.definitions.specs.Timing.{last_at_most};
-ghost use Rattle.definitions.specs.Moments.{was};
 ghost use Rattle.window.specs.Bounds.{UpperIs};
 ghost use Rattle.window.specs.search.Latest.{LatestOf};
 ghost use Rattle.stage.specs.Whole.{Windows, WholeWindow, whole_times, next_start};
@@ -28,7 +27,7 @@ pub struct Next {
 // The window of the start at the place `p` with all samples of its clip, whether it contributes them or not. A search needs no gap.
 fn whole_window(starts: &[f64], clips: &[u64], ends: &[u64], p: usize) -> Window
     requires { (p < length starts.now) × ((length starts.now ≡ length clips.now) × (get_or clips.now p 0 < length ends.now)) }
-    ensures { WholeWindow (was starts) (was clips) (was ends) p result }
+    ensures { WholeWindow starts.now clips.now ends.now p result }
 {
     let start = starts[p];
     let clip = clips[p];
@@ -66,7 +65,7 @@ fn search_window(
     requires p_value_1 { p ≡ last_at_most starts.now t }
     requires p_value_2 { p < length starts.now }
     requires p_value_3 { T (finite t) }
-    ensures { UpperIs (whole_times (was starts) (was clips) (was xs) (was ys) (was times) (was ends) p ++ next_start (was starts) p) t result.upper }
+    ensures { UpperIs (whole_times starts.now clips.now xs.now ys.now times.now ends.now p ++ next_start starts.now p) t result.upper }
 {
     let w = whole_window(starts, clips, ends, p);
     let begin = w.begin;
@@ -91,7 +90,7 @@ pub fn next_time(
     requires fact_1 { AcceptedTimes starts.now clips.now xs.now ys.now times.now ends.now }
     requires fact_2 { LatestOf xs.now ys.now latest.now }
     requires fact_3 { T (finite t) }
-    ensures { NextTime (was starts) (was clips) (was xs) (was ys) (was times) (was ends) t result.time }
+    ensures { NextTime starts.now clips.now xs.now ys.now times.now ends.now t result.time }
 {
     if starts.len() == 0 {
         return Next {

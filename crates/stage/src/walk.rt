@@ -1,7 +1,6 @@
 // The stage sample times one after the other, counted or written.
 
 ghost use Rattle.std.specs.Prelude.{◌≡◌, ◌+◌, ◌≤◌, min, length};
-ghost use Rattle.definitions.specs.Moments.{was, after};
 ghost use Rattle.window.specs.search.Latest.{LatestOf};
 ghost use Rattle.stage.specs.Times.{times_of, AcceptedTimes};
 ghost use Rattle.stage.specs.Promises.{AllWritten};
@@ -25,7 +24,7 @@ pub fn count_within(
 ) -> usize
     requires fact_1 { AcceptedTimes starts.now clips.now xs.now ys.now times.now ends.now }
     requires fact_2 { LatestOf xs.now ys.now latest.now }
-    ensures { result ≡ min (length (times_of (was starts) (was clips) (was xs) (was ys) (was times) (was ends))) (room + 1) }
+    ensures { result ≡ min (length (times_of starts.now clips.now xs.now ys.now times.now ends.now)) (room + 1) }
 {
     let mut t = BEFORE_ALL;
     let mut count: usize = 0;
@@ -65,7 +64,7 @@ pub fn write_times(
     requires accepted_times_1 { AcceptedTimes starts.now clips.now xs.now ys.now times.now ends.now }
     requires accepted_times_2 { LatestOf xs.now ys.now latest.now }
     requires ends_in_bounds { length (times_of starts.now clips.now xs.now ys.now times.now ends.now) ≤ length out.old }
-    ensures { AllWritten (times_of (was starts) (was clips) (was xs) (was ys) (was times) (was ends)) (was out) (after out) result }
+    ensures { AllWritten (times_of starts.now clips.now xs.now ys.now times.now ends.now) out.old out.new result }
 {
     let mut t = BEFORE_ALL;
     let mut count: usize = 0;

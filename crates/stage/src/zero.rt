@@ -1,7 +1,6 @@
 // How the stage sample time zero is written: of equal times the first in the order of `total_cmp` stays, so it is -0.0 if that is gathered anywhere.
 
 ghost use Rattle.std.specs.Prelude.{◌≡◌};
-ghost use Rattle.definitions.specs.Moments.{was};
 ghost use Rattle.stage.specs.First.{zero_of, with_zero};
 ghost use Rattle.stage.specs.Zeros.{any_minus_zero, samples_at_zero, minus_gathered, Sampled};
 
@@ -12,7 +11,7 @@ use window::Bound;
 const MINUS_ZERO: u64 = 0x7fff_ffff_ffff_ffff;
 
 fn has_minus_zero(xs: &[f64]) -> bool
-    ensures { result ≡ any_minus_zero (was xs) }
+    ensures { result ≡ any_minus_zero xs.now }
 {
     let mut i: usize = 0;
     while i < xs.len() {
@@ -27,7 +26,7 @@ fn has_minus_zero(xs: &[f64]) -> bool
 // Whether the clip that is active at zero has a sample at -0.0.
 fn is_sampled(starts: &[f64], clips: &[u64], times: &[f64], ends: &[u64]) -> bool
     requires { Sampled starts.now clips.now times.now ends.now }
-    ensures { result ≡ any_minus_zero (samples_at_zero (was starts) (was clips) (was times) (was ends)) }
+    ensures { result ≡ any_minus_zero (samples_at_zero starts.now clips.now times.now ends.now) }
 {
     let p = lists::last_at_most(starts, -0.0);
     let clip = clips[p];
@@ -39,7 +38,7 @@ fn is_sampled(starts: &[f64], clips: &[u64], times: &[f64], ends: &[u64]) -> boo
 // Whether -0.0 is gathered. An inverse time is -0.0 only if its first knot is, so the inverse times need no look; with no knots they are the samples.
 fn is_minus(starts: &[f64], clips: &[u64], xs: &[f64], times: &[f64], ends: &[u64]) -> bool
     requires { Sampled starts.now clips.now times.now ends.now }
-    ensures { result ≡ minus_gathered (was starts) (was clips) (was xs) (was times) (was ends) }
+    ensures { result ≡ minus_gathered starts.now clips.now xs.now times.now ends.now }
 {
     if has_minus_zero(starts) {
         return true;
@@ -63,7 +62,7 @@ pub fn with_zero(
     time: Bound,
 ) -> Bound
     requires { Sampled starts.now clips.now times.now ends.now }
-    ensures { result ≡ with_zero (zero_of (minus_gathered (was starts) (was clips) (was xs) (was times) (was ends))) time }
+    ensures { result ≡ with_zero (zero_of (minus_gathered starts.now clips.now xs.now times.now ends.now)) time }
 {
     if let Bound::At(h) = time {
         if h == 0.0 {

@@ -4,7 +4,6 @@
 
 pub mod questions;
 
-ghost use Rattle.definitions.specs.Moments.{was, after};
 ghost use Rattle.clip.specs.Holding.{ArraysWhole};
 ghost use Rattle.standing.specs.Standing.{Arrays, Lengths, lent_set, Installed, Unpacked, Packed};
 
@@ -81,7 +80,7 @@ pub fn unpacked(
 ) -> Counts
     requires fact_1 { ArraysWhole set }
     requires fact_2 { Lengths starts.old numbers.old xs.old ys.old blocks.old }
-    ensures { Unpacked set result (after starts) (after numbers) (after xs) (after ys) (after blocks) }
+    ensures { Unpacked set result starts.new numbers.new xs.new ys.new blocks.new }
 {
     let n = set.active.count;
     let k = set.knots.count;
@@ -108,7 +107,7 @@ pub fn packed<'a>(
     m: Missing,
 ) -> ClipSet
     requires { Arrays counts starts.now numbers.now xs.now ys.now blocks.now }
-    ensures { Packed (lent_set clips counts (was starts) (was numbers) (was xs) (was ys) (was blocks) m) result }
+    ensures { Packed (lent_set clips counts starts.now numbers.now xs.now ys.now blocks.now m) result }
 {
     let n = counts.starts;
     let k = counts.knots;

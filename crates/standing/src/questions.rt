@@ -5,7 +5,7 @@ ghost use Rattle.definitions.specs.ClipSet.{max_active, max_knots};
 ghost use Rattle.definitions.specs.StageSamples.{stage_samples};
 ghost use Rattle.definitions.specs.Timing.{active_entry, clip_of, map_stage_to_clip};
 ghost use Rattle.definitions.specs.Value.{value_read};
-ghost use Rattle.definitions.specs.Moments.{was, after, outs_were, outs_left};
+ghost use Rattle.definitions.specs.Moments.{outputs};
 ghost use Rattle.laws.specs.list.Every.{Every};
 ghost use Rattle.laws.specs.list.Places.{Ascending};
 ghost use Rattle.laws.specs.cell.Lent.{active_of, knots_of, samples_were};
@@ -33,7 +33,7 @@ pub fn active_clip<'a>(starts: &'a [f64], numbers: &'a [u64], n: usize, t: Stage
     requires fact_1 { Room max_active starts.now n }
     requires fact_2 { Room max_active numbers.now n }
     requires fact_3 { Ascending (take n starts.now) }
-    ensures { result ≡ answered (clip_of (active_entry (active_of (take n (was starts)) (take n (was numbers))) t)) }
+    ensures { result ≡ answered (clip_of (active_entry (active_of (take n starts.now) (take n numbers.now)) t)) }
 {
     if n == 0 {
         return ActiveClip::NoClip;
@@ -47,7 +47,7 @@ pub fn map_stage_to_clip<'a>(xs: &'a [f64], ys: &'a [f64], n: usize, t: StageTim
     requires fact_1 { Room max_knots xs.now n }
     requires fact_2 { Room max_knots ys.now n }
     requires fact_3 { Ascending (take n xs.now) }
-    ensures { result ≡ map_stage_to_clip (knots_of (take n (was xs)) (take n (was ys))) t }
+    ensures { result ≡ map_stage_to_clip (knots_of (take n xs.now) (take n ys.now)) t }
 {
     lists::map_time(&xs[..n], &ys[..n], t)
 }
@@ -93,7 +93,7 @@ pub fn value<'a>(
 pub fn untimed(numbers: &[u64], n: usize, m: Missing, ends: &[u64]) -> ValueState
     requires fact_1 { Room max_active numbers.now n }
     requires fact_2 { Every (λ (c : ℕ). c < length ends.now) (take n numbers.now) }
-    ensures { result ≡ untimed_of (take n (was numbers)) m (was ends) }
+    ensures { result ≡ untimed_of (take n numbers.now) m ends.now }
 {
     value::untimed::untimed_answer_in_set(&numbers[..n], m, ends)
 }
@@ -116,7 +116,7 @@ pub fn bake<'a>(
     outmarks: &mut [u8],
 ) -> Baked
     requires { Asked counts starts.now numbers.now xs.now ys.now blocks.now m times.now values.now marks.now ends.now }
-    ensures { BakeIs (set_was counts starts numbers xs ys blocks m ends) (samples_were times values marks ends) (outs_were outtimes outvalues outmarks) (outs_left outtimes outvalues outmarks) result }
+    ensures { BakeIs (set_was counts starts numbers xs ys blocks m ends) (samples_were times values marks ends) (outputs outtimes.old outvalues.old outmarks.old) (outputs outtimes.new outvalues.new outmarks.new) result }
 {
     let n = counts.starts;
     let k = counts.knots;
@@ -183,7 +183,7 @@ pub fn stage_sample_count<'a>(
     ends: &[u64],
 ) -> usize
     requires { TimesAsked counts starts.now numbers.now xs.now ys.now times.now ends.now }
-    ensures { result ≡ length (lent_times counts (was starts) (was numbers) (was xs) (was ys) (was times) (was ends)) }
+    ensures { result ≡ length (lent_times counts starts.now numbers.now xs.now ys.now times.now ends.now) }
 {
     let n = counts.starts;
     let k = counts.knots;
@@ -202,7 +202,7 @@ pub fn stage_sample_times<'a>(
     out: &mut [f64],
 ) -> Counted
     requires { TimesAsked counts starts.now numbers.now xs.now ys.now times.now ends.now }
-    ensures { ListsTimes (lent_times counts (was starts) (was numbers) (was xs) (was ys) (was times) (was ends)) (was out) (after out) result }
+    ensures { ListsTimes (lent_times counts starts.now numbers.now xs.now ys.now times.now ends.now) out.old out.new result }
 {
     let n = counts.starts;
     let k = counts.knots;
@@ -234,7 +234,7 @@ pub fn stage_samples<'a>(
     outmarks: &mut [u8],
 ) -> Counted
     requires { SamplesAsked counts starts.now numbers.now xs.now ys.now m times.now values.now marks.now ends.now }
-    ensures { ListsSamples (stage_samples (open_was counts starts numbers xs ys m ends) (samples_were times values marks ends)) (was outtimes) (after outtimes) (was outmarks) (after outmarks) result }
+    ensures { ListsSamples (stage_samples (open_was counts starts numbers xs ys m ends) (samples_were times values marks ends)) outtimes.old outtimes.new outmarks.old outmarks.new result }
 {
     let n = counts.starts;
     let k = counts.knots;

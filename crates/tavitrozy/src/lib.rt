@@ -9,7 +9,7 @@ ghost use Rattle.std.specs.Prelude.{◌≡◌};
 ghost use Rattle.gf.specs.TotalOrder.{key_of, PlacedBy};
 ghost use Rattle.definitions.specs.Examining.{explicitly, by_template};
 ghost use Rattle.definitions.specs.Reading.{track_of_lists, read_by_halves};
-ghost use Rattle.definitions.specs.Moments.{was, after, outs_were, outs_left};
+ghost use Rattle.definitions.specs.Moments.{outputs};
 ghost use Rattle.laws.specs.cell.Lent.{samples_were};
 ghost use Rattle.clip.specs.Holding.{manifest};
 ghost use Rattle.clip.specs.Preparing.{MadeSet, Examines};
@@ -17,7 +17,7 @@ ghost use Rattle.explicit.specs.Parsing.{explicit_fields};
 ghost use Rattle.template.specs.Expanding.{offset_of, template_fields, SaysClipTimes};
 ghost use Rattle.normal_form.specs.Normalizes.{Normalizes};
 ghost use Rattle.cell.specs.step.Entries.{entry_is};
-ghost use Rattle.resolver.specs.State.{Made, lent_state, state_was, state_left, settled_state};
+ghost use Rattle.resolver.specs.State.{Made, lent_state, settled_state};
 ghost use Rattle.resolver.specs.Promises.{BeginsLent, Accepts, Expands, Installs, Retimes, BakesTrack, TellsTimes, TellsSamples, TellsSampleCount, TellsChangeCount};
 ghost use Rattle.codes.specs.Codes.{TellsClip, TellsTime, TellsValue, TellsUntimed, SaysName};
 
@@ -56,7 +56,7 @@ pub extern "C" fn tavitrozy_lent_accept(
     interpolate: bool,
 ) -> Settled
     requires { Made (lent_state shape starts.old numbers.old xs.old ys.old blocks.old) }
-    ensures { Accepts (state_was shape starts numbers xs ys blocks) (explicit_fields clips (was newstarts) (was newnumbers) (was newxs) (was newys) (was newblocks) (manifest fallback interpolate)) (settled_state result starts numbers xs ys blocks) }
+    ensures { Accepts (lent_state shape starts.old numbers.old xs.old ys.old blocks.old) (explicit_fields clips newstarts.now newnumbers.now newxs.now newys.now newblocks.now (manifest fallback interpolate)) (settled_state result starts.new numbers.new xs.new ys.new blocks.new) }
 {
     lent_changes::accept(
         shape,
@@ -92,7 +92,7 @@ pub extern "C" fn tavitrozy_lent_accept_template(
     interpolate: bool,
 ) -> Settled
     requires { Made (lent_state shape starts.old numbers.old xs.old ys.old blocks.old) }
-    ensures { Expands (state_was shape starts numbers xs ys blocks) (template_fields (was pattern) times offset (was newblocks) (manifest fallback interpolate)) (settled_state result starts numbers xs ys blocks) }
+    ensures { Expands (lent_state shape starts.old numbers.old xs.old ys.old blocks.old) (template_fields pattern.now times offset newblocks.now (manifest fallback interpolate)) (settled_state result starts.new numbers.new xs.new ys.new blocks.new) }
 {
     lent_changes::accept_template(
         shape,
@@ -122,7 +122,7 @@ pub extern "C" fn tavitrozy_lent_install(
 ) -> Shape
     requires made { Made (lent_state shape starts.old numbers.old xs.old ys.old blocks.old) }
     requires made_set { MadeSet set }
-    ensures { Installs (state_was shape starts numbers xs ys blocks) set (state_left result starts numbers xs ys blocks) }
+    ensures { Installs (lent_state shape starts.old numbers.old xs.old ys.old blocks.old) set (lent_state result starts.new numbers.new xs.new ys.new blocks.new) }
 {
     lent_changes::install(shape, starts, numbers, xs, ys, blocks, set)
 }
@@ -138,7 +138,7 @@ pub extern "C" fn tavitrozy_lent_retime(
     offset: LayerOffset,
 ) -> Settled
     requires { Made (lent_state shape starts.old numbers.old xs.old ys.old blocks.old) }
-    ensures { Retimes (state_was shape starts numbers xs ys blocks) offset (settled_state result starts numbers xs ys blocks) }
+    ensures { Retimes (lent_state shape starts.old numbers.old xs.old ys.old blocks.old) offset (settled_state result starts.new numbers.new xs.new ys.new blocks.new) }
 {
     lent_changes::retime(shape, starts, numbers, xs, ys, blocks, offset)
 }
@@ -154,7 +154,7 @@ pub extern "C" fn tavitrozy_lent_active_clip<'a>(
     time: StageTime,
 ) -> ClipCode
     requires { Made (lent_state shape starts.now numbers.now xs.now ys.now blocks.now) }
-    ensures { TellsClip (state_was shape starts numbers xs ys blocks) time result }
+    ensures { TellsClip (lent_state shape starts.now numbers.now xs.now ys.now blocks.now) time result }
 {
     codes::clip_code(lent_questions::active_clip(shape, starts, numbers, xs, ys, blocks, time))
 }
@@ -170,7 +170,7 @@ pub extern "C" fn tavitrozy_lent_clip_time<'a>(
     time: StageTime,
 ) -> TimeCode
     requires { Made (lent_state shape starts.now numbers.now xs.now ys.now blocks.now) }
-    ensures { TellsTime (state_was shape starts numbers xs ys blocks) time result }
+    ensures { TellsTime (lent_state shape starts.now numbers.now xs.now ys.now blocks.now) time result }
 {
     codes::time_code(lent_questions::clip_time(shape, starts, numbers, xs, ys, blocks, time))
 }
@@ -190,7 +190,7 @@ pub extern "C" fn tavitrozy_lent_value<'a>(
     time: StageTime,
 ) -> ValueCode
     requires { Made (lent_state shape starts.now numbers.now xs.now ys.now blocks.now) }
-    ensures { TellsValue (state_was shape starts numbers xs ys blocks) (samples_were times values marks ends) time result }
+    ensures { TellsValue (lent_state shape starts.now numbers.now xs.now ys.now blocks.now) (samples_were times values marks ends) time result }
 {
     let r = lent_questions::value(
         shape, starts, numbers, xs, ys, blocks, times, values, marks, ends, time,
@@ -212,7 +212,7 @@ pub extern "C" fn tavitrozy_lent_untimed<'a>(
     ends: &[u64],
 ) -> UntimedCode
     requires { Made (lent_state shape starts.now numbers.now xs.now ys.now blocks.now) }
-    ensures { TellsUntimed (state_was shape starts numbers xs ys blocks) (samples_were times values marks ends) result }
+    ensures { TellsUntimed (lent_state shape starts.now numbers.now xs.now ys.now blocks.now) (samples_were times values marks ends) result }
 {
     let r = lent_questions::untimed(
         shape, starts, numbers, xs, ys, blocks, times, values, marks, ends,
@@ -235,7 +235,7 @@ pub extern "C" fn tavitrozy_lent_stage_sample_times<'a>(
     ts: &mut [f64],
 ) -> Counted
     requires { Made (lent_state shape starts.now numbers.now xs.now ys.now blocks.now) }
-    ensures { TellsTimes (state_was shape starts numbers xs ys blocks) (samples_were times values marks ends) (was ts) (after ts) result }
+    ensures { TellsTimes (lent_state shape starts.now numbers.now xs.now ys.now blocks.now) (samples_were times values marks ends) ts.old ts.new result }
 {
     lent_questions::stage_sample_times(
         shape, starts, numbers, xs, ys, blocks, times, values, marks, ends, ts,
@@ -258,7 +258,7 @@ pub extern "C" fn tavitrozy_lent_stage_samples<'a>(
     ms: &mut [u8],
 ) -> Counted
     requires { Made (lent_state shape starts.now numbers.now xs.now ys.now blocks.now) }
-    ensures { TellsSamples (state_was shape starts numbers xs ys blocks) (samples_were times values marks ends) (was ts) (after ts) (was ms) (after ms) result }
+    ensures { TellsSamples (lent_state shape starts.now numbers.now xs.now ys.now blocks.now) (samples_were times values marks ends) ts.old ts.new ms.old ms.new result }
 {
     lent_questions::stage_samples(
         shape, starts, numbers, xs, ys, blocks, times, values, marks, ends, ts, ms,
@@ -279,7 +279,7 @@ pub extern "C" fn tavitrozy_lent_stage_sample_count<'a>(
     ends: &[u64],
 ) -> Counted
     requires { Made (lent_state shape starts.now numbers.now xs.now ys.now blocks.now) }
-    ensures { TellsSampleCount (state_was shape starts numbers xs ys blocks) (samples_were times values marks ends) result }
+    ensures { TellsSampleCount (lent_state shape starts.now numbers.now xs.now ys.now blocks.now) (samples_were times values marks ends) result }
 {
     lent_questions::stage_sample_count(
         shape, starts, numbers, xs, ys, blocks, times, values, marks, ends,
@@ -300,7 +300,7 @@ pub extern "C" fn tavitrozy_lent_change_count<'a>(
     ends: &[u64],
 ) -> Counted
     requires { Made (lent_state shape starts.now numbers.now xs.now ys.now blocks.now) }
-    ensures { TellsChangeCount (state_was shape starts numbers xs ys blocks) (samples_were times values marks ends) result }
+    ensures { TellsChangeCount (lent_state shape starts.now numbers.now xs.now ys.now blocks.now) (samples_were times values marks ends) result }
 {
     lent_questions::change_count(
         shape, starts, numbers, xs, ys, blocks, times, values, marks, ends,
@@ -324,7 +324,7 @@ pub extern "C" fn tavitrozy_lent_bake<'a>(
     outmarks: &mut [u8],
 ) -> Baked
     requires { Made (lent_state shape starts.now numbers.now xs.now ys.now blocks.now) }
-    ensures { BakesTrack (state_was shape starts numbers xs ys blocks) (samples_were times values marks ends) (outs_were outtimes outvalues outmarks) result (outs_left outtimes outvalues outmarks) }
+    ensures { BakesTrack (lent_state shape starts.now numbers.now xs.now ys.now blocks.now) (samples_were times values marks ends) (outputs outtimes.old outvalues.old outmarks.old) result (outputs outtimes.new outvalues.new outmarks.new) }
 {
     lent_questions::bake(
         shape, starts, numbers, xs, ys, blocks, times, values, marks, ends, outtimes, outvalues,
@@ -345,7 +345,7 @@ pub extern "C" fn tavitrozy_examine(
     fallback: Default,
     interpolate: bool,
 ) -> Prepared
-    ensures { Examines (explicitly (explicit_fields clips (was starts) (was numbers) (was xs) (was ys) (was blocks) (manifest fallback interpolate))) result }
+    ensures { Examines (explicitly (explicit_fields clips starts.now numbers.now xs.now ys.now blocks.now (manifest fallback interpolate))) result }
 {
     explicit::parse_set(
         clips,
@@ -368,7 +368,7 @@ pub extern "C" fn tavitrozy_examine_template(
     fallback: Default,
     interpolate: bool,
 ) -> Prepared
-    ensures { Examines (by_template (template_fields (was pattern) times offset (was blocks) (manifest fallback interpolate))) result }
+    ensures { Examines (by_template (template_fields pattern.now times offset blocks.now (manifest fallback interpolate))) result }
 {
     template::expand_template(pattern, times, offset, blocks, fallback, interpolate)
 }
@@ -381,14 +381,14 @@ pub extern "C" fn tavitrozy_read(
     marks: &[u8],
     time: StageTime,
 ) -> Entry
-    ensures { entry_is result ≡ read_by_halves (track_of_lists head.value head.mark (was times) (was values) (was marks)) time.0 }
+    ensures { entry_is result ≡ read_by_halves (track_of_lists head.value head.mark times.now values.now marks.now) time.0 }
 {
     track::held::read_held(head.mark, head.value, times, values, marks, time.0)
 }
 
 #[unsafe(no_mangle)]
 pub extern "C" fn tavitrozy_name(pattern: &[u8], time: ClipTime, out: &mut [u8]) -> Counted
-    ensures { SaysName (was pattern) time (was out) (after out) result }
+    ensures { SaysName pattern.now time out.old out.new result }
 {
     codes::name_code(names::name(pattern, time, out))
 }
@@ -400,7 +400,7 @@ pub extern "C" fn tavitrozy_template_clip_times(
     offset: bool,
     out: &mut [f64],
 ) -> Counted
-    ensures { SaysClipTimes times (offset_of times offset) (was out) (after out) result }
+    ensures { SaysClipTimes times (offset_of times offset) out.old out.new result }
 {
     template::clip_times(times, offset, out)
 }
@@ -414,7 +414,7 @@ pub extern "C" fn tavitrozy_normalize(
     outvalues: &mut [f64],
     outmarks: &mut [u8],
 ) -> Counted
-    ensures { Normalizes (was times) (was values) (was marks) (outs_were outtimes outvalues outmarks) (outs_left outtimes outvalues outmarks) result }
+    ensures { Normalizes times.now values.now marks.now (outputs outtimes.old outvalues.old outmarks.old) (outputs outtimes.new outvalues.new outmarks.new) result }
 {
     normal_form::normalize_time_samples(times, values, marks, outtimes, outvalues, outmarks)
 }

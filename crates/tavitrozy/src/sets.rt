@@ -1,5 +1,5 @@
 // A dispatcher that is lent, in eight lists where the caller keeps them, for C, Rust and Python callers.
-ghost use Rattle.definitions.specs.Moments.{was, after, outs_were, outs_left};
+ghost use Rattle.definitions.specs.Moments.{outputs};
 ghost use Rattle.clip.specs.Holding.{manifest};
 ghost use Rattle.clip.specs.Preparing.{MadeSet};
 ghost use Rattle.explicit.specs.Parsing.{explicit_fields};
@@ -28,7 +28,7 @@ pub extern "C" fn tavitrozy_sets_fresh(
     counts: &mut [u64],
     bytes: &mut [u8],
 ) -> bool
-    ensures { Begins (pages (was starts) (was numbers) (was xs) (was ys) (was blocks) (was defaults) (was counts) (was bytes)) result (pages (after starts) (after numbers) (after xs) (after ys) (after blocks) (after defaults) (after counts) (after bytes)) }
+    ensures { Begins (pages starts.old numbers.old xs.old ys.old blocks.old defaults.old counts.old bytes.old) result (pages starts.new numbers.new xs.new ys.new blocks.new defaults.new counts.new bytes.new) }
 {
     pages::fresh(starts, numbers, xs, ys, blocks, defaults, counts, bytes)
 }
@@ -55,7 +55,7 @@ pub extern "C" fn tavitrozy_sets_accept(
     interpolate: bool,
 ) -> u8
     requires { Made (pages starts.old numbers.old xs.old ys.old blocks.old defaults.old counts.old bytes.old) }
-    ensures { Accepts (pages (was starts) (was numbers) (was xs) (was ys) (was blocks) (was defaults) (was counts) (was bytes)) (was name) declares (explicit_fields clips (was newstarts) (was newnumbers) (was newxs) (was newys) (was newblocks) (manifest default interpolate)) result (pages (after starts) (after numbers) (after xs) (after ys) (after blocks) (after defaults) (after counts) (after bytes)) }
+    ensures { Accepts (pages starts.old numbers.old xs.old ys.old blocks.old defaults.old counts.old bytes.old) name.now declares (explicit_fields clips newstarts.now newnumbers.now newxs.now newys.now newblocks.now (manifest default interpolate)) result (pages starts.new numbers.new xs.new ys.new blocks.new defaults.new counts.new bytes.new) }
 {
     set_changes::accept(
         starts,
@@ -99,7 +99,7 @@ pub extern "C" fn tavitrozy_sets_accept_template(
     interpolate: bool,
 ) -> u8
     requires { Made (pages starts.old numbers.old xs.old ys.old blocks.old defaults.old counts.old bytes.old) }
-    ensures { Expands (pages (was starts) (was numbers) (was xs) (was ys) (was blocks) (was defaults) (was counts) (was bytes)) (was name) declares (template_fields (was template) times offset (was newblocks) (manifest default interpolate)) result (pages (after starts) (after numbers) (after xs) (after ys) (after blocks) (after defaults) (after counts) (after bytes)) }
+    ensures { Expands (pages starts.old numbers.old xs.old ys.old blocks.old defaults.old counts.old bytes.old) name.now declares (template_fields template.now times offset newblocks.now (manifest default interpolate)) result (pages starts.new numbers.new xs.new ys.new blocks.new defaults.new counts.new bytes.new) }
 {
     set_changes::accept_template(
         starts,
@@ -137,7 +137,7 @@ pub extern "C" fn tavitrozy_sets_install(
 ) -> u8
     requires made { Made (pages starts.old numbers.old xs.old ys.old blocks.old defaults.old counts.old bytes.old) }
     requires made_set { MadeSet set }
-    ensures { Installs (pages (was starts) (was numbers) (was xs) (was ys) (was blocks) (was defaults) (was counts) (was bytes)) (was name) declares set result (pages (after starts) (after numbers) (after xs) (after ys) (after blocks) (after defaults) (after counts) (after bytes)) }
+    ensures { Installs (pages starts.old numbers.old xs.old ys.old blocks.old defaults.old counts.old bytes.old) name.now declares set result (pages starts.new numbers.new xs.new ys.new blocks.new defaults.new counts.new bytes.new) }
 {
     set_changes::install(
         starts, numbers, xs, ys, blocks, defaults, counts, bytes, name, declares, set,
@@ -158,7 +158,7 @@ pub extern "C" fn tavitrozy_sets_retime(
     o: LayerOffset,
 ) -> u8
     requires { Made (pages starts.old numbers.old xs.old ys.old blocks.old defaults.old counts.old bytes.old) }
-    ensures { Retimes (pages (was starts) (was numbers) (was xs) (was ys) (was blocks) (was defaults) (was counts) (was bytes)) (was name) o result (pages (after starts) (after numbers) (after xs) (after ys) (after blocks) (after defaults) (after counts) (after bytes)) }
+    ensures { Retimes (pages starts.old numbers.old xs.old ys.old blocks.old defaults.old counts.old bytes.old) name.now o result (pages starts.new numbers.new xs.new ys.new blocks.new defaults.new counts.new bytes.new) }
 {
     set_changes::retime(
         starts, numbers, xs, ys, blocks, defaults, counts, bytes, name, o,
@@ -186,7 +186,7 @@ pub extern "C" fn tavitrozy_sets_value<'a>(
     time: StageTime,
 ) -> PlacedCode
     requires { Made (pages starts.now numbers.now xs.now ys.now blocks.now defaults.now counts.now bytes.now) }
-    ensures { TellsPlaced (pages (was starts) (was numbers) (was xs) (was ys) (was blocks) (was defaults) (was counts) (was bytes)) (order_of given (was listed) (was nameends)) (samples_were lens ends times values marks) time result }
+    ensures { TellsPlaced (pages starts.now numbers.now xs.now ys.now blocks.now defaults.now counts.now bytes.now) (order_of given listed.now nameends.now) (samples_were lens ends times values marks) time result }
 {
     let r = set_questions::value(
         starts, numbers, xs, ys, blocks, defaults, counts, bytes, given, listed, nameends, lens,
@@ -218,7 +218,7 @@ pub extern "C" fn tavitrozy_sets_bake<'a>(
     outmarks: &mut [u8],
 ) -> PlacedBake
     requires { Made (pages starts.now numbers.now xs.now ys.now blocks.now defaults.now counts.now bytes.now) }
-    ensures { BakesTrack (pages (was starts) (was numbers) (was xs) (was ys) (was blocks) (was defaults) (was counts) (was bytes)) (bake_arguments (order_of given (was listed) (was nameends)) (samples_were lens ends times values marks)) (outs_were outtimes outvalues outmarks) result (outs_left outtimes outvalues outmarks) }
+    ensures { BakesTrack (pages starts.now numbers.now xs.now ys.now blocks.now defaults.now counts.now bytes.now) (bake_arguments (order_of given listed.now nameends.now) (samples_were lens ends times values marks)) (outputs outtimes.old outvalues.old outmarks.old) result (outputs outtimes.new outvalues.new outmarks.new) }
 {
     set_questions::bake(
         starts, numbers, xs, ys, blocks, defaults, counts, bytes, given, listed, nameends, lens,

@@ -1,7 +1,6 @@
 // The expansion of a template: the times t of its clips, and the set's lists of them.
 ghost use Rattle.std.specs.Prelude.{◌≡◌, map, ◌≤◌, ◌+◌, length};
 ghost use Rattle.definitions.specs.Template.{stage_time};
-ghost use Rattle.definitions.specs.Moments.{was, after};
 ghost use Rattle.definitions.specs.Examining.{empty_set};
 ghost use Rattle.clip.specs.Storing.{Stores};
 ghost use Rattle.template.specs.Expanding.{offset_of, Promotes, times_of_clips, bounded, knot_xs, knot_count, numbered, RoomForLists, expanded_set};
@@ -56,7 +55,7 @@ fn stage_time(t: f64, times: TemplateTimes, offset: bool) -> f64
 
 fn write_starts(ts: &[f64], times: TemplateTimes, offset: bool, to: &mut [f64])
     requires { length to.old ≡ length ts.now }
-    ensures { after to ≡ map (stage_time (offset_of times offset)) (was ts) }
+    ensures { to.new ≡ map (stage_time (offset_of times offset)) ts.now }
 {
     let mut i: usize = 0;
     while i < ts.len() {
@@ -67,7 +66,7 @@ fn write_starts(ts: &[f64], times: TemplateTimes, offset: bool, to: &mut [f64])
 
 // The clips are numbered in order.
 fn write_numbers(to: &mut [u64])
-    ensures { after to ≡ numbered 0 (was to) }
+    ensures { to.new ≡ numbered 0 to.old }
 {
     let mut i: usize = 0;
     while i < to.len() {
@@ -78,7 +77,7 @@ fn write_numbers(to: &mut [u64])
 
 pub fn write_clip_times(ts: &[f64], to: &mut [f64])
     requires { length to.old ≡ length ts.now }
-    ensures { after to ≡ times_of_clips (was ts) }
+    ensures { to.new ≡ times_of_clips ts.now }
 {
     let mut i: usize = 0;
     while i < ts.len() {
@@ -99,7 +98,7 @@ pub fn knot_count(clips: usize, offset: bool) -> usize
 
 fn write_bounded(ts: &[f64], first: f64, last: f64, xs: &mut [f64])
     requires { length xs.old ≡ length ts.now + 2 }
-    ensures { after xs ≡ bounded first last (was ts) }
+    ensures { xs.new ≡ bounded first last ts.now }
 {
     let end = ts.len() + 1;
     write_clip_times(ts, &mut xs[1..end]);
@@ -110,7 +109,7 @@ fn write_bounded(ts: &[f64], first: f64, last: f64, xs: &mut [f64])
 // A knot for each clip; with an offset one before and one behind them.
 fn write_knots(ts: &[f64], times: TemplateTimes, offset: bool, xs: &mut [f64])
     requires { length xs.old ≡ knot_count offset (length ts.now) }
-    ensures { after xs ≡ knot_xs times (offset_of times offset) (was ts) }
+    ensures { xs.new ≡ knot_xs times (offset_of times offset) ts.now }
 {
     if offset {
         let slack = gf::magnitude::abs(times.offset);
@@ -132,7 +131,7 @@ pub fn expand_lists(
     ys: &mut [f64],
 ) -> Prepared
     requires { RoomForLists offset ts.now starts.old numbers.old xs.old ys.old blocks.now }
-    ensures { Stores empty_set (expanded_set (was ts) times (offset_of times offset) (was blocks) manifest) result }
+    ensures { Stores empty_set (expanded_set ts.now times (offset_of times offset) blocks.now manifest) result }
 {
     write_starts(ts, times, offset, starts);
     write_numbers(numbers);

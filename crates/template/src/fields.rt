@@ -1,6 +1,5 @@
 // A template's fields: the numbers that they alone give.
 ghost use Rattle.std.specs.Prelude.{◌≡◌};
-ghost use Rattle.definitions.specs.Moments.{was};
 ghost use Rattle.definitions.specs.Template.{times_unstorable, times_disordered};
 ghost use Rattle.template.specs.Expanding.{offset_of, template_fields, template_fields_number};
 
@@ -51,7 +50,7 @@ pub fn fields_number(
     blocks: &[f64],
     manifest: Missing,
 ) -> u8
-    ensures { result ≡ template_fields_number (template_fields (was template) times offset (was blocks) manifest) }
+    ensures { result ≡ template_fields_number (template_fields template.now times offset blocks.now manifest) }
 {
     if TEMPLATE_BYTES < template.len() {
         return refusal::MISSHAPEN;

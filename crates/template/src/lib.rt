@@ -7,7 +7,6 @@ mod fields;
 
 ghost use Rattle.std.specs.Prelude.{◌≡◌};
 ghost use Rattle.definitions.specs.Examining.{by_template};
-ghost use Rattle.definitions.specs.Moments.{was, after};
 ghost use Rattle.clip.specs.Holding.{manifest};
 ghost use Rattle.clip.specs.Preparing.{Examines};
 ghost use Rattle.template.specs.Expanding.{offset_of, template_fields, SaysClipTimes};
@@ -26,7 +25,7 @@ pub fn expand_template(
     default: Default,
     interpolate: bool,
 ) -> Prepared
-    ensures { Examines (by_template (template_fields (was template) times offset (was blocks) (manifest default interpolate))) result }
+    ensures { Examines (by_template (template_fields template.now times offset blocks.now (manifest default interpolate))) result }
 {
     let manifest = Missing {
         default,
@@ -62,7 +61,7 @@ pub fn expand_template(
 
 // The clip times of a template's clips, written to the lent list: 2, 7 and 8 of its four numbers, then 22. The offset moves the starts and not these.
 pub fn clip_times(times: TemplateTimes, offset: bool, out: &mut [f64]) -> Counted
-    ensures { SaysClipTimes times (offset_of times offset) (was out) (after out) result }
+    ensures { SaysClipTimes times (offset_of times offset) out.old out.new result }
 {
     if fields::is_unstorable(times, offset) {
         return refused(refusal::UNSTORABLE);

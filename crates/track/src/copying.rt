@@ -1,10 +1,9 @@
 // Marks copied from list to list.
 ghost use Rattle.std.specs.Prelude.{◌≡◌, length};
-ghost use Rattle.definitions.specs.Moments.{was, after};
 
 pub fn copy_marks(from: &[u8], to: &mut [u8])
     requires { length to.old ≡ length from.now }
-    ensures { after to ≡ was from }
+    ensures { to.new ≡ from.now }
 {
     let mut i: usize = 0;
     while i < from.len() {

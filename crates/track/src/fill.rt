@@ -1,7 +1,7 @@
 // The walk over the changes of the value. It stops when its outputs are full and can go on later.
 ghost use Rattle.std.specs.Prelude.{◌≡◌, min};
 ghost use Rattle.gf.specs.Doubles as Key;
-ghost use Rattle.definitions.specs.Moments.{was, outs_were, outs_left};
+ghost use Rattle.definitions.specs.Moments.{outputs};
 ghost use Rattle.laws.specs.cell.Lent.{AcceptedLists};
 ghost use Rattle.window.specs.search.Latest.{LatestOf};
 ghost use Rattle.track.specs.Fills.{CursorIs, Fills};
@@ -45,7 +45,7 @@ pub fn least_cursor(
     ends: &[u64],
 ) -> Cursor
     requires { AcceptedLists starts.now clips.now xs.now ys.now blocks.now m times.now values.now marks.now ends.now }
-    ensures { CursorIs (was starts) (was clips) (was xs) (was ys) (was blocks) m (was times) (was values) (was marks) (was ends) Key.most result × (result.key ≡ Key.least) }
+    ensures { CursorIs starts.now clips.now xs.now ys.now blocks.now m times.now values.now marks.now ends.now Key.most result × (result.key ≡ Key.least) }
 {
     let last = entry_at(
         starts, clips, xs, ys, blocks, m, times, values, marks, ends, LEAST,
@@ -96,7 +96,7 @@ pub fn fill(
     requires accepted_lists { AcceptedLists starts.now clips.now xs.now ys.now blocks.now m times.now values.now marks.now ends.now }
     requires latest_of { LatestOf xs.now ys.now latest.now }
     requires cursor_is { CursorIs starts.now clips.now xs.now ys.now blocks.now m times.now values.now marks.now ends.now top from }
-    ensures { Fills starts clips xs ys blocks m times values marks ends from top (outs_were outtimes outvalues outmarks) (outs_left outtimes outvalues outmarks) result }
+    ensures { Fills starts clips xs ys blocks m times values marks ends from top (outputs outtimes.old outvalues.old outmarks.old) (outputs outtimes.new outvalues.new outmarks.new) result }
 {
     let room = shortest(outtimes.len(), outvalues.len(), outmarks.len());
     let mut at = from.key;

@@ -6,7 +6,6 @@ pub mod fill;
 pub mod knotless;
 
 ghost use Rattle.std.specs.Prelude.{◌≡◌};
-ghost use Rattle.definitions.specs.Moments.{was};
 ghost use Rattle.laws.specs.cell.Keys.{Keys};
 ghost use Rattle.laws.specs.cell.Lent.{AcceptedLists};
 ghost use Rattle.window.specs.search.Latest.{LatestOf};
@@ -56,7 +55,7 @@ pub struct Step {
 fn read_on(times: &[f64], ends: &[u64], cell: Cell, k: u64) -> Source
     requires keys { Keys k k }
     requires readable { Readable times.now ends.now cell }
-    ensures { result ≡ read_on (was times) (was ends) cell k }
+    ensures { result ≡ read_on times.now ends.now cell k }
 {
     match cell {
         Cell::Constant(source) => source,
@@ -84,7 +83,7 @@ fn cell_step(
     top: u64,
 ) -> Step
     requires { CellStepAsks starts.now xs.now ys.now times.now values.now latest.now marks.now ends.now at.window k }
-    ensures { FoundStep (was starts) (was xs) (was ys) m (was times) (was values) (was marks) (was ends) at k top result }
+    ensures { FoundStep starts.now xs.now ys.now m times.now values.now marks.now ends.now at k top result }
 {
     let piece = cell_at(starts, xs, ys, times, latest, at, gf::of_key(k));
     let cell = piece.cell;
@@ -120,7 +119,7 @@ fn knotless_step(
     top: u64,
 ) -> Step
     requires { ReadsAt times.now values.now marks.now ends.now (knotless_cell at.window) (At at.window.max) k }
-    ensures { CellStep m (was times) (was values) (was marks) (was ends) (knotless_cell at.window) (At at.window.max) at k top result }
+    ensures { CellStep m times.now values.now marks.now ends.now (knotless_cell at.window) (At at.window.max) at k top result }
 {
     let w = at.window;
     let cell = knotless_cell(w);
@@ -150,7 +149,7 @@ fn run_step(
     top: u64,
 ) -> Step
     requires { RunAsks xs.now ys.now times.now values.now marks.now ends.now at.window.clip i l h }
-    ensures { RunStep (was xs) (was ys) (was times) (was values) (was marks) (was ends) at i l h n top result }
+    ensures { RunStep xs.now ys.now times.now values.now marks.now ends.now at i l h n top result }
 {
     let w = at.window;
     let s = segment_at(xs, ys, i);
@@ -196,7 +195,7 @@ pub fn span_at(
     requires latest_of { LatestOf xs.now ys.now latest.now }
     requires place_is { PlaceIs starts.now clips.now xs.now ys.now blocks.now m times.now values.now marks.now ends.now place.start place.window }
     requires keys { Keys k top }
-    ensures { StepIs (was starts) (was clips) (was xs) (was ys) (was blocks) m (was times) (was values) (was marks) (was ends) k top result }
+    ensures { StepIs starts.now clips.now xs.now ys.now blocks.now m times.now values.now marks.now ends.now k top result }
 {
     let t = gf::of_key(k);
     let at = place_at(

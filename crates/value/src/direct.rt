@@ -4,7 +4,6 @@ ghost use Rattle.std.specs.Prelude.{◌≡◌, not, ◌&&◌, cond, reverse, ◌
 ghost use Rattle.std.specs.Float.{nan};
 ghost use Rattle.std.specs.Float.Ieee.{eq};
 ghost use Rattle.definitions.specs.Lists.{any};
-ghost use Rattle.definitions.specs.Moments.{was};
 ghost use Rattle.laws.specs.cell.Lent.{start, active_of, AcceptedLists, set_was, samples_were};
 ghost use Rattle.window.specs.Parts.{Readable};
 ghost use Rattle.sdf.specs.look.Reads.{held_is};
@@ -27,7 +26,7 @@ fn equal_found(block: f64, start: f64) -> u64
 
 // A manifest block equals this start. No early exit, so that the loop vectorises.
 pub fn blocked_at(blocks: &[f64], start: f64) -> bool
-    ensures { result ≡ any (λ (b : Float). eq b start) (was blocks) }
+    ensures { result ≡ any (λ (b : Float). eq b start) blocks.now }
 {
     let mut found: u64 = 0;
     let mut i: usize = 0;
@@ -40,7 +39,7 @@ pub fn blocked_at(blocks: &[f64], start: f64) -> bool
 
 // The clip of this start contributes its samples: blocks count only where the missing flag is on.
 pub fn contributes(blocks: &[f64], m: Missing, start: f64) -> bool
-    ensures { result ≡ not (m.interpolate && any (λ (b : Float). eq b start) (was blocks)) }
+    ensures { result ≡ not (m.interpolate && any (λ (b : Float). eq b start) blocks.now) }
 {
     if m.interpolate {
         return !blocked_at(blocks, start);
@@ -63,7 +62,7 @@ pub fn read_clip(
     requires readable_2 { clip < length ends.now }
     requires values_len_1 { length values.now ≡ length times.now }
     requires values_len_2 { length marks.now ≡ length times.now }
-    ensures { held_is result ≡ held_part (was xs) (was ys) (was times) (was values) (was marks) (was ends) clip t }
+    ensures { held_is result ≡ held_part xs.now ys.now times.now values.now marks.now ends.now clip t }
 {
     let begin = clip_begin(ends, clip);
     let end = clip_end(ends, clip);
@@ -89,7 +88,7 @@ fn read_start(
 ) -> SampleRead
     requires fact_1 { SearchAsks starts.now clips.now xs.now ys.now times.now values.now marks.now ends.now }
     requires fact_2 { i < length starts.now }
-    ensures { reading_is result ≡ read_start (was blocks) (was xs) (was ys) (was times) (was ends) (start (get_or (was starts) i nan) (get_or (was clips) i 0)) }
+    ensures { reading_is result ≡ read_start blocks.now xs.now ys.now times.now ends.now (start (get_or starts.now i nan) (get_or clips.now i 0)) }
 {
     let time = starts[i];
     if blocked_at(blocks, time) {
@@ -126,7 +125,7 @@ fn nearest_before(
 ) -> SampleRead
     requires fact_1 { SearchAsks starts.now clips.now xs.now ys.now times.now values.now marks.now ends.now }
     requires fact_2 { p ≤ length starts.now }
-    ensures { reading_is result ≡ first_read (was blocks) (was xs) (was ys) (was times) (was ends) (reverse (take p (active_of (was starts) (was clips)))) }
+    ensures { reading_is result ≡ first_read blocks.now xs.now ys.now times.now ends.now (reverse (take p (active_of starts.now clips.now))) }
 {
     let mut left = p;
     while left > 0 {
@@ -156,7 +155,7 @@ fn nearest_from(
 ) -> SampleRead
     requires fact_1 { SearchAsks starts.now clips.now xs.now ys.now times.now values.now marks.now ends.now }
     requires fact_2 { p ≤ length starts.now }
-    ensures { reading_is result ≡ first_read (was blocks) (was xs) (was ys) (was times) (was ends) (drop p (active_of (was starts) (was clips))) }
+    ensures { reading_is result ≡ first_read blocks.now xs.now ys.now times.now ends.now (drop p (active_of starts.now clips.now)) }
 {
     let mut i = p;
     while i < starts.len() {

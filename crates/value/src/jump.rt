@@ -1,7 +1,6 @@
 // A jump: two neighbouring knots that share an x.
 
 ghost use Rattle.std.specs.Prelude.{◌≡◌};
-ghost use Rattle.definitions.specs.Moments.{was};
 ghost use Rattle.laws.specs.list.Places.{Ascending};
 ghost use Rattle.value.specs.Jumps.{jump_in};
 
@@ -9,7 +8,7 @@ ghost use Rattle.value.specs.Jumps.{jump_in};
 // `knot`. The knot at `upper` counts, though a window ends before it.
 pub fn is_jump(xs: &[f64], lower: f64, upper: f64, knot: usize) -> bool
     requires { Ascending xs.now }
-    ensures { result ≡ jump_in (was xs) lower upper }
+    ensures { result ≡ jump_in xs.now lower upper }
 {
     let mut i = lists::near::last_at_most_near(xs, upper, knot);
     while i > 0 {

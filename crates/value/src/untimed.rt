@@ -2,7 +2,6 @@
 
 ghost use Rattle.std.specs.Prelude.{◌≡◌, ℕ, ◌<◌, length};
 ghost use Rattle.definitions.specs.Lists.{any};
-ghost use Rattle.definitions.specs.Moments.{was};
 ghost use Rattle.laws.specs.list.Every.{Every};
 ghost use Rattle.value.specs.Untimed.{has_samples, untimed_of};
 
@@ -12,7 +11,7 @@ use sdf::part::{clip_begin, clip_end};
 // One of these clips has samples, blocks among them.
 fn any_samples(clips: &[u64], ends: &[u64]) -> bool
     requires { Every (λ (c : ℕ). c < length ends.now) clips.now }
-    ensures { result ≡ any (has_samples (was ends)) (was clips) }
+    ensures { result ≡ any (has_samples ends.now) clips.now }
 {
     let mut i: usize = 0;
     while i < clips.len() {
@@ -28,7 +27,7 @@ fn any_samples(clips: &[u64], ends: &[u64]) -> bool
 // By the clips that the starts name: absent without any; present where one has samples or the manifest default is a value; else blocked.
 pub fn untimed_answer_in_set(clips: &[u64], m: Missing, ends: &[u64]) -> ValueState
     requires { Every (λ (c : ℕ). c < length ends.now) clips.now }
-    ensures { result ≡ untimed_of (was clips) m (was ends) }
+    ensures { result ≡ untimed_of clips.now m ends.now }
 {
     if clips.len() == 0 {
         return ValueState::Absent;

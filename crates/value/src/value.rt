@@ -3,7 +3,6 @@
 ghost use Rattle.std.specs.Prelude.{◌≡◌, T, length};
 ghost use Rattle.std.specs.Float.Ieee.Scale.{finite};
 ghost use Rattle.definitions.specs.Value.{value_source, value_in_set, sample_read, value_read};
-ghost use Rattle.definitions.specs.Moments.{was};
 ghost use Rattle.laws.specs.cell.Lent.{AcceptedLists, set_was, samples_were};
 ghost use Rattle.value.specs.Answers.{answer_in, Answerable};
 ghost use Rattle.value.specs.Values.{Valued, ValueIn};
@@ -18,7 +17,7 @@ use window::search::{Window, neighbours_in};
 // What is read at the time `t` of a window: directly, or held from the lower neighbour.
 fn value_in(xs: &[f64], ys: &[f64], times: &[f64], w: Window, t: StageTime) -> Source
     requires { Valued xs.now ys.now times.now w t.0 }
-    ensures { ValueIn (was xs) (was ys) (was times) w t.0 result }
+    ensures { ValueIn xs.now ys.now times.now w t.0 result }
 {
     let begin = w.begin;
     let end = w.end;
@@ -82,7 +81,7 @@ pub fn answer_of(
 ) -> Answer
     requires fact_1 { Answerable (length values.now) ends.now source }
     requires fact_2 { length marks.now ≡ length values.now }
-    ensures { result ≡ answer_in m (was values) (was marks) (was ends) source }
+    ensures { result ≡ answer_in m values.now marks.now ends.now source }
 {
     match source {
         Source::Sample(clip, place) => {

@@ -4,7 +4,6 @@ ghost use Rattle.std.specs.Prelude.{◌≡◌, not, ◌&&◌, ◌+◌, ◌<◌, 
 ghost use Rattle.std.specs.Float.Ieee.{eq};
 ghost use Rattle.definitions.specs.Lists.{any};
 ghost use Rattle.definitions.specs.Timing.{map_stage_to_clip};
-ghost use Rattle.definitions.specs.Moments.{was};
 ghost use Rattle.laws.specs.list.Places.{Ascending};
 ghost use Rattle.laws.specs.cell.Lent.{knots_of, AcceptedLists};
 ghost use Rattle.window.specs.search.Windowed.{Lent, window_source};
@@ -20,7 +19,7 @@ use window::{window_max, window_min};
 
 // There are samples from `begin` to `end`, and their clip contributes them from this start.
 fn has_samples(blocks: &[f64], m: Missing, start: f64, begin: usize, end: usize) -> bool
-    ensures { result ≡ (ltb begin end && not (m.interpolate && any (λ (b : Float). eq b start) (was blocks))) }
+    ensures { result ≡ (ltb begin end && not (m.interpolate && any (λ (b : Float). eq b start) blocks.now)) }
 {
     if begin < end {
         return contributes(blocks, m, start);
@@ -44,7 +43,7 @@ pub fn window_of(
 ) -> Window
     requires fact_1 { AcceptedLists starts.now clips.now xs.now ys.now blocks.now m times.now values.now marks.now ends.now }
     requires fact_2 { p < length starts.now }
-    ensures { WindowIs (was starts) (was clips) (was xs) (was ys) (was blocks) m (was times) (was values) (was marks) (was ends) p result }
+    ensures { WindowIs starts.now clips.now xs.now ys.now blocks.now m times.now values.now marks.now ends.now p result }
 {
     let start = starts[p];
     let clip = clips[p];
@@ -79,7 +78,7 @@ pub fn window_of(
 
 // Whether `t` lies in the segment from the knot at the place `knot` to the next.
 pub fn is_between(xs: &[f64], t: f64, knot: usize) -> bool
-    ensures { result ≡ is_between (was xs) t knot }
+    ensures { result ≡ is_between xs.now t knot }
 {
     if knot < xs.len() {
         let next = knot + 1;
@@ -96,7 +95,7 @@ pub fn is_between(xs: &[f64], t: f64, knot: usize) -> bool
 fn clip_time(xs: &[f64], ys: &[f64], t: StageTime, knot: usize) -> ClipTime
     requires fact_1 { Ascending xs.now }
     requires fact_2 { length xs.now ≡ length ys.now }
-    ensures { result ≡ map_stage_to_clip (knots_of (was xs) (was ys)) t }
+    ensures { result ≡ map_stage_to_clip (knots_of xs.now ys.now) t }
 {
     if is_between(xs, t.0, knot) {
         return ClipTime(lists::segment::clip_time(segment_at(xs, ys, knot), t.0));
@@ -117,7 +116,7 @@ pub fn source_in(
     requires fact_1 { Ascending xs.now }
     requires fact_2 { length xs.now ≡ length ys.now }
     requires fact_3 { Lent times.now w }
-    ensures { result ≡ window_source (was xs) (was ys) (was times) w t.0 }
+    ensures { result ≡ window_source xs.now ys.now times.now w t.0 }
 {
     let begin = w.begin;
     let end = w.end;

@@ -3,7 +3,6 @@
 ghost use Rattle.std.specs.Prelude.{◌≡◌, true, false, ℕ, suc, ◌≤◌, ◌<◌, length, get_or};
 ghost use Rattle.std.specs.Float.{nan};
 ghost use Rattle.definitions.specs.Explicit.{knot};
-ghost use Rattle.definitions.specs.Moments.{was};
 ghost use Rattle.window.specs.nearest.Crossings.{is_beyond, Crossing};
 
 use gf::segment::inverse;
@@ -32,8 +31,8 @@ fn is_beyond(sa: f64, ca: f64, sb: f64, cb: f64, c: f64, t: f64) -> bool
 
 // The sample at `n` lies behind the place, or there is none at `n`.
 fn begins_at(cs: &[f64], sa: f64, ca: f64, sb: f64, cb: f64, t: f64, n: usize) -> bool
-    ensures nan_value { (result ≡ true) → n < length (was cs) → is_beyond t (knot sa ca, knot sb cb) (get_or (was cs) n nan) ≡ true }
-    ensures n_in_bounds { (result ≡ false) → (n < length (was cs)) × (is_beyond t (knot sa ca, knot sb cb) (get_or (was cs) n nan) ≡ false) }
+    ensures nan_value { (result ≡ true) → n < length cs.now → is_beyond t (knot sa ca, knot sb cb) (get_or cs.now n nan) ≡ true }
+    ensures n_in_bounds { (result ≡ false) → (n < length cs.now) × (is_beyond t (knot sa ca, knot sb cb) (get_or cs.now n nan) ≡ false) }
 {
     if n < cs.len() {
         return is_beyond(sa, ca, sb, cb, cs[n], t);
@@ -43,7 +42,7 @@ fn begins_at(cs: &[f64], sa: f64, ca: f64, sb: f64, cb: f64, t: f64, n: usize) -
 
 // `n` is a place in the list or its end, and the sample before it, if there is one, lies before the place.
 fn ends_before(cs: &[f64], sa: f64, ca: f64, sb: f64, cb: f64, t: f64, n: usize) -> bool
-    ensures { (result ≡ true) → (n ≤ length (was cs)) × ((i : ℕ) → suc i ≡ n → is_beyond t (knot sa ca, knot sb cb) (get_or (was cs) i nan) ≡ false) }
+    ensures { (result ≡ true) → (n ≤ length cs.now) × ((i : ℕ) → suc i ≡ n → is_beyond t (knot sa ca, knot sb cb) (get_or cs.now i nan) ≡ false) }
 {
     if cs.len() < n {
         return false;
@@ -57,7 +56,7 @@ fn ends_before(cs: &[f64], sa: f64, ca: f64, sb: f64, cb: f64, t: f64, n: usize)
 
 // The place, by bisection.
 fn search_crossing(cs: &[f64], sa: f64, ca: f64, sb: f64, cb: f64, t: f64) -> usize
-    ensures { Crossing (is_beyond t (knot sa ca, knot sb cb)) (was cs) result }
+    ensures { Crossing (is_beyond t (knot sa ca, knot sb cb)) cs.now result }
 {
     let mut lo: usize = 0;
     let mut hi = cs.len();
@@ -74,7 +73,7 @@ fn search_crossing(cs: &[f64], sa: f64, ca: f64, sb: f64, cb: f64, t: f64) -> us
 
 // The place, looked for at the hint, behind it and before it: as a segment rises or falls it moves on or back.
 pub fn crossing(cs: &[f64], sa: f64, ca: f64, sb: f64, cb: f64, t: f64, hint: usize) -> usize
-    ensures { Crossing (is_beyond t (knot sa ca, knot sb cb)) (was cs) result }
+    ensures { Crossing (is_beyond t (knot sa ca, knot sb cb)) cs.now result }
 {
     if !begins_at(cs, sa, ca, sb, cb, t, hint) {
         let next = hint + 1;

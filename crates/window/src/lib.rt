@@ -7,7 +7,6 @@ pub mod nearest;
 pub mod search;
 
 ghost use Rattle.std.specs.Prelude.{◌≡◌, ◌<◌, length};
-ghost use Rattle.definitions.specs.Moments.{was};
 ghost use Rattle.window.specs.Windows.{min_of, max_of};
 
 // A neighbour of a time.
@@ -27,7 +26,7 @@ pub struct Neighbours {
 // The first window reaches down without end.
 pub fn window_min(starts: &[f64], p: usize) -> f64
     requires { p < length starts.now }
-    ensures { result ≡ min_of (was starts) p }
+    ensures { result ≡ min_of starts.now p }
 {
     if p == 0 {
         return -1.0 / 0.0;
@@ -38,7 +37,7 @@ pub fn window_min(starts: &[f64], p: usize) -> f64
 // The last one reaches up without end.
 pub fn window_max(starts: &[f64], p: usize) -> f64
     requires { p < length starts.now }
-    ensures { result ≡ max_of (was starts) p }
+    ensures { result ≡ max_of starts.now p }
 {
     let next = p + 1;
     if next < starts.len() {

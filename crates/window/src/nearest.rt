@@ -7,7 +7,6 @@ ghost use Rattle.definitions.specs.Lists.{keep};
 ghost use Rattle.definitions.specs.Doubles.{FiniteDouble};
 ghost use Rattle.definitions.specs.Timing.{last_at_most};
 ghost use Rattle.definitions.specs.Value.{on_pair};
-ghost use Rattle.definitions.specs.Moments.{was};
 ghost use Rattle.laws.specs.list.Places.{Ascending};
 ghost use Rattle.window.specs.Bounds.{inside};
 ghost use Rattle.window.specs.Inverses.{on_segment};
@@ -24,7 +23,7 @@ use lists::segment::{spans, stage_time};
 
 // The neighbours of `t` with the time at the place `i`, if there is one.
 fn near_place(known: Neighbours, xs: &[f64], i: usize, w: Interval, t: f64) -> Neighbours
-    ensures { result ≡ with_place w t (was xs) known i }
+    ensures { result ≡ with_place w t xs.now known i }
 {
     if i < xs.len() {
         return near_inside(known, xs[i], w, t);
@@ -38,7 +37,7 @@ pub fn near_times(known: Neighbours, xs: &[f64], i: usize, w: Interval, t: f64) 
     requires fact_2 { FiniteDouble t }
     requires fact_3 { TimeInside w t }
     requires fact_4 { i ≡ last_at_most xs.now t }
-    ensures { Searched t (keep (inside w) (was xs)) known result }
+    ensures { Searched t (keep (inside w) xs.now) known result }
 {
     let here = near_place(known, xs, i, w, t);
     near_place(here, xs, i + 1, w, t)
@@ -64,7 +63,7 @@ fn near_sample(
     w: Interval,
     t: f64,
 ) -> Neighbours
-    ensures { Searched t (keep (inside w) (sample_at (was cs) (s.a, s.b) i)) known result }
+    ensures { Searched t (keep (inside w) (sample_at cs.now (s.a, s.b) i)) known result }
 {
     if i < cs.len() {
         return near_inverse(known, s, cs[i], w, t);
@@ -85,7 +84,7 @@ pub fn near_crossing(
     requires fact_2 { Ascending cs.now }
     requires fact_3 { TimeInside w t }
     requires fact_4 { Crossing (is_beyond t (s.a, s.b)) cs.now n }
-    ensures { Searched t (keep (inside w) (on_segment (was cs) (s.a, s.b))) known result }
+    ensures { Searched t (keep (inside w) (on_segment cs.now (s.a, s.b))) known result }
 {
     if n == 0 {
         return near_sample(known, s, cs, n, w, t);

@@ -5,7 +5,6 @@ pub mod latest;
 
 ghost use Rattle.std.specs.Prelude.{◌≡◌, true, ◌+◌, ◌≤◌, ◌<◌, length};
 ghost use Rattle.definitions.specs.Timing.{last_at_most};
-ghost use Rattle.definitions.specs.Moments.{was};
 ghost use Rattle.window.specs.Bounds.{nothing, NeighboursAre};
 ghost use Rattle.window.specs.nearest.Nearest.{Searched};
 ghost use Rattle.window.specs.search.Latest.{LatestOf};
@@ -54,7 +53,7 @@ fn near_segment(
 ) -> NeighboursAndHints
     requires fact_1 { Searchable xs.now ys.now cs.now w t }
     requires fact_2 { j + 1 < length xs.now }
-    ensures { Searched t (times_of w (was xs) (was ys) (was cs) j) (bounds_of known) (bounds_of result) }
+    ensures { Searched t (times_of w xs.now ys.now cs.now j) (bounds_of known) (bounds_of result) }
 {
     let s = segment_at(xs, ys, j);
     let n = crossing(cs, s.a.x, s.a.y, s.b.x, s.b.y, t, known.sample);
@@ -103,7 +102,7 @@ fn near_before(
     requires searchable_3 { i < length xs.now }
     requires searchable_4 { i ≡ last_at_most xs.now t }
     requires to_in_bounds { to < length xs.now }
-    ensures { Reached t w (was xs) (was ys) (was cs) 0 to (bounds_of known) (bounds_of result) }
+    ensures { Reached t w xs.now ys.now cs.now 0 to (bounds_of known) (bounds_of result) }
 {
     let mut r = known;
     let mut j = to;
@@ -123,7 +122,7 @@ fn near_before(
 // The place behind `i`, or `i` if it is the last.
 fn next_place(xs: &[f64], i: usize) -> usize
     requires { i < length xs.now }
-    ensures { (i ≤ result) × (result < length (was xs)) × (i + 1 < length (was xs) → i < result) }
+    ensures { (i ≤ result) × (result < length xs.now) × (i + 1 < length xs.now → i < result) }
 {
     let next = i + 1;
     if next < xs.len() {
@@ -148,7 +147,7 @@ fn near_around(
     requires fact_2 { LatestOf xs.now ys.now latest.now }
     requires fact_3 { i < length xs.now }
     requires fact_4 { i ≡ last_at_most xs.now t }
-    ensures { Around t w (was xs) (was ys) (was cs) known (bounds_of result) }
+    ensures { Around t w xs.now ys.now cs.now known (bounds_of result) }
 {
     let lower = known.lower;
     let upper = known.upper;
@@ -191,7 +190,7 @@ pub fn neighbours_in(
     sample: usize,
 ) -> NeighboursAndHints
     requires { Nearing xs.now ys.now latest.now cs.now w t }
-    ensures { NeighboursAre (window_times (was xs) (was ys) (was cs) w) t (bounds_of result) }
+    ensures { NeighboursAre (window_times xs.now ys.now cs.now w) t (bounds_of result) }
 {
     let min = w.min;
     let max = w.max;

@@ -1,5 +1,4 @@
 // The calls that may change the dispatcher: each reads its name and its fields, and hands back what the operation replied.
-ghost use Rattle.definitions.specs.Moments.{was, after};
 ghost use Rattle.pages.specs.Pages.{pages, Made};
 ghost use Rattle.set_changes.specs.Promises.{Accepts, Expands};
 ghost use Rattle.cases.specs.Changes.{explicit_of, template_of};
@@ -44,7 +43,7 @@ fn accept_read(
     newblocks: &[f64],
 ) -> u8
     requires { Made (pages starts.old numbers.old xs.old ys.old blocks.old defaults.old counts.old bytes.old) }
-    ensures { Accepts (pages (was starts) (was numbers) (was xs) (was ys) (was blocks) (was defaults) (was counts) (was bytes)) (was name) declares (explicit_of read (was newstarts) (was newnumbers) (was newxs) (was newys) (was newblocks)) result (pages (after starts) (after numbers) (after xs) (after ys) (after blocks) (after defaults) (after counts) (after bytes)) }
+    ensures { Accepts (pages starts.old numbers.old xs.old ys.old blocks.old defaults.old counts.old bytes.old) name.now declares (explicit_of read newstarts.now newnumbers.now newxs.now newys.now newblocks.now) result (pages starts.new numbers.new xs.new ys.new blocks.new defaults.new counts.new bytes.new) }
 {
     let filling = read.filling;
     let default = Default {
@@ -86,7 +85,7 @@ fn explicit(
     bytes: &mut [u8; NAMES],
 ) -> Said
     requires { Made (pages starts.old numbers.old xs.old ys.old blocks.old defaults.old counts.old bytes.old) }
-    ensures { Leaves (pages (was starts) (was numbers) (was xs) (was ys) (was blocks) (was defaults) (was counts) (was bytes)) result (pages (after starts) (after numbers) (after xs) (after ys) (after blocks) (after defaults) (after counts) (after bytes)) }
+    ensures { Leaves (pages starts.old numbers.old xs.old ys.old blocks.old defaults.old counts.old bytes.old) result (pages starts.new numbers.new xs.new ys.new blocks.new defaults.new counts.new bytes.new) }
 {
     let mut name = [0u8; NAME];
     let mut newstarts = [0.0f64; STARTS];
@@ -144,7 +143,7 @@ fn expand_read(
     newblocks: &[f64],
 ) -> u8
     requires { Made (pages starts.old numbers.old xs.old ys.old blocks.old defaults.old counts.old bytes.old) }
-    ensures { Expands (pages (was starts) (was numbers) (was xs) (was ys) (was blocks) (was defaults) (was counts) (was bytes)) (was name) declares (template_of read (was template) (was newblocks)) result (pages (after starts) (after numbers) (after xs) (after ys) (after blocks) (after defaults) (after counts) (after bytes)) }
+    ensures { Expands (pages starts.old numbers.old xs.old ys.old blocks.old defaults.old counts.old bytes.old) name.now declares (template_of read template.now newblocks.now) result (pages starts.new numbers.new xs.new ys.new blocks.new defaults.new counts.new bytes.new) }
 {
     let filling = read.filling;
     let times = read.times;
@@ -185,7 +184,7 @@ fn template(
     bytes: &mut [u8; NAMES],
 ) -> Said
     requires { Made (pages starts.old numbers.old xs.old ys.old blocks.old defaults.old counts.old bytes.old) }
-    ensures { Leaves (pages (was starts) (was numbers) (was xs) (was ys) (was blocks) (was defaults) (was counts) (was bytes)) result (pages (after starts) (after numbers) (after xs) (after ys) (after blocks) (after defaults) (after counts) (after bytes)) }
+    ensures { Leaves (pages starts.old numbers.old xs.old ys.old blocks.old defaults.old counts.old bytes.old) result (pages starts.new numbers.new xs.new ys.new blocks.new defaults.new counts.new bytes.new) }
 {
     let mut name = [0u8; NAME];
     let mut template = [0u8; BYTES];
@@ -226,7 +225,7 @@ fn retime(
     bytes: &mut [u8; NAMES],
 ) -> Said
     requires { Made (pages starts.old numbers.old xs.old ys.old blocks.old defaults.old counts.old bytes.old) }
-    ensures { Leaves (pages (was starts) (was numbers) (was xs) (was ys) (was blocks) (was defaults) (was counts) (was bytes)) result (pages (after starts) (after numbers) (after xs) (after ys) (after blocks) (after defaults) (after counts) (after bytes)) }
+    ensures { Leaves (pages starts.old numbers.old xs.old ys.old blocks.old defaults.old counts.old bytes.old) result (pages starts.new numbers.new xs.new ys.new blocks.new defaults.new counts.new bytes.new) }
 {
     let mut name = [0u8; NAME];
     let named = crate::text::read_bytes(line, at, &mut name);
@@ -270,7 +269,7 @@ fn install(
 ) -> Said
     requires fact_1 { MadeSlots slots }
     requires fact_2 { Made (pages starts.old numbers.old xs.old ys.old blocks.old defaults.old counts.old bytes.old) }
-    ensures { Leaves (pages (was starts) (was numbers) (was xs) (was ys) (was blocks) (was defaults) (was counts) (was bytes)) result (pages (after starts) (after numbers) (after xs) (after ys) (after blocks) (after defaults) (after counts) (after bytes)) }
+    ensures { Leaves (pages starts.old numbers.old xs.old ys.old blocks.old defaults.old counts.old bytes.old) result (pages starts.new numbers.new xs.new ys.new blocks.new defaults.new counts.new bytes.new) }
 {
     let mut name = [0u8; NAME];
     let named = naming::read(line, at, &mut name);
@@ -313,7 +312,7 @@ pub(crate) fn change(
 ) -> Said
     requires fact_1 { MadeSlots slots }
     requires fact_2 { Made (pages starts.old numbers.old xs.old ys.old blocks.old defaults.old counts.old bytes.old) }
-    ensures { Leaves (pages (was starts) (was numbers) (was xs) (was ys) (was blocks) (was defaults) (was counts) (was bytes)) result (pages (after starts) (after numbers) (after xs) (after ys) (after blocks) (after defaults) (after counts) (after bytes)) }
+    ensures { Leaves (pages starts.old numbers.old xs.old ys.old blocks.old defaults.old counts.old bytes.old) result (pages starts.new numbers.new xs.new ys.new blocks.new defaults.new counts.new bytes.new) }
 {
     match named_calls::change_of(line) {
         NamedChange::Explicit(at) => {

@@ -1,5 +1,4 @@
 // What a case lends with its questions, in four lists: the samples, and for the dispatcher the order list and the samples of its sets.
-ghost use Rattle.definitions.specs.Moments.{was};
 ghost use Rattle.cases.specs.Lending.{Lends};
 
 use crate::lines::limits::{ENDS, SAMPLES};
@@ -80,7 +79,7 @@ pub(crate) fn lend(
     values: &mut [f64],
     marks: &mut [u8],
 ) -> Lending
-    ensures { Lends lent result (was ends) ends.new (was times) times.new (was values) values.new (was marks) marks.new }
+    ensures { Lends lent result ends.old ends.new times.old times.new values.old values.new marks.old marks.new }
 {
     let mut newends = [0u64; ENDS];
     let mut newtimes = [0.0f64; SAMPLES];

@@ -1,5 +1,4 @@
 // The order list that a case lends with the questions to the dispatcher: none, or names by their ends and bytes.
-ghost use Rattle.definitions.specs.Moments.{was, after};
 ghost use Rattle.cases.specs.Lending.{LendsOrder};
 
 use crate::lines::held::{ALL_SAMPLES, NAME_ENDS_AT};
@@ -61,7 +60,7 @@ pub(crate) fn lend(
     ends: &mut [u64],
     marks: &mut [u8],
 ) -> Lending
-    ensures { LendsOrder lent result (was ends) (after ends) (was marks) (after marks) }
+    ensures { LendsOrder lent result ends.old ends.new marks.old marks.new }
 {
     let mut newends = [0u64; ORDER];
     let mut newbytes = [0u8; LISTED];

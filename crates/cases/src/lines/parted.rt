@@ -1,5 +1,4 @@
 // The samples of the dispatcher's sets that a case lends with its questions: how many each set has, the clip ends of all sets, and the samples of all sets.
-ghost use Rattle.definitions.specs.Moments.{was, after};
 ghost use Rattle.cases.specs.Lending.{Lends};
 
 use crate::lines::held::COUNTS_AT;
@@ -72,7 +71,7 @@ pub(crate) fn lend(
     values: &mut [f64],
     marks: &mut [u8],
 ) -> Lending
-    ensures { Lends lent result (was ends) (after ends) (was times) (after times) (was values) (after values) (was marks) (after marks) }
+    ensures { Lends lent result ends.old ends.new times.old times.new values.old values.new marks.old marks.new }
 {
     let mut newcounts = [0u64; COUNTS];
     let mut newends = [0u64; PARTED_ENDS];

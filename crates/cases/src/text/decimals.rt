@@ -2,7 +2,6 @@
 ghost use Rattle.std.specs.Prelude.{◌≡◌, ◌+◌, ◌-◌, ◌^◌, ◌<◌, ◌≤◌, false};
 ghost use Rattle.std.specs.Float.{binary64};
 ghost use Rattle.std.specs.Float.Ieee.{round};
-ghost use Rattle.definitions.specs.Moments.{was};
 ghost use Rattle.cases.specs.Decimals.{stands, no_decimal, unread_double, decimal_at, signed_of, valued, read_written};
 
 use crate::text::numbers::{Double, digits_from};
@@ -19,7 +18,7 @@ struct Decimal {
 }
 
 fn stands_at(line: &[u8], at: usize, b: u8) -> bool
-    ensures { result ≡ stands (was line) at b }
+    ensures { result ≡ stands line.now at b }
 {
     if at < line.len() {
         return line[at] == b;
@@ -51,7 +50,7 @@ fn none() -> Decimal
 
 // The decimal from `from` on, without its sign. Behind a point stands a digit.
 fn decimal_at(line: &[u8], from: usize) -> Decimal
-    ensures { result ≡ decimal_at (was line) from }
+    ensures { result ≡ decimal_at line.now from }
 {
     let n = digits_from(line, from, 0);
     let point = n.at;
@@ -124,7 +123,7 @@ fn nowhere() -> Double
 // The double that a decimal writes, if it has a digit before its point, at most 15 in all, and ends its word.
 fn value_of(line: &[u8], negative: bool, d: Decimal) -> Double
     requires { d.digits < 10 ^ (d.whole + d.scale) }
-    ensures { result ≡ valued (was line) negative d }
+    ensures { result ≡ valued line.now negative d }
 {
     if d.whole == 0 {
         return nowhere();
@@ -143,7 +142,7 @@ fn value_of(line: &[u8], negative: bool, d: Decimal) -> Double
 
 // The next word, a double that is written as a decimal.
 pub(crate) fn read_written(line: &[u8], at: usize) -> Double
-    ensures { result ≡ read_written (was line) at }
+    ensures { result ≡ read_written line.now at }
 {
     let from = skip_blanks(line, at);
     if stands_at(line, from, b'-') {

@@ -1,6 +1,5 @@
 // Lists of a line, read into a list that the caller lends. A list that is longer than that is not readable.
 ghost use Rattle.std.specs.Prelude.{◌≡◌, ◌≤◌, length, take};
-ghost use Rattle.definitions.specs.Moments.{was};
 ghost use Rattle.cases.specs.Text.{part_of};
 
 use crate::text::numbers::{hex_digits, read_byte, read_decimal, read_double, read_pattern};
@@ -150,7 +149,7 @@ fn low(n: u64) -> u8 {
 
 // The first `count` entries of a list, all of them if it has fewer.
 pub(crate) fn first_doubles(list: &[f64], count: usize) -> &[f64]
-    ensures { result.now ≡ take count (was list) }
+    ensures { result.now ≡ take count list.now }
 {
     if count <= list.len() {
         return &list[0..count];
@@ -159,7 +158,7 @@ pub(crate) fn first_doubles(list: &[f64], count: usize) -> &[f64]
 }
 
 pub(crate) fn first_numbers(list: &[u64], count: usize) -> &[u64]
-    ensures { result.now ≡ take count (was list) }
+    ensures { result.now ≡ take count list.now }
 {
     if count <= list.len() {
         return &list[0..count];
@@ -168,7 +167,7 @@ pub(crate) fn first_numbers(list: &[u64], count: usize) -> &[u64]
 }
 
 pub(crate) fn first_bytes(list: &[u8], count: usize) -> &[u8]
-    ensures { result.now ≡ take count (was list) }
+    ensures { result.now ≡ take count list.now }
 {
     if count <= list.len() {
         return &list[0..count];
@@ -178,7 +177,7 @@ pub(crate) fn first_bytes(list: &[u8], count: usize) -> &[u8]
 
 // The bytes from `from` to `to`, none if there are no such.
 pub(crate) fn part(list: &[u8], from: usize, to: usize) -> &[u8]
-    ensures { result.now ≡ part_of (was list) from to }
+    ensures { result.now ≡ part_of list.now from to }
 {
     if from > to {
         return &list[0..0];

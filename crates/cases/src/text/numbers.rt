@@ -1,7 +1,6 @@
 // Numbers of a line: decimal counts, and doubles.
 ghost use Rattle.std.specs.Prelude.{◌≡◌, ◌≤◌, drop, from_bits, to_bits};
 ghost use Rattle.std.specs.Float.{binary64};
-ghost use Rattle.definitions.specs.Moments.{was};
 ghost use Rattle.cases.specs.Numbers.{digit_of, unread, decimals, hexes_at, read_decimal, read_bits, byte_of};
 ghost use Rattle.cases.specs.Doubles.{read_double, read_pattern};
 
@@ -69,7 +68,7 @@ fn digit(b: u8) -> u64
 
 // The decimal digits from `at` on, behind those of the number `head`, if all of them write a number of at most 64 bits.
 pub(crate) fn digits_from(line: &[u8], at: usize, head: u64) -> Number
-    ensures { result ≡ decimals head at (drop at (was line)) }
+    ensures { result ≡ decimals head at (drop at line.now) }
 {
     let mut i = at;
     let mut value = head;
@@ -89,7 +88,7 @@ pub(crate) fn digits_from(line: &[u8], at: usize, head: u64) -> Number
 
 // The next word, a decimal number.
 pub(crate) fn read_decimal(line: &[u8], at: usize) -> Number
-    ensures { result ≡ read_decimal (was line) at }
+    ensures { result ≡ read_decimal line.now at }
 {
     let from = skip_blanks(line, at);
     let n = digits_from(line, from, 0);
@@ -104,7 +103,7 @@ pub(crate) fn read_decimal(line: &[u8], at: usize) -> Number
 
 // The next word, a decimal number that a byte holds.
 pub(crate) fn read_byte(line: &[u8], at: usize) -> Byte
-    ensures { result ≡ byte_of (read_decimal (was line) at) }
+    ensures { result ≡ byte_of (read_decimal line.now at) }
 {
     let n = read_decimal(line, at);
     let value = n.value;
@@ -122,7 +121,7 @@ pub(crate) fn read_byte(line: &[u8], at: usize) -> Byte
 
 // The number of exactly `count` hex digits from `at` on.
 pub(crate) fn hex_digits(line: &[u8], at: usize, count: usize) -> Number
-    ensures { result ≡ hexes_at (was line) at count }
+    ensures { result ≡ hexes_at line.now at count }
 {
     let mut i = at;
     let mut left = count;
@@ -167,7 +166,7 @@ pub(crate) fn bits_of(x: f64) -> u64
 
 // The next word, a double's bits.
 fn read_bits(line: &[u8], at: usize) -> Number
-    ensures { result ≡ read_bits (was line) at }
+    ensures { result ≡ read_bits line.now at }
 {
     let n = hex_digits(line, skip_blanks(line, at), 16);
     Number {
@@ -178,7 +177,7 @@ fn read_bits(line: &[u8], at: usize) -> Number
 
 // The next word, a double: by its bits, or as a decimal.
 pub(crate) fn read_double(line: &[u8], at: usize) -> Double
-    ensures { result ≡ read_double (was line) at }
+    ensures { result ≡ read_double line.now at }
 {
     let n = read_bits(line, at);
     if n.at == NOWHERE {
@@ -192,7 +191,7 @@ pub(crate) fn read_double(line: &[u8], at: usize) -> Double
 
 // The same, its bits.
 pub(crate) fn read_pattern(line: &[u8], at: usize) -> Number
-    ensures { result ≡ read_pattern (was line) at }
+    ensures { result ≡ read_pattern line.now at }
 {
     let n = read_bits(line, at);
     if n.at == NOWHERE {

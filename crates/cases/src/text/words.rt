@@ -2,7 +2,6 @@
 // not be read; whatever is read from there is not readable either, so a call is read straight through and judged at its end.
 
 ghost use Rattle.std.specs.Prelude.{◌≡◌, length, take, ◌==◌};
-ghost use Rattle.definitions.specs.Moments.{was};
 ghost use Rattle.cases.specs.declared.text.words.Stop.TheVariants.{Word, Blank, Comment};
 ghost use Rattle.cases.specs.Text.{is_blank, stops_at, scanned, word_at, closed_at, behind};
 
@@ -45,7 +44,7 @@ fn stops_at(b: u8, stop: Stop) -> bool
 
 // The first place from `at` on where it stands, the end of the text if it stands nowhere.
 pub(crate) fn scan(text: &[u8], at: usize, stop: Stop) -> usize
-    ensures { result ≡ scanned (was text) at stop }
+    ensures { result ≡ scanned text.now at stop }
 {
     let mut i = at;
     while i < text.len() {
@@ -58,28 +57,28 @@ pub(crate) fn scan(text: &[u8], at: usize, stop: Stop) -> usize
 }
 
 pub(crate) fn skip_blanks(line: &[u8], at: usize) -> usize
-    ensures { result ≡ scanned (was line) at Word }
+    ensures { result ≡ scanned line.now at Word }
 {
     scan(line, at, Stop::Word)
 }
 
 // Behind the word that stands at `at`.
 pub(crate) fn word_end(line: &[u8], at: usize) -> usize
-    ensures { result ≡ scanned (was line) at Blank }
+    ensures { result ≡ scanned line.now at Blank }
 {
     scan(line, at, Stop::Blank)
 }
 
 // The line up to its comment.
 pub(crate) fn without_comment(line: &[u8]) -> &[u8]
-    ensures { result.now ≡ take (scanned (was line) 0 Comment) (was line) }
+    ensures { result.now ≡ take (scanned line.now 0 Comment) line.now }
 {
     first_bytes(line, scan(line, 0, Stop::Comment))
 }
 
 // The next word, empty if there is none.
 pub(crate) fn word(line: &[u8], at: usize) -> &[u8]
-    ensures { result.now ≡ word_at (was line) at }
+    ensures { result.now ≡ word_at line.now at }
 {
     let from = skip_blanks(line, at);
     part(line, from, word_end(line, from))
@@ -87,14 +86,14 @@ pub(crate) fn word(line: &[u8], at: usize) -> &[u8]
 
 // Nothing but blanks is left.
 pub(crate) fn is_end(line: &[u8], at: usize) -> bool
-    ensures { result ≡ (scanned (was line) at Word == length (was line)) }
+    ensures { result ≡ (scanned line.now at Word == length line.now) }
 {
     skip_blanks(line, at) == line.len()
 }
 
 // The place itself, if no word goes on there.
 pub(crate) fn closed(line: &[u8], at: usize) -> usize
-    ensures { result ≡ closed_at (was line) at }
+    ensures { result ≡ closed_at line.now at }
 {
     if at < line.len() {
         if is_blank(line[at]) {
@@ -107,7 +106,7 @@ pub(crate) fn closed(line: &[u8], at: usize) -> usize
 
 // The place behind `word`, if it is the next word of the line.
 pub(crate) fn after(line: &[u8], at: usize, word: &[u8]) -> usize
-    ensures { result ≡ behind (was line) at (was word) }
+    ensures { result ≡ behind line.now at word.now }
 {
     let mut place = skip_blanks(line, at);
     let mut i: usize = 0;

@@ -2,7 +2,6 @@
 ghost use Rattle.std.specs.Prelude.{◌≡◌, not, ◌≤◌, T, length};
 ghost use Rattle.std.specs.Float.Ieee.{is_nan};
 ghost use Rattle.gf.specs.Doubles as Key;
-ghost use Rattle.definitions.specs.Moments.{was};
 ghost use Rattle.laws.specs.list.Places.{Ascending};
 ghost use Rattle.laws.specs.cell.Knots as Knots;
 ghost use Rattle.laws.specs.cell.Lent.{knots_of};
@@ -25,7 +24,7 @@ pub fn line_of(xs: &[f64], ys: &[f64], t: f64) -> Line
     requires xs_len { length xs.now ≡ length ys.now }
     requires ascending { Ascending xs.now }
     requires t { T (not (is_nan t)) }
-    ensures { line_is result ≡ Knots.line_of (knots_of (was xs) (was ys)) t }
+    ensures { line_is result ≡ Knots.line_of (knots_of xs.now ys.now) t }
 {
     let n = xs.len();
     if n == 0 {
@@ -57,7 +56,7 @@ pub fn along(line: Line, t: f64) -> f64
 pub fn place_on(times: &[f64], line: Line, k: u64) -> usize
     requires ascending { Ascending times.now }
     requires le_k { (Key.least ≤ k) × (k ≤ Key.most) }
-    ensures { result ≡ place_on (was times) line k }
+    ensures { result ≡ place_on times.now line k }
 {
     lists::last_at_most(times, along(line, gf::of_key(k)))
 }

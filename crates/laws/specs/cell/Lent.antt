@@ -7,7 +7,7 @@ use Rattle.definitions.specs.Lists.{zip_with}
 use Rattle.definitions.specs.Explicit.{knot}
 use Rattle.definitions.specs.ClipSet.{ClipSet}
 use Rattle.definitions.specs.Samples.{Samples}
-use Rattle.definitions.specs.Moments.{Lent, was}
+use Rattle.definitions.specs.Moments.{Read}
 use Rattle.laws.specs.list.Every.{Every}
 use Rattle.laws.specs.list.Places.{Fits}
 use Rattle.laws.specs.set.Sound.{Sound}
@@ -39,11 +39,11 @@ samples_of times values marks ends = record { times = times; values = values; ma
 
 -- ---- of the lists as they were lent
 
-abbrev pub set_was : Lent Float → Lent ℕ → Lent Float → Lent Float → Lent Float → Missing → Lent ℕ → ClipSet
-set_was starts clips xs ys blocks m ends = set_of (length (was ends)) (was starts) (was clips) (was xs) (was ys) (was blocks) m
+abbrev pub set_was : Read Float → Read ℕ → Read Float → Read Float → Read Float → Missing → Read ℕ → ClipSet
+set_was starts clips xs ys blocks m ends = set_of (length ends.now) starts.now clips.now xs.now ys.now blocks.now m
 
-abbrev pub samples_were : Lent Float → Lent Float → Lent ℕ → Lent ℕ → Samples
-samples_were times values marks ends = samples_of (was times) (was values) (was marks) (was ends)
+abbrev pub samples_were : Read Float → Read Float → Read ℕ → Read ℕ → Samples
+samples_were times values marks ends = samples_of times.now values.now marks.now ends.now
 
 -- ---- the laws' premises
 

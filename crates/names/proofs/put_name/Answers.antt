@@ -8,9 +8,9 @@ use Rattle.names.proofs.put_name.Goals as goal
 
 pub returns : goal.returns
 returns c =
-    let d = c.before.before.before.before.before.before in
-    let b = d.before.before.before.before in
-    let n = b.before.before in
-    let s = n.before.before.before in
-    name-put s.args.out.now s.args.template.now s.args.p (body_of s.args.b) s.requires.0.0 s.requires.0.1 s.requires.1.0 _ _ _ _
+    let d = c in
+    let b = d in
+    let n = b in
+    let s = n in
+    name-put s.args.out.now s.args.template.now s.args.p (body_of s.args.b) s.requires.first_le_suffix.0 s.requires.first_le_suffix.1 s.requires.suffix_in_bounds _ _ _ _
     b.put_bytes.ensures d.put_body.ensures (ap (λ (k : ℕ). s.args.p.first + k) n.body_length.ensures) c.put_bytes-2.ensures

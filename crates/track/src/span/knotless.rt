@@ -1,6 +1,5 @@
 // A window of a set without knots: the value is the direct one, so that one cell reads it up to the next start.
 ghost use Rattle.std.specs.Prelude.{◌≡◌, ◌&&◌, eqb, ltb, length};
-ghost use Rattle.definitions.specs.Moments.{was};
 ghost use Rattle.track.specs.span.Knotless.{knotless_cell};
 
 use cell::Cell;
@@ -9,7 +8,7 @@ use window::search::Window;
 
 // Whether there are several starts, and no knots.
 pub fn is_knotless(starts: &[f64], xs: &[f64]) -> bool
-    ensures { result ≡ (ltb 1 (length (was starts)) && eqb (length (was xs)) 0) }
+    ensures { result ≡ (ltb 1 (length starts.now) && eqb (length xs.now) 0) }
 {
     if starts.len() < 2 {
         return false;

@@ -3,7 +3,6 @@
 ghost use Rattle.std.specs.Prelude.{◌≡◌, ◌≤◌, ◌<◌, length};
 ghost use Rattle.definitions.specs.Lists.{pairs};
 ghost use Rattle.definitions.specs.ClipSet.{max_knots};
-ghost use Rattle.definitions.specs.Moments.{was};
 ghost use Rattle.laws.specs.list.Every.{Every};
 ghost use Rattle.laws.specs.list.Places.{Number};
 ghost use Rattle.laws.specs.cell.Lent.{knots_of};
@@ -49,7 +48,7 @@ fn latest_inverse(xs: &[f64], ys: &[f64], i: usize) -> f64
     requires fact_1 { length xs.now ≡ length ys.now }
     requires fact_2 { Every SoundSegment (pairs (knots_of xs.now ys.now)) }
     requires fact_3 { i < length xs.now }
-    ensures { LatestBefore (was xs) (was ys) i result }
+    ensures { LatestBefore xs.now ys.now i result }
 {
     let mut top = -1.0 / 0.0;
     let mut k: usize = 0;
@@ -67,7 +66,7 @@ pub fn latest_before(xs: &[f64], ys: &[f64], latest: &[f64], i: usize) -> f64
     requires fact_3 { LatestOf xs.now ys.now latest.now }
     requires fact_4 { i < length xs.now }
     requires fact_5 { 0 < i }
-    ensures { LatestBefore (was xs) (was ys) i result }
+    ensures { LatestBefore xs.now ys.now i result }
 {
     let last = i - 1;
     if last < latest.len() {
@@ -81,7 +80,7 @@ pub fn latest_inverses(xs: &[f64], ys: &[f64]) -> LatestInverses
     requires fact_1 { length xs.now ≡ length ys.now }
     requires fact_2 { length xs.now ≤ max_knots }
     requires fact_3 { Every SoundSegment (pairs (knots_of xs.now ys.now)) }
-    ensures { LatestOf (was xs) (was ys) result.items }
+    ensures { LatestOf xs.now ys.now result.items }
 {
     let mut items = some_times();
     let mut top = -1.0 / 0.0;

@@ -18,13 +18,13 @@ nonzero_rem-result c = nonzero_div-whole c.before.before
 
 rounded : (c : After-decimals-n) → c.decimals-n.result ≡ decimals c.args.k c.args.x
 rounded c =
-    let s = c.before.before in
+    let s = c in
     c.decimals-n.ensures ∙ decimals-is s.args.x (within-finite 40 s.args.x s.requires.0) c.measure-m.result c.measure-m.ensures s.args.k
 
 pub returns : goal.returns
 returns c =
-    let d = c.before.before.before in
-    let s = d.before.before in
+    let d = c in
+    let s = d in
     with-fraction s.args.width s.args.k s.args.x d.measure-m.result.negative d.decimals-n.result c.power_of_ten-ten.result c.wider.result
-    s.requires.1 d.measure-m.ensures.sign (rounded d) c.power_of_ten-ten.ensures
+    s.requires.1 d.measure-m.ensures.sign (rounded (goal.at.returns d).After-decimals-n) c.power_of_ten-ten.ensures
     (c.wider.ensures ∙ ap (max s.args.width) c.places.ensures.0)

@@ -20,13 +20,13 @@ pub bounds-out-at : goal.bounds-out-at
 bounds-out-at c = omega (arith, room c)
 
 pub put_digits-requires : goal.put_digits-requires
-put_digits-requires c = omega (arith, room c.before, length-set c.args.out.now c.args.at 46)
+put_digits-requires c = omega (arith, room (goal.at.put_digits-requires c).Else-k-eq0, length-set c.args.out.now c.args.at 46)
 
 pub returns : goal.returns
 returns c =
     let a = c.args in
     c.put_digits.ensures
-    ∙ put-point a.k a.n a.out.now a.at c.if-k-eq0.false (omega (arith, room c.before.before.before.before))
+    ∙ put-point a.k a.n a.out.now a.at c.if-k-eq0.false (omega (arith, room (goal.at.returns c).Else-k-eq0))
 
 pub shape_of-out : goal.shape_of-out
 shape_of-out c =

@@ -12,7 +12,7 @@ pub bounds-out-at : goal.bounds-out-at
 bounds-out-at c = omega (arith, ap (λ (s : Bool). length (sign_of s)) c.if-minus.true)
 
 pub returns-then-minus : goal.returns-then-minus
-returns-then-minus c = let s = c.before in put-minus s.args.minus s.args.out.now s.args.at c.if-minus.true s.requires
+returns-then-minus c = let s = c in put-minus s.args.minus s.args.out.now s.args.at c.if-minus.true s.requires
 
 pub returns-else-minus : goal.returns-else-minus
-returns-else-minus c = let s = c.before in put-no-minus s.args.minus s.args.out.now s.args.at c.if-minus.false
+returns-else-minus c = let s = c in put-no-minus s.args.minus s.args.out.now s.args.at c.if-minus.false

@@ -10,21 +10,21 @@ use Rattle.names.proofs.body.whole_body.Goals as goal
 
 part : (c : After-whole-n) → c.whole-n.result ≡ truncated c.args.x
 part c =
-    let s = c.before.before in
+    let s = c in
     c.whole-n.ensures ∙ truncated-is s.args.x (within-finite 40 s.args.x s.requires.0) c.measure-m.result c.measure-m.ensures
 
 pub returns-then-has_minus : goal.returns-then-has_minus
 returns-then-has_minus c =
-    let w = c.before.before.before.before in
-    let s = w.before.before in
-    with-minus s.args.width s.args.x w.measure-m.result.negative w.whole-n.result w.measure-m.ensures.sign (part w) c.wider.result
+    let w = c in
+    let s = w in
+    with-minus s.args.width s.args.x w.measure-m.result.negative w.whole-n.result w.measure-m.ensures.sign (part (goal.at.returns-then-has_minus w).After-whole-n) c.wider.result
     (sym c.has_minus.ensures ∙ c.if-has_minus.true)
     (c.wider.ensures ∙ ap (max (s.args.width - 1)) c.places-digits.ensures.0)
 
 pub returns : goal.returns
 returns c =
-    let w = c.before.before.before.before in
-    let s = w.before.before in
-    without-minus s.args.width s.args.x w.measure-m.result.negative w.whole-n.result w.measure-m.ensures.sign (part w) c.wider-2.result
+    let w = c in
+    let s = w in
+    without-minus s.args.width s.args.x w.measure-m.result.negative w.whole-n.result w.measure-m.ensures.sign (part (goal.at.returns w).After-whole-n) c.wider-2.result
     (sym c.has_minus.ensures ∙ c.if-has_minus.false)
     (c.wider-2.ensures ∙ ap (max s.args.width) c.places-digits.ensures.0)

@@ -15,7 +15,7 @@ pub loop-left-init : goal.loop-left-init
 loop-left-init c = omega arith
 
 pub overflow_add-count : goal.overflow_add-count
-overflow_add-count c = omega (arith, few c.before.before, places-pos c.loop-left.left)
+overflow_add-count c = omega (arith, few (goal.at.overflow_add-count c).Start, places-pos c.loop-left.left)
 
 pub loop-left-smaller : goal.loop-left-smaller
 loop-left-smaller c = omega arith
@@ -26,4 +26,4 @@ loop-left-preserved c = omega (arith, places-more c.loop-left.left c.loop-left-t
 pub returns : goal.returns
 returns c =
     let e = places-one c.loop-left.left c.loop-left-test.false in
-    (omega arith, omega (arith, few c.before.before))
+    (omega arith, omega (arith, few (goal.at.returns c).Start))

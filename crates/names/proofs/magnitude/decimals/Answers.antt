@@ -12,24 +12,24 @@ small : (c : After-power_of_ten-ten) → c.power_of_ten-ten.result ≤ 1000000
 small c = omega (arith, ten-le c.args.k c.requires.2)
 
 pub overflow_mul-low : goal.overflow_mul-low
-overflow_mul-low c = omega (arith, low-lt c.args.m.digits c.power_of_ten-ten.result c.requires.0 (small c.before))
+overflow_mul-low c = omega (arith, low-lt c.args.m.digits c.power_of_ten-ten.result c.requires.0 (small (goal.at.overflow_mul-low c).After-power_of_ten-ten))
 
 pub overflow_mul-high : goal.overflow_mul-high
 overflow_mul-high c =
-    let s = c.before.before.before in
-    omega (arith, high_lt s.args.m.digits c.power_of_ten-ten.result s.requires.0 (small c.before.before))
+    let s = c in
+    omega (arith, high_lt s.args.m.digits c.power_of_ten-ten.result s.requires.0 (small (goal.at.overflow_mul-high c).After-power_of_ten-ten))
 
 pub overflow_add-high : goal.overflow_add-high
 overflow_add-high c =
-    let s = c.before.before.before in
+    let s = c in
     let ten = c.power_of_ten-ten.result in
-    omega (arith, high_lt s.args.m.digits ten s.requires.0 (small c.before.before), low-lt s.args.m.digits ten s.requires.0 (small c.before.before))
+    omega (arith, high_lt s.args.m.digits ten s.requires.0 (small (goal.at.overflow_add-high c).After-power_of_ten-ten), low-lt s.args.m.digits ten s.requires.0 (small (goal.at.overflow_add-high c).After-power_of_ten-ten))
 
 pub nearest-requires : goal.nearest-requires
 nearest-requires c =
-    let s = c.before.before.before.before in
+    let s = c in
     let ten = c.power_of_ten-ten.result in
-    let few = small c.before.before.before in (
+    let few = small (goal.at.nearest-requires c).After-power_of_ten-ten in (
       omega (arith, high_lt s.args.m.digits ten s.requires.0 few, low-lt s.args.m.digits ten s.requires.0 few),
       omega arith,
       omega arith,
@@ -37,9 +37,9 @@ nearest-requires c =
 
 pub returns : goal.returns
 returns c =
-    let s = c.before.before.before.before.before in
-    let t = c.before.before.before.before in
+    let s = c in
+    let t = c in
     c.nearest.ensures
     ∙ ap₂ closest
-    (product s.args.m.digits t.power_of_ten-ten.result s.requires.0 (small t) ∙ ap (λ (n : ℕ). s.args.m.digits * n) t.power_of_ten-ten.ensures)
+    (product s.args.m.digits t.power_of_ten-ten.result s.requires.0 (small (goal.at.returns t).After-power_of_ten-ten) ∙ ap (λ (n : ℕ). s.args.m.digits * n) t.power_of_ten-ten.ensures)
     (shift-parts s.args.m.shift s.requires.1)

@@ -18,10 +18,10 @@ pub float_to_bits-bits : goal.float_to_bits-bits
 float_to_bits-bits c = finite-no-nan c.args.x (within-finite 40 c.args.x c.requires)
 
 pub returns-then-field-eq0 : goal.returns-then-field-eq0
-returns-then-field-eq0 c = measured-tiny c.args.x (held c.before) c.requires c.if-field-eq0.true
+returns-then-field-eq0 c = measured-tiny c.args.x (held (goal.at.returns-then-field-eq0 c).Start) c.requires c.if-field-eq0.true
 
 pub overflow_sub-result : goal.overflow_sub-result
-overflow_sub-result c = omega (arith, (measured c.args.x (held c.before) c.requires c.if-field-eq0.false).0)
+overflow_sub-result c = omega (arith, (measured c.args.x (held (goal.at.overflow_sub-result c).Start) c.requires c.if-field-eq0.false).0)
 
 pub returns : goal.returns
-returns c = (measured c.args.x (held c.before) c.requires c.if-field-eq0.false).1
+returns c = (measured c.args.x (held (goal.at.returns c).Start) c.requires c.if-field-eq0.false).1

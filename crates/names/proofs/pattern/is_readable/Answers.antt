@@ -18,6 +18,6 @@ returns-then-p-gt6 c =
 
 pub returns : goal.returns
 returns c =
-    let s = c.before.before.before.before.before.before.before.before in
+    let s = c in
     ap not c.has_hash.ensures
     ∙ no-later-hash s.args.template.now s.args.p c.if-p-lt1.false c.if-p-gt32.false c.if-p-gt6.false

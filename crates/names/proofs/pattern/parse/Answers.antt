@@ -19,9 +19,9 @@ returns-then-fraction-eq0 c = parsed _ _ c.before_hash-first.ensures c.hash_run-
 
 abbrev held : Else-fraction-eq0 → Pattern
 held c = record {
-  first = c.before.before.before.before-hash.result;
-  width = c.before.before.hash-run.result;
-  fraction = c.before.fraction-run.result;
+  first = c.before_hash-first.result;
+  width = c.hash_run-width.result;
+  fraction = c.fraction_run-fraction.result;
   suffix = 0;
 }
 
