@@ -212,9 +212,9 @@ def flat(names, at, n, fields):
     rest = fields[1:]
     if p is None:
         p = at
-    if f == "requires":
+    if f in ("requires", "pre"):
         return ["requires"] + clause(names.callee, "requires", rest)
-    if f in ("args", "well-formed", "pre"):
+    if f in ("args", "well-formed"):
         return [fields[0].replace("-", "_")] + rest
     chain = list(names.chain(at))
     for q in chain:
@@ -227,10 +227,11 @@ def flat(names, at, n, fields):
     own = names.places[p][2]
     if norm(own[0]) == f:
         return [own[1]] + argument(names, p, rest)
-    for q in list(names.chain(p)) + chain:
-        own = names.places[q][2]
-        if norm(own[0]) == f:
-            return [own[1]] + argument(names, q, rest)
+    for g in (f, re.sub(r"-lem$", "", re.sub(r"^[A-Z]\w*-", "", f))):
+        for q in list(names.chain(p)) + chain:
+            own = names.places[q][2]
+            if norm(own[0]) == g:
+                return [own[1]] + argument(names, q, rest)
     return None
 
 
@@ -422,6 +423,21 @@ def turn(folder, module, d):
         if at:
             helpers[g["name"]] = at
 
+    # a lemma that only names a place above another goes: its fields are those of the one below
+    gone = []
+    for g in list(decls):
+        t = re.sub(r"\s+", " ", " ".join(l for l in g["lines"] if not l.startswith("unfolding")))
+        m = re.match(rf"^(?:\w+ )*{re.escape(g['name'])} : (?:\((\w+) : (tie\.{WORD})[^()]*\)|(tie\.[^→]+)) → tie\.{WORD}[^=]* {re.escape(g['name'])} (\S+) = \(?({WORD}(?: {WORD})?\)?(?:\.before)*)$", t)
+        if m and re.match(rf"^(?:{'|'.join(map(re.escape, [x['name'] for x in gone] or ['-']))} )?\(?{re.escape(m.group(4))}\)?(\.before)*$", m.group(5)):
+            gone.append(g)
+            decls.remove(g)
+    for g in decls:
+        text_of = "\n".join(g["lines"])
+        for x in gone:
+            text_of = re.sub(rf"\({re.escape(x['name'])} ({WORD}(?:\.before)*)\)", r"\1", text_of)
+            text_of = re.sub(rf"(?<= = ){re.escape(x['name'])} ({WORD}(?:\.before)*)(?= in\b)", r"\1", text_of)
+        g["lines"] = text_of.split("\n")
+
     answer_of = {}
     for g in decls:
         m = re.search(r":\s+tie\.Need-(\S+)", g["lines"][0] + " " + (g["lines"][1].strip() if len(g["lines"]) > 1 else ""))
@@ -469,6 +485,21 @@ def turn(folder, module, d):
         return NAME.sub(lambda m: rename.get(m.group(1), m.group(1)), s)
 
     inv, ans = [], []
+    # what an invariant cites of the file's own stands with it
+    plain = {g["name"]: g for g in decls if g is not spec and g["name"] not in kinds and "tie." not in "\n".join(g["lines"])}
+    cited, todo = [], [w for g in decls if g["name"] in kinds for l in g["lines"][1:] for w in NAME.findall(l)]
+    while todo:
+        w = todo.pop()
+        if w in plain and w not in cited:
+            cited.append(w)
+            todo += [x for l in plain[w]["lines"] for x in NAME.findall(l)]
+    for g in decls:
+        if g["name"] in cited:
+            first = g["lines"][0]
+            if not re.match(r"^(?:\w+ )*pub ", first):
+                first = re.sub(r"^((?:abbrev |unfoldable )?)", r"\1pub ", first)
+            inv += g["note"] + [first] + g["lines"][1:] + [""]
+    decls = [g for g in decls if g["name"] not in cited]
     for g in decls:
         if g is spec:
             continue
@@ -587,6 +618,10 @@ def turn(folder, module, d):
     if inv:
         with open(os.path.join(folder, "Invariants.antt"), "w", encoding="utf-8") as f:
             f.write("\n".join(title + uses + [f"use {module}.Given as goal", ""] + inv).rstrip("\n") + "\n")
+    if cited:
+        used = [w for w in cited if any(w in NAME.findall(l) for l in ans)]
+        if used:
+            uses.append(f"use {module}.Invariants.{{{', '.join(sorted(used))}}}")
     if taken:
         line = ", ".join("Start as At-start" if t == "Start" else t for t in sorted(taken))
         uses.append(f"use {module}.Goals.{{{line}}}")

@@ -3,34 +3,29 @@ use mathlib.Core.Path.{sym, subst}
 use borrow.Author.Tests.{not-true, not-false}
 use Rattle.laws.specs.set.Sound.{Sound}
 use Rattle.resolver.proofs.Laws.{retimes-20, retimes, stands-sound}
-use Rattle.by_value.proofs.retime.Goals.{After-packed-set, Else-not-resolver}
 use Rattle.by_value.proofs.retime.Goals as goal
 
--- back to where 20 does not apply
-abbrev passed : After-packed-set → Else-not-resolver
-passed c = c.before.before.before.before.before.before.before.before.before.before.before.before.before.before
-
 pub returns-then-not-resolver : goal.returns-then-not-resolver
-returns-then-not-resolver c = let s = c.before in retimes-20 s.args.t1 s.args.o s.requires (not-true _ c.if-not-resolver.true)
+returns-then-not-resolver c = let s = c in retimes-20 s.args.t1 s.args.o s.requires c.if-not-resolver.true
 
 pub packed-set-requires : goal.packed-set-requires
 packed-set-requires c = c.requires.whole
 
 pub retime_stage_times-moved-requires : goal.retime_stage_times-moved-requires
 retime_stage_times-moved-requires c =
-    let p = passed c in
-    let s = p.before in
+    let p = c in
+    let s = p in
     let k = c.packed-set.ensures in
-    record { held = k.held; sound = subst Sound (sym k.is) (stands-sound s.args.t1 s.pre (not-false _ p.if1.left)) }
+    record { held = k.held; sound = subst Sound (sym k.is) (stands-sound s.args.t1 s.requires p.if-not-resolver.left) }
 
 pub settle-requires : goal.settle-requires
 settle-requires c =
     let e = c.retime_stage_times-moved.ensures in
-    ((passed c.before).before.requires, record { held = e.reply.held; sound = e.sound })
+    record { made = c.requires; made_set = record { held = e.reply.held; sound = e.sound } }
 
 pub returns : goal.returns
 returns c =
-    let k = c.before.before in
-    let p = passed k in
-    let s = p.before in
-    retimes s.args.t1 s.args.o _ _ _ (not-false _ p.if1.left) k.packed-set.ensures c.retime_stage_times-moved.ensures c.settle.ensures
+    let k = c in
+    let p = k in
+    let s = p in
+    retimes s.args.t1 s.args.o _ _ _ p.if-not-resolver.left k.packed-set.ensures c.retime_stage_times-moved.ensures c.settle.ensures

@@ -3,20 +3,16 @@ use mathlib.Core.Path.{ap}
 use borrow.Author.Tests.{eq-eqb, ne_eqb, lt-ltb, le-ltb}
 use Rattle.gf.proofs.KeyLaws.{finite-no-nan}
 use Rattle.laws.specs.cell.Cells as Cells
-use Rattle.cell.proofs.direct_cell.Goals.{Start as At-start, Then-w}
 use Rattle.cell.proofs.direct_cell.Goals as goal
-
-abbrev entry : Then-w → At-start
-entry c = c.before.before.before.before.before.before
 
 pub returns-then-starts-eq0 : goal.returns-then-starts-eq0
 returns-then-starts-eq0 c = rw (eq-eqb _ 0 c.if-starts-eq0.true)
 
 pub line_of-requires : goal.line_of-requires
-line_of-requires c = let a = entry c in (a.pre.1.0, (a.pre.0, finite-no-nan a.args.t a.pre.1.1.finitely))
+line_of-requires c = let a = c in record { xs_len = a.requires.ascending_2; ascending = a.requires.ascending_1; t = finite-no-nan a.args.t a.requires.finite_double.finitely }
 
 pub returns-then-w : goal.returns-then-w
-returns-then-w c = rw (ne_eqb _ 0 c.if-starts-eq0.false, lt-ltb _ _ c.if-w.true) (ap (Cells.reading (entry c.before).args.w.clip) c.Line-of.ensures)
+returns-then-w c = rw (ne_eqb _ 0 c.if-starts-eq0.false, lt-ltb _ _ c.if-w.true) (ap (Cells.reading c.args.w.clip) c.Line-of.ensures)
 
 pub returns : goal.returns
 returns c = rw (ne_eqb _ 0 c.if-starts-eq0.false, le-ltb _ _ c.if-w.false)

@@ -1,6 +1,6 @@
 -- "Sorted, equals dropped.": the last entry ≤ t and the first > t of the sorted list are the neighbours, up to the sign of zero, and the value is the same.
 -- Assumes nothing.
-use mathlib.Core.Path.{◌≡◌, refl, sym, ap, ap₂, ◌∙◌}
+use mathlib.Core.Path.{subst, ◌≡◌, refl, sym, ap, ap₂, ◌∙◌}
 use mathlib.Core.Bool.{Bool, true, false, ◌||◌, cond}
 use mathlib.Core.List.{List, [], ◌∷◌}
 use mathlib.Core.Option.{Option, none, some}
@@ -77,13 +77,16 @@ from_all x (y ∷ l) f s = (lt→le x (last_from y l) (from_one (Lt x) y l s.0.0
 
 last-all : (m : Float) (l : List Float) → Every FiniteDouble l → Strict l → last_of l ≡ some m → Every (λ (y : Float). T (le y m)) l
 last-all m [] f s q = tt
-last-all m (x ∷ l) f s q = let r : last_from x l ≡ m = cc in rw (sym r) (from_all x l f s)
+last-all m (x ∷ l) f s q =
+    let r : last_from x l ≡ m = cc in
+    subst (λ (n : Float). Every (λ (y : Float). T (le y n)) (x ∷ l)) r (from_all x l f s)
 
 first-all : (m : Float) (l : List Float) → Every FiniteDouble l → Strict l → first_of l ≡ some m → Every (λ (y : Float). T (le m y)) l
 first-all m [] f s q = tt
 first-all m (x ∷ l) f s q =
     let r : x ≡ m = cc in
-    rw (sym r) (le_refl x f.0.fitting (finite-no-nan x f.0.finitely), every_map (Lt x) (λ (y : Float). T (le x y)) (λ y h. lt→le x y h) l s.0)
+    subst (λ (n : Float). Every (λ (y : Float). T (le n y)) (x ∷ l)) r
+    (le_refl x f.0.fitting (finite-no-nan x f.0.finitely), every_map (Lt x) (λ (y : Float). T (le x y)) (λ y h. lt→le x y h) l s.0)
 
 last_none : (l : List Float) → last_of l ≡ none → Every (λ (y : Float). ⊥) l
 last_none [] q = tt

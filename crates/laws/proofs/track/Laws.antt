@@ -36,7 +36,7 @@ prev k = omega arith
 module _ {A : Type 0} where
   pub rising-has : {low : ℕ} (cs : List (Change A)) {x : ℕ} → Rising low cs → HasKey x cs → low < x
   rising-has [] r m = absurd m
-  rising-has (c ∷ cs) r m = ⊎_elim (λ e. omega arith) (λ n. let h = rising-has cs r.1 n in omega arith) m
+  rising-has {low = low} (c ∷ cs) {x = x} r m = ⊎_elim (λ e. omega arith) (λ n. let h = rising-has {low = c.key} cs {x = x} r.1 n in omega arith) m
 
   pub upto-has : {top : ℕ} (cs : List (Change A)) {x : ℕ} → UpTo top cs → HasKey x cs → x ≤ top
   upto-has [] u m = absurd m
@@ -62,7 +62,7 @@ module _ {A : Type 0} where
 
   pub rising_snoc : {low : ℕ} (cs : List (Change A)) (c : Change A) (m : ℕ) → Rising low cs → UpTo m cs → low < c.key → m < c.key → Rising low (cs ++ c ∷ [])
   rising_snoc [] c m r u l h = (l, tt)
-  rising_snoc (d ∷ cs) c m r u l h = (r.0, rising_snoc cs c m r.1 u.1 (omega arith) h)
+  rising_snoc {low = low} (d ∷ cs) c m r u l h = (r.0, rising_snoc {low = d.key} cs c m r.1 u.1 (omega arith) h)
 
   pub upto_snoc : {top : ℕ} (cs : List (Change A)) (c : Change A) → UpTo top cs → c.key ≤ top → UpTo top (cs ++ c ∷ [])
   upto_snoc [] c u h = (h, tt)

@@ -11,13 +11,13 @@ state s = let a = s.args in lent_state a.shape a.starts.now a.numbers.now a.xs.n
 
 pub returns-then-prepared-ne0 : goal.returns-then-prepared-ne0
 returns-then-prepared-ne0 c =
-    let s = c.before.before.before.before.before.before.before.before.before.before.before.before.before in
-    accepts (state s) _ _ _ c.parse_set-prepared.ensures (settles-not (state s) _ s.requires c.if-prepared-ne0.true)
+    let s = c in
+    accepts (state (goal.at.returns-then-prepared-ne0 s).Start) _ _ _ c.parse_set-prepared.ensures (settles-not (state (goal.at.returns-then-prepared-ne0 s).Start) _ s.requires c.if-prepared-ne0.true)
 
 pub install-next-requires : goal.install-next-requires
-install-next-requires c = (c.requires, c.parse_set-prepared.ensures.made)
+install-next-requires c = record { made = c.requires; made_set = c.parse_set-prepared.ensures.made }
 
 pub returns : goal.returns
 returns c =
-    let s = c.before.before.before.before.before.before.before.before.before.before.before.before.before.before.before.before.before.before.before.before.before.before.before.before.before.before.before.before.before in
-    accepts (state s) _ _ _ c.parse_set-prepared.ensures (settles (state s) _ _ c.if-prepared-ne0.false c.install-next.ensures)
+    let s = c in
+    accepts (state (goal.at.returns s).Start) _ _ _ c.parse_set-prepared.ensures (settles (state (goal.at.returns s).Start) _ _ c.if-prepared-ne0.false c.install-next.ensures)

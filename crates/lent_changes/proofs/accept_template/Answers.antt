@@ -11,13 +11,13 @@ state s = let a = s.args in lent_state a.shape a.starts.now a.numbers.now a.xs.n
 
 pub returns-then-expanded-ne0 : goal.returns-then-expanded-ne0
 returns-then-expanded-ne0 c =
-    let s = c.before.before.before.before.before.before.before.before.before.before in
-    expands (state s) _ _ _ c.expand_template-expanded.ensures (settles-not (state s) _ s.requires c.if-expanded-ne0.true)
+    let s = c in
+    expands (state (goal.at.returns-then-expanded-ne0 s).Start) _ _ _ c.expand_template-expanded.ensures (settles-not (state (goal.at.returns-then-expanded-ne0 s).Start) _ s.requires c.if-expanded-ne0.true)
 
 pub install-next-requires : goal.install-next-requires
-install-next-requires c = (c.requires, c.expand_template-expanded.ensures.made)
+install-next-requires c = record { made = c.requires; made_set = c.expand_template-expanded.ensures.made }
 
 pub returns : goal.returns
 returns c =
-    let s = c.before.before.before.before.before.before.before.before.before.before.before.before.before.before.before.before.before.before.before.before.before.before.before.before.before.before in
-    expands (state s) _ _ _ c.expand_template-expanded.ensures (settles (state s) _ _ c.if-expanded-ne0.false c.install-next.ensures)
+    let s = c in
+    expands (state (goal.at.returns s).Start) _ _ _ c.expand_template-expanded.ensures (settles (state (goal.at.returns s).Start) _ _ c.if-expanded-ne0.false c.install-next.ensures)

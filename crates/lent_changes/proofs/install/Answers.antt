@@ -13,10 +13,10 @@ pub unpacked-counts-requires : goal.unpacked-counts-requires
 unpacked-counts-requires c =
     let p = c.requires in
     let w = p.0.whole in
-    (p.1.held, record { of-starts = w.in-starts.long; of-numbers = w.in-numbers.long; of-xs = w.in-xs.long; of-ys = w.in_ys.long; of_blocks = w.in_blocks.long })
+    record { fact_1 = p.1.held; fact_2 = record { of-starts = w.in-starts.long; of-numbers = w.in-numbers.long; of-xs = w.in-xs.long; of-ys = w.in_ys.long; of_blocks = w.in_blocks.long } }
 
 pub returns : goal.returns
 returns c =
-    let k = c.before.before.before.before.before.before.before.before.before.before.before in
-    let s = k.before.before.before.before.before.before.before.before.before.before.before in
-    unpacks (state s) s.args.set s.requires.1 k.unpacked-counts.ensures
+    let k = c in
+    let s = k in
+    unpacks (state (goal.at.returns s).Start) s.args.set s.requires.made_set k.unpacked-counts.ensures

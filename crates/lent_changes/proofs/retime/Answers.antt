@@ -6,43 +6,40 @@ use Rattle.laws.specs.set.Sound.{Sound}
 use Rattle.resolver.specs.declared.Resolver.{Resolver}
 use Rattle.resolver.specs.State.{lent_state}
 use Rattle.resolver.proofs.Laws.{settles, settles-not, stands-sound, retimes-20, retimes}
-use Rattle.lent_changes.proofs.retime.Goals.{Else-not-shape, Start as At-start}
+use Rattle.lent_changes.proofs.retime.Goals.{Start as At-start}
 use Rattle.lent_changes.proofs.retime.Goals as goal
 
 abbrev state : At-start → Resolver
 state s = let a = s.args in lent_state a.shape a.starts.now a.numbers.now a.xs.now a.ys.now a.blocks.now
 
-abbrev entry : Else-not-shape → At-start
-entry c = c.before.before.before.before.before.before.before
-
 pub returns-then-not-shape : goal.returns-then-not-shape
-returns-then-not-shape c = let s = c.before.before.before.before.before.before.before in retimes-20 (state s) s.args.o s.requires (not-true _ c.if-not-shape.true)
+returns-then-not-shape c = let s = c in retimes-20 (state (goal.at.returns-then-not-shape s).Start) s.args.o s.requires c.if-not-shape.true
 
 pub packed-set-requires : goal.packed-set-requires
 packed-set-requires c = c.requires.whole
 
 pub retime_stage_times-moved-requires : goal.retime_stage_times-moved-requires
 retime_stage_times-moved-requires c =
-    let p = c.before.before.before.before.before.before in
-    let s = entry p in
+    let p = c in
+    let s = p in
     let k = c.packed-set.ensures in
-    record { held = k.held; sound = subst Sound (sym k.is) (stands-sound (state s) s.pre (not-false _ p.if1.false)) }
+    record { held = k.held; sound = subst Sound (sym k.is) (stands-sound (state (goal.at.retime_stage_times-moved-requires s).Start) s.requires p.if-not-shape.false) }
 
 pub returns-then-moved-ne0 : goal.returns-then-moved-ne0
 returns-then-moved-ne0 c =
-    let k = c.before.before.before in
-    let p = k.before.before.before.before.before.before in
-    let s = entry p in
-    retimes (state s) s.args.o _ _ _ (not-false _ p.if1.false) k.packed-set.ensures c.retime_stage_times-moved.ensures (settles-not (state s) _ s.pre c.if-moved-ne0.true)
+    let k = c in
+    let p = k in
+    let s = p in
+    retimes (state (goal.at.returns-then-moved-ne0 s).Start) s.args.o _ _ _ p.if-not-shape.false k.packed-set.ensures c.retime_stage_times-moved.ensures (settles-not (state (goal.at.returns-then-moved-ne0 s).Start) _ s.requires c.if-moved-ne0.true)
 
 pub install-next-requires : goal.install-next-requires
 install-next-requires c =
     let e = c.retime_stage_times-moved.ensures in
-    (c.requires, record { held = e.reply.held; sound = e.sound })
+    record { made = c.requires; made_set = record { held = e.reply.held; sound = e.sound } }
 
 pub returns : goal.returns
 returns c =
-    let k = c.before.before.before.before.before.before.before.before.before.before.before.before.before.before.before.before.before.before.before in
-    let p = k.before.before.before.before.before.before in
-    let s = entry p in
-    retimes (state s) s.args.o _ _ _ (not-false _ p.if1.false) k.packed-set.ensures c.retime_stage_times-moved.ensures (settles (state s) _ _ c.if-moved-ne0.false c.install-next.ensures)
+    let k = c in
+    let p = k in
+    let s = p in
+    retimes (state (goal.at.returns s).Start) s.args.o _ _ _ p.if-not-shape.false k.packed-set.ensures c.retime_stage_times-moved.ensures (settles (state (goal.at.returns s).Start) _ _ c.if-moved-ne0.false c.install-next.ensures)

@@ -8,48 +8,45 @@ use Rattle.laws.specs.cell.Lent.{set_of}
 use Rattle.resolver.specs.declared.Resolver.{Resolver}
 use Rattle.resolver.specs.State.{lent_state}
 use Rattle.resolver.proofs.Laws.{asked-20, asked, not_finite, is_finite, starts-ascend, clip-told, none_told}
-use Rattle.lent_questions.proofs.active_clip.Goals.{Else-not-shape, Start as At-start}
+use Rattle.lent_questions.proofs.active_clip.Goals.{Start as At-start}
 use Rattle.lent_questions.proofs.active_clip.Goals as goal
 
 abbrev state : At-start → Resolver
 state s = let a = s.args in lent_state a.shape a.starts.now a.numbers.now a.xs.now a.ys.now a.blocks.now
 
-abbrev entry : Else-not-shape → At-start
-entry c = c.before.before.before.before.before.before.before
-
 pub returns-then-not-shape : goal.returns-then-not-shape
 unfolding ask_active_clip
-returns-then-not-shape c = asked-20 _ (state c.before.before.before.before.before.before.before) (not-true _ c.if-not-shape.true)
+returns-then-not-shape c = asked-20 _ (state (goal.at.returns-then-not-shape c).Start) c.if-not-shape.true
 
 pub returns-then-not-is_finite : goal.returns-then-not-is_finite
 unfolding ask_active_clip
 returns-then-not-is_finite c =
-    let p = c.before.before in
-    let s = entry p in
-    not_finite s.args.t _ (sym c.is_finite.ensures ∙ not-true _ c.if-not-is_finite.true) ∙ asked _ (state s) (not-false _ p.if-not-shape.false)
+    let p = c in
+    let s = p in
+    not_finite s.args.t _ (sym c.is_finite.ensures ∙ c.if-not-is_finite.true) ∙ asked _ (state (goal.at.returns-then-not-is_finite s).Start) p.if-not-shape.false
 
 pub active_clip-active-requires : goal.active_clip-active-requires
 active_clip-active-requires c =
-    let p = c.before.before in
-    let s = entry p in
-    (s.pre.whole.in-starts, (s.pre.whole.in-numbers, starts-ascend (state s) s.pre (not-false _ p.if-not-shape.false)))
+    let p = c in
+    let s = p in
+    record { fact_1 = s.requires.whole.in-starts; fact_2 = s.requires.whole.in-numbers; fact_3 = starts-ascend (state (goal.at.active_clip-active-requires s).Start) s.requires p.if-not-shape.false }
 
 pub returns-in-Clip : goal.returns-in-Clip
 unfolding ask_active_clip active_clip set_of
 returns-in-Clip c =
-    let m = c.before in
-    let p = m.before in
-    let s = entry p.before.before in
+    let m = c in
+    let p = m in
+    let s = p in
     clip-told _ _ (sym c.in-Clip.is ∙ m.active_clip-active.ensures)
-    ∙ is_finite s.args.t _ (sym p.is_finite.ensures ∙ not-false _ p.if-not-is_finite.false)
-    ∙ asked _ (state s) (not-false _ p.if-not-shape.false)
+    ∙ is_finite s.args.t _ (sym p.is_finite.ensures ∙ p.if-not-is_finite.false)
+    ∙ asked _ (state (goal.at.returns-in-Clip s).Start) p.if-not-shape.false
 
 pub returns-in-NoClip : goal.returns-in-NoClip
 unfolding ask_active_clip active_clip set_of
 returns-in-NoClip c =
-    let m = c.before in
-    let p = m.before in
-    let s = entry p.before.before in
+    let m = c in
+    let p = m in
+    let s = p in
     none_told _ (sym c.in-NoClip.is ∙ m.active_clip-active.ensures)
-    ∙ is_finite s.args.t _ (sym p.is_finite.ensures ∙ not-false _ p.if-not-is_finite.false)
-    ∙ asked _ (state s) (not-false _ p.if-not-shape.false)
+    ∙ is_finite s.args.t _ (sym p.is_finite.ensures ∙ p.if-not-is_finite.false)
+    ∙ asked _ (state (goal.at.returns-in-NoClip s).Start) p.if-not-shape.false

@@ -8,7 +8,7 @@ use Rattle.definitions.specs.Moments.{outputs}
 use Rattle.resolver.specs.declared.Resolver.{Resolver}
 use Rattle.resolver.specs.State.{lent_state}
 use Rattle.resolver.proofs.Laws.{judged-number, bakes-20, bakes-refused, bakes-set, bakes-code, is-asked}
-use Rattle.lent_questions.proofs.bake.Goals.{Else-not-shape, Start as At-start}
+use Rattle.lent_questions.proofs.bake.Goals.{Start as At-start}
 use Rattle.lent_questions.proofs.bake.Goals as goal
 
 abbrev state : At-start → Resolver
@@ -20,29 +20,26 @@ lent s = samples_of s.args.times.now s.args.values.now s.args.marks.now s.args.e
 abbrev before : At-start → Outputs
 before s = outputs s.args.outtimes.now s.args.outvalues.now s.args.outmarks.now
 
-abbrev entry : Else-not-shape → At-start
-entry c = c.before.before.before.before.before.before.before.before.before.before.before.before.before.before
-
 pub returns-then-not-shape : goal.returns-then-not-shape
 returns-then-not-shape c =
-    let s = c.before.before.before.before.before.before.before.before.before.before.before.before.before.before.before in
-    bakes-code (bakes-20 (state s) (lent s) (before s) (not-true _ c.if-not-shape.true)) c.refused_bake.ensures
+    let s = c in
+    bakes-code (bakes-20 (state (goal.at.returns-then-not-shape s).Start) (lent (goal.at.returns-then-not-shape s).Start) (before (goal.at.returns-then-not-shape s).Start) c.if-not-shape.true) c.refused_bake.ensures
 
 pub returns-then-number-ne0 : goal.returns-then-number-ne0
 returns-then-number-ne0 c =
-    let p = c.before in
-    let s = entry p.before.before in
-    bakes-code (bakes-refused (state s) (lent s) (before s) _ (not-false _ p.if-not-shape.false) (judged-number (state s) p.samples_number-number.ensures) p.if-number-ne0.true) c.refused_bake-then-number-ne0.ensures
+    let p = c in
+    let s = p in
+    bakes-code (bakes-refused (state (goal.at.returns-then-number-ne0 s).Start) (lent (goal.at.returns-then-number-ne0 s).Start) (before (goal.at.returns-then-number-ne0 s).Start) _ p.if-not-shape.false (judged-number (state (goal.at.returns-then-number-ne0 s).Start) p.samples_number-number.ensures) p.if-number-ne0.true) c.refused_bake-then-number-ne0.ensures
 
 pub bake-requires : goal.bake-requires
 bake-requires c =
-    let p = c.before.before.before in
-    let s = entry p.before.before in
-    is-asked (state s) s.pre (not-false _ p.if-not-shape.false) p.samples_number-number.ensures p.if-number-ne0.false
+    let p = c in
+    let s = p in
+    is-asked (state (goal.at.bake-requires s).Start) s.requires p.if-not-shape.false p.samples_number-number.ensures p.if-number-ne0.false
 
 pub returns : goal.returns
 returns c =
-    let w = c.before.before.before.before.before.before in
-    let p = w.before.before.before.before in
-    let s = entry p.before.before in
-    bakes-set (state s) s.pre (not-false _ p.if-not-shape.false) p.samples_number-number.ensures p.if-number-ne0.false _ _ _ w.bake.ensures
+    let w = c in
+    let p = w in
+    let s = p in
+    bakes-set (state (goal.at.returns s).Start) s.requires p.if-not-shape.false p.samples_number-number.ensures p.if-number-ne0.false _ _ _ w.bake.ensures

@@ -7,37 +7,34 @@ use Rattle.laws.specs.cell.Lent.{set_of}
 use Rattle.resolver.specs.declared.Resolver.{Resolver}
 use Rattle.resolver.specs.State.{lent_state}
 use Rattle.resolver.proofs.Laws.{asked-20, asked, not_finite, is_finite, knots-ascend}
-use Rattle.lent_questions.proofs.clip_time.Goals.{Else-not-shape, Start as At-start}
+use Rattle.lent_questions.proofs.clip_time.Goals.{Start as At-start}
 use Rattle.lent_questions.proofs.clip_time.Goals as goal
 
 abbrev state : At-start → Resolver
 state s = let a = s.args in lent_state a.shape a.starts.now a.numbers.now a.xs.now a.ys.now a.blocks.now
 
-abbrev entry : Else-not-shape → At-start
-entry c = c.before.before.before.before.before.before.before
-
 pub returns-then-not-shape : goal.returns-then-not-shape
 unfolding ask_clip_time
-returns-then-not-shape c = asked-20 _ (state c.before.before.before.before.before.before.before) (not-true _ c.if-not-shape.true)
+returns-then-not-shape c = asked-20 _ (state (goal.at.returns-then-not-shape c).Start) c.if-not-shape.true
 
 pub returns-then-not-is_finite : goal.returns-then-not-is_finite
 unfolding ask_clip_time
 returns-then-not-is_finite c =
-    let p = c.before.before in
-    let s = entry p in
-    not_finite s.args.t _ (sym c.is_finite.ensures ∙ not-true _ c.if-not-is_finite.true) ∙ asked _ (state s) (not-false _ p.if-not-shape.false)
+    let p = c in
+    let s = p in
+    not_finite s.args.t _ (sym c.is_finite.ensures ∙ c.if-not-is_finite.true) ∙ asked _ (state (goal.at.returns-then-not-is_finite s).Start) p.if-not-shape.false
 
 pub map_stage_to_clip-requires : goal.map_stage_to_clip-requires
 map_stage_to_clip-requires c =
-    let p = c.before.before in
-    let s = entry p in
-    (s.pre.whole.in-xs, (s.pre.whole.in_ys, knots-ascend (state s) s.pre (not-false _ p.if-not-shape.false)))
+    let p = c in
+    let s = p in
+    record { fact_1 = s.requires.whole.in-xs; fact_2 = s.requires.whole.in_ys; fact_3 = knots-ascend (state (goal.at.map_stage_to_clip-requires s).Start) s.requires p.if-not-shape.false }
 
 pub returns : goal.returns
 unfolding ask_clip_time set_of
 returns c =
-    let p = c.before in
-    let s = entry p.before.before in
+    let p = c in
+    let s = p in
     ap replied c.map_stage_to_clip.ensures
-    ∙ is_finite s.args.t _ (sym p.is_finite.ensures ∙ not-false _ p.if-not-is_finite.false)
-    ∙ asked _ (state s) (not-false _ p.if-not-shape.false)
+    ∙ is_finite s.args.t _ (sym p.is_finite.ensures ∙ p.if-not-is_finite.false)
+    ∙ asked _ (state (goal.at.returns s).Start) p.if-not-shape.false

@@ -13,7 +13,7 @@ use Rattle.standing.proofs.Asked.{times-asked, times-are}
 use Rattle.resolver.specs.declared.Resolver.{Resolver}
 use Rattle.resolver.specs.State.{lent_state}
 use Rattle.resolver.proofs.Laws.{asked-20, judged-number, samples-refused, samples-passed, times-refused, times-replied, lent-is, is-asked, times-are-so}
-use Rattle.lent_questions.proofs.stage_sample_times.Goals.{Else-not-shape, Start as At-start}
+use Rattle.lent_questions.proofs.stage_sample_times.Goals.{Start as At-start}
 use Rattle.lent_questions.proofs.stage_sample_times.Goals as goal
 
 abbrev state : At-start → Resolver
@@ -22,39 +22,36 @@ state s = let a = s.args in lent_state a.shape a.starts.now a.numbers.now a.xs.n
 abbrev lent : At-start → Samples
 lent s = samples_of s.args.times.now s.args.values.now s.args.marks.now s.args.ends.now
 
-abbrev entry : Else-not-shape → At-start
-entry c = c.before.before.before.before.before.before.before.before.before.before.before.before
-
 pub returns-then-not-shape : goal.returns-then-not-shape
 unfolding ask_stage_sample_times
 returns-then-not-shape c =
-    let s = c.before.before.before.before.before.before.before.before.before.before.before.before.before in
-    times-refused (state s) (lent s) s.args.out.now _ 20 c.refused_list.ensures (λ z. omega arith) (asked-20 _ (state s) (not-true _ c.if-not-shape.true))
+    let s = c in
+    times-refused (state (goal.at.returns-then-not-shape s).Start) (lent (goal.at.returns-then-not-shape s).Start) s.args.out.now _ 20 c.refused_list.ensures (λ z. omega arith) (asked-20 _ (state (goal.at.returns-then-not-shape s).Start) c.if-not-shape.true)
 
 pub returns-then-number-ne0 : goal.returns-then-number-ne0
 unfolding ask_stage_sample_times
 returns-then-number-ne0 c =
-    let p = c.before in
-    let s = entry p.before.before in
-    times-refused (state s) (lent s) s.args.out.now _ _ c.refused_list-then-number-ne0.ensures p.if-number-ne0.true
-    (samples-refused (lent s) (λ (x : ClipSet). room_number (length s.args.out.now) (length (stage_sample_times x (lent s)))) (λ (x : ClipSet). stage_sample_times x (lent s)) (state s) (not-false _ p.if-not-shape.false) _ (judged-number (state s) p.samples_number-number.ensures) p.if-number-ne0.true)
+    let p = c in
+    let s = p in
+    times-refused (state (goal.at.returns-then-number-ne0 s).Start) (lent (goal.at.returns-then-number-ne0 s).Start) s.args.out.now _ _ c.refused_list-then-number-ne0.ensures p.if-number-ne0.true
+    (samples-refused (lent (goal.at.returns-then-number-ne0 s).Start) (λ (x : ClipSet). room_number (length s.args.out.now) (length (stage_sample_times x (lent (goal.at.returns-then-number-ne0 s).Start)))) (λ (x : ClipSet). stage_sample_times x (lent (goal.at.returns-then-number-ne0 s).Start)) (state (goal.at.returns-then-number-ne0 s).Start) p.if-not-shape.false _ (judged-number (state (goal.at.returns-then-number-ne0 s).Start) p.samples_number-number.ensures) p.if-number-ne0.true)
 
 pub stage_sample_times-requires : goal.stage_sample_times-requires
 stage_sample_times-requires c =
-    let p = c.before in
-    let s = entry p.before.before in
-    times-asked (is-asked (state s) s.pre (not-false _ p.if-not-shape.false) p.samples_number-number.ensures p.if-number-ne0.false)
+    let p = c in
+    let s = p in
+    times-asked (is-asked (state (goal.at.stage_sample_times-requires s).Start) s.requires p.if-not-shape.false p.samples_number-number.ensures p.if-number-ne0.false)
 
 pub returns : goal.returns
 unfolding ask_stage_sample_times
 returns c =
-    let w = c.before.before in
-    let p = w.before.before in
-    let s = entry p.before.before in
-    let stands = not-false _ p.if-not-shape.false in
-    times-replied (state s) (lent s) _ _ _ _ _
-    (times-are (is-asked (state s) s.pre stands p.samples_number-number.ensures p.if-number-ne0.false)
-    ∙ ap (λ (x : ClipSet). stage_sample_times x (lent s)) (lent-is (state s) s.pre stands p.samples_number-number.ensures p.if-number-ne0.false))
+    let w = c in
+    let p = w in
+    let s = p in
+    let stands = p.if-not-shape.false in
+    times-replied (state (goal.at.returns s).Start) (lent (goal.at.returns s).Start) _ _ _ _ _
+    (times-are (is-asked (state (goal.at.returns s).Start) s.requires stands p.samples_number-number.ensures p.if-number-ne0.false)
+    ∙ ap (λ (x : ClipSet). stage_sample_times x (lent (goal.at.returns s).Start)) (lent-is (state (goal.at.returns s).Start) s.requires stands p.samples_number-number.ensures p.if-number-ne0.false))
     w.stage_sample_times.ensures
-    (samples-passed (lent s) (λ (x : ClipSet). room_number (length s.args.out.now) (length (stage_sample_times x (lent s)))) (λ (x : ClipSet). stage_sample_times x (lent s)) (state s) stands (sym (judged-number (state s) p.samples_number-number.ensures) ∙ p.if-number-ne0.false))
-    stands (times-are-so (state s) s.pre stands p.samples_number-number.ensures p.if-number-ne0.false)
+    (samples-passed (lent (goal.at.returns s).Start) (λ (x : ClipSet). room_number (length s.args.out.now) (length (stage_sample_times x (lent (goal.at.returns s).Start)))) (λ (x : ClipSet). stage_sample_times x (lent (goal.at.returns s).Start)) (state (goal.at.returns s).Start) stands (sym (judged-number (state (goal.at.returns s).Start) p.samples_number-number.ensures) ∙ p.if-number-ne0.false))
+    stands (times-are-so (state (goal.at.returns s).Start) s.requires stands p.samples_number-number.ensures p.if-number-ne0.false)

@@ -11,7 +11,7 @@ use Rattle.standing.proofs.Asked.{clips-asked, untimed-told}
 use Rattle.resolver.specs.declared.Resolver.{Resolver}
 use Rattle.resolver.specs.State.{lent_state}
 use Rattle.resolver.proofs.Laws.{asked-20, judged-number, plainly-refused, plainly-replied, lent-is, is-asked}
-use Rattle.lent_questions.proofs.untimed.Goals.{Else-not-shape, Start as At-start}
+use Rattle.lent_questions.proofs.untimed.Goals.{Start as At-start}
 use Rattle.lent_questions.proofs.untimed.Goals as goal
 
 abbrev state : At-start → Resolver
@@ -20,32 +20,29 @@ state s = let a = s.args in lent_state a.shape a.starts.now a.numbers.now a.xs.n
 abbrev lent : At-start → Samples
 lent s = samples_of s.args.times.now s.args.values.now s.args.marks.now s.args.ends.now
 
-abbrev entry : Else-not-shape → At-start
-entry c = c.before.before.before.before.before.before.before.before.before.before.before
-
 pub returns-then-not-shape : goal.returns-then-not-shape
 unfolding ask_untimed
-returns-then-not-shape c = asked-20 _ (state c.before.before.before.before.before.before.before.before.before.before.before) (not-true _ c.if-not-shape.true)
+returns-then-not-shape c = asked-20 _ (state (goal.at.returns-then-not-shape c).Start) c.if-not-shape.true
 
 pub returns-then-number-ne0 : goal.returns-then-number-ne0
 unfolding ask_untimed
 returns-then-number-ne0 c =
-    let s = entry c.before.before in
-    plainly-refused (lent s) (λ (x : ClipSet). untimed_answer x (lent s)) (state s) (not-false _ c.if-not-shape.false) _ (judged-number (state s) c.samples_number-number.ensures) c.if-number-ne0.true
+    let s = c in
+    plainly-refused (lent (goal.at.returns-then-number-ne0 s).Start) (λ (x : ClipSet). untimed_answer x (lent (goal.at.returns-then-number-ne0 s).Start)) (state (goal.at.returns-then-number-ne0 s).Start) c.if-not-shape.false _ (judged-number (state (goal.at.returns-then-number-ne0 s).Start) c.samples_number-number.ensures) c.if-number-ne0.true
 
 pub untimed-requires : goal.untimed-requires
 untimed-requires c =
-    let s = entry c.before.before in
-    (s.pre.whole.in-numbers, clips-asked (is-asked (state s) s.pre (not-false _ c.if-not-shape.false) c.samples_number-number.ensures c.if-number-ne0.false))
+    let s = c in
+    record { fact_1 = s.requires.whole.in-numbers; fact_2 = clips-asked (is-asked (state (goal.at.untimed-requires s).Start) s.requires c.if-not-shape.false c.samples_number-number.ensures c.if-number-ne0.false) }
 
 pub returns : goal.returns
 unfolding ask_untimed
 returns c =
-    let p = c.before in
-    let s = entry p.before.before in
-    let stands = not-false _ p.if-not-shape.false in
+    let p = c in
+    let s = p in
+    let stands = p.if-not-shape.false in
     ap replied
     (c.untimed.ensures
-    ∙ untimed-told (is-asked (state s) s.pre stands p.samples_number-number.ensures p.if-number-ne0.false)
-    ∙ ap (λ (x : ClipSet). untimed_answer x (lent s)) (lent-is (state s) s.pre stands p.samples_number-number.ensures p.if-number-ne0.false))
-    ∙ plainly-replied (lent s) (λ (x : ClipSet). untimed_answer x (lent s)) (state s) stands (sym (judged-number (state s) p.samples_number-number.ensures) ∙ p.if-number-ne0.false)
+    ∙ untimed-told (is-asked (state (goal.at.returns s).Start) s.requires stands p.samples_number-number.ensures p.if-number-ne0.false)
+    ∙ ap (λ (x : ClipSet). untimed_answer x (lent (goal.at.returns s).Start)) (lent-is (state (goal.at.returns s).Start) s.requires stands p.samples_number-number.ensures p.if-number-ne0.false))
+    ∙ plainly-replied (lent (goal.at.returns s).Start) (λ (x : ClipSet). untimed_answer x (lent (goal.at.returns s).Start)) (state (goal.at.returns s).Start) stands (sym (judged-number (state (goal.at.returns s).Start) p.samples_number-number.ensures) ∙ p.if-number-ne0.false)

@@ -11,7 +11,7 @@ use Rattle.definitions.specs.Questions.{ask_value, replied, stage_time_number}
 use Rattle.resolver.specs.declared.Resolver.{Resolver}
 use Rattle.resolver.specs.State.{lent_state}
 use Rattle.resolver.proofs.Laws.{asked-20, not_finite, is_finite, judged-number, samples-refused, samples-passed, lent-is, is-asked}
-use Rattle.lent_questions.proofs.value.Goals.{Else-not-shape, Start as At-start}
+use Rattle.lent_questions.proofs.value.Goals.{Start as At-start}
 use Rattle.lent_questions.proofs.value.Goals as goal
 
 abbrev state : At-start → Resolver
@@ -20,43 +20,40 @@ state s = let a = s.args in lent_state a.shape a.starts.now a.numbers.now a.xs.n
 abbrev lent : At-start → Samples
 lent s = samples_of s.args.times.now s.args.values.now s.args.marks.now s.args.ends.now
 
-abbrev entry : Else-not-shape → At-start
-entry c = c.before.before.before.before.before.before.before.before.before.before.before
-
 pub returns-then-not-shape : goal.returns-then-not-shape
 unfolding ask_value
-returns-then-not-shape c = asked-20 _ (state c.before.before.before.before.before.before.before.before.before.before.before) (not-true _ c.if-not-shape.true)
+returns-then-not-shape c = asked-20 _ (state (goal.at.returns-then-not-shape c).Start) c.if-not-shape.true
 
 pub returns-then-number-ne0 : goal.returns-then-number-ne0
 unfolding ask_value
 returns-then-number-ne0 c =
-    let s = entry c.before.before in
-    samples-refused (lent s) (λ (x : ClipSet). stage_time_number s.args.t) (λ (x : ClipSet). value_read x (lent s) s.args.t) (state s) (not-false _ c.if-not-shape.false)
-    _ (judged-number (state s) c.samples_number-number.ensures) c.if-number-ne0.true
+    let s = c in
+    samples-refused (lent (goal.at.returns-then-number-ne0 s).Start) (λ (x : ClipSet). stage_time_number s.args.t) (λ (x : ClipSet). value_read x (lent (goal.at.returns-then-number-ne0 s).Start) s.args.t) (state (goal.at.returns-then-number-ne0 s).Start) c.if-not-shape.false
+    _ (judged-number (state (goal.at.returns-then-number-ne0 s).Start) c.samples_number-number.ensures) c.if-number-ne0.true
 
 pub returns-then-not-is_finite : goal.returns-then-not-is_finite
 unfolding ask_value
 returns-then-not-is_finite c =
-    let p = c.before.before in
-    let s = entry p.before.before in
-    not_finite s.args.t _ (sym c.is_finite.ensures ∙ not-true _ c.if-not-is_finite.true)
-    ∙ samples-passed (lent s) (λ (x : ClipSet). stage_time_number s.args.t) (λ (x : ClipSet). value_read x (lent s) s.args.t) (state s) (not-false _ p.if-not-shape.false)
-    (sym (judged-number (state s) p.samples_number-number.ensures) ∙ p.if-number-ne0.false)
+    let p = c in
+    let s = p in
+    not_finite s.args.t _ (sym c.is_finite.ensures ∙ c.if-not-is_finite.true)
+    ∙ samples-passed (lent (goal.at.returns-then-not-is_finite s).Start) (λ (x : ClipSet). stage_time_number s.args.t) (λ (x : ClipSet). value_read x (lent (goal.at.returns-then-not-is_finite s).Start) s.args.t) (state (goal.at.returns-then-not-is_finite s).Start) p.if-not-shape.false
+    (sym (judged-number (state (goal.at.returns-then-not-is_finite s).Start) p.samples_number-number.ensures) ∙ p.if-number-ne0.false)
 
 pub value-requires : goal.value-requires
 value-requires c =
-    let p = c.before.before in
-    let s = entry p.before.before in
-    (is-asked (state s) s.pre (not-false _ p.if-not-shape.false) p.samples_number-number.ensures p.if-number-ne0.false, subst T (sym (not-false _ c.if-not-is_finite.false) ∙ c.is_finite.ensures) tt)
+    let p = c in
+    let s = p in
+    record { fact_1 = is-asked (state (goal.at.value-requires s).Start) s.requires p.if-not-shape.false p.samples_number-number.ensures p.if-number-ne0.false; fact_2 = subst T (sym c.if-not-is_finite.false ∙ c.is_finite.ensures) tt }
 
 pub returns : goal.returns
 unfolding ask_value
 returns c =
-    let f = c.before in
-    let p = f.before.before in
-    let s = entry p.before.before in
-    let stands = not-false _ p.if-not-shape.false in
-    ap replied (c.value.ensures ∙ ap (λ (x : ClipSet). value_read x (lent s) s.args.t) (lent-is (state s) s.pre stands p.samples_number-number.ensures p.if-number-ne0.false))
-    ∙ is_finite s.args.t _ (sym f.is_finite.ensures ∙ not-false _ f.if-not-is_finite.false)
-    ∙ samples-passed (lent s) (λ (x : ClipSet). stage_time_number s.args.t) (λ (x : ClipSet). value_read x (lent s) s.args.t) (state s) stands
-    (sym (judged-number (state s) p.samples_number-number.ensures) ∙ p.if-number-ne0.false)
+    let f = c in
+    let p = f in
+    let s = p in
+    let stands = p.if-not-shape.false in
+    ap replied (c.value.ensures ∙ ap (λ (x : ClipSet). value_read x (lent (goal.at.returns s).Start) s.args.t) (lent-is (state (goal.at.returns s).Start) s.requires stands p.samples_number-number.ensures p.if-number-ne0.false))
+    ∙ is_finite s.args.t _ (sym f.is_finite.ensures ∙ f.if-not-is_finite.false)
+    ∙ samples-passed (lent (goal.at.returns s).Start) (λ (x : ClipSet). stage_time_number s.args.t) (λ (x : ClipSet). value_read x (lent (goal.at.returns s).Start) s.args.t) (state (goal.at.returns s).Start) stands
+    (sym (judged-number (state (goal.at.returns s).Start) p.samples_number-number.ensures) ∙ p.if-number-ne0.false)

@@ -10,11 +10,9 @@ use lib.Ieee.{Float, nan}
 use Rattle.gf.specs.Doubles.{storable}
 use Rattle.definitions.specs.Lists.{any}
 use Rattle.lists.proofs.Fronts.{any_found, at_most_one, counted-all}
+use Rattle.lists.proofs.any_unstorable.Invariants.{bad}
 use Rattle.lists.proofs.any_unstorable.Goals.{After-unstorable-found}
 use Rattle.lists.proofs.any_unstorable.Goals as goal
-
-abbrev bad : Float → Bool
-bad t = not (storable t)
 
 -- what is counted of one time
 one_more : (c : After-unstorable-found) → c.unstorable-found.result ≤ 1

@@ -12,6 +12,10 @@ use Rattle.definitions.specs.Lists.{any}
 use Rattle.lists.proofs.Fronts.{any_found, at_most_one, counted-all}
 use Rattle.lists.proofs.any_unstorable.Given as goal
 
+-- `lists::any_unstorable` meets its contract: those counted and what is left of the list answer for the whole. Assumes nothing.
+abbrev pub bad : Float → Bool
+bad t = not (storable t)
+
 abbrev pub invariant-loop-i : goal.invariant-loop-i
 invariant-loop-i l = (l.i ≤ length l.times) × (l.found ≤ l.i) × (any bad l.times ≡ (ltb 0 l.found || any bad (drop l.i l.times)))
 

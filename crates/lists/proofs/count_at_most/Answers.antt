@@ -10,11 +10,9 @@ use borrow.Author.Rules.{rules}
 use Rattle.definitions.specs.Lists.{count_from}
 use Rattle.definitions.proofs.Reading.{count-one}
 use Rattle.lists.proofs.Fronts.{at_most_one}
-use Rattle.lists.proofs.count_at_most.Goals.{After-one_if-found, At-loop-i}
+use Rattle.lists.proofs.count_at_most.Invariants.{at_most}
+use Rattle.lists.proofs.count_at_most.Goals.{After-one_if-found}
 use Rattle.lists.proofs.count_at_most.Goals as goal
-
-abbrev at_most : List Float → Float → ℕ → Bool
-at_most xs t i = le (get_or xs i nan) t
 
 pub loop-i-init : goal.loop-i-init
 loop-i-init c =
@@ -24,12 +22,9 @@ loop-i-init c =
     let g : count_from (at_most a.times.now a.t) (a.from + 0) (a.n - 0) ≡ count_from (at_most a.times.now a.t) a.from a.n = ap₂ (count_from (at_most a.times.now a.t)) e f in
     (omega arith, omega arith, omega arith)
 
-abbrev at : After-one_if-found → At-loop-i
-at c = c.before.before.before
-
 -- the test of one time
 abbrev test : After-one_if-found → Bool
-test c = let a = (at c).before.before.args in at_most a.times.now a.t (a.from + (at c).loop.i)
+test c = let a = c.args in at_most a.times.now a.t (a.from + c.loop-i.i)
 
 counts-it : (c : After-one_if-found) → c.one_if-found.result ≡ cond (test c) 1 0
 counts-it c = c.one_if-found.ensures
@@ -42,8 +37,8 @@ overflow_add-found c = let o = one_more c in omega arith
 
 pub loop-i-preserved : goal.loop-i-preserved
 loop-i-preserved c =
-    let a = (at c).before.before.args in
-    let i = (at c).loop.i in
+    let a = c.args in
+    let i = c.loop-i.i in
     let o = one_more c in
     let e : a.from + i + 1 ≡ a.from + (i + 1) = omega arith in
     let f : a.n - i - 1 ≡ a.n - (i + 1) = omega arith in

@@ -12,6 +12,10 @@ use Rattle.definitions.proofs.Reading.{count-one}
 use Rattle.lists.proofs.Fronts.{at_most_one}
 use Rattle.lists.proofs.count_at_most.Given as goal
 
+-- `lists::count_at_most` meets its contract. Those counted and those that are left to count are all. Assumes nothing.
+abbrev pub at_most : List Float → Float → ℕ → Bool
+at_most xs t i = le (get_or xs i nan) t
+
 abbrev pub invariant-loop-i : goal.invariant-loop-i
 invariant-loop-i l = (l.i ≤ l.n) × (l.found ≤ l.i) × (l.found + count_from (at_most l.times l.t) (l.from + l.i) (l.n - l.i) ≡ count_from (at_most l.times l.t) l.from l.n)
 

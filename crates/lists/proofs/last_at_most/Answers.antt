@@ -34,10 +34,10 @@ loop-lo-smaller-then-times-mid c = omega arith
 
 pub loop-lo-preserved-then-times-mid : goal.loop-lo-preserved-then-times-mid
 loop-lo-preserved-then-times-mid c =
-    let l = c.before.before.before in
+    let l = c in
     let a = l.args in
     let mid = l.loop-lo.lo + (l.loop-lo.hi - l.loop-lo.lo) / 2 in
-    let k : mid < at_most a.times.now a.t = beyond a.t (held l.before) nan a.times.now l.requires mid (omega arith) c.if-times-mid.true in
+    let k : mid < at_most a.times.now a.t = beyond a.t (held (goal.at.loop-lo-preserved-then-times-mid l).Start) nan a.times.now l.requires mid (omega arith) c.if-times-mid.true in
     (omega arith, l.loop-lo.invariant.1, l.loop-lo.invariant.2)
 
 pub loop-lo-smaller : goal.loop-lo-smaller
@@ -45,24 +45,24 @@ loop-lo-smaller c = omega arith
 
 pub loop-lo-preserved : goal.loop-lo-preserved
 loop-lo-preserved c =
-    let l = c.before.before.before in
+    let l = c in
     let a = l.args in
     let mid = l.loop-lo.lo + (l.loop-lo.hi - l.loop-lo.lo) / 2 in
-    (l.loop-lo.invariant.0, up_to a.t (held l.before) nan a.times.now l.requires mid (omega arith) c.if-times-mid.false, omega arith)
+    (l.loop-lo.invariant.0, up_to a.t (held (goal.at.loop-lo-preserved l).Start) nan a.times.now l.requires mid (omega arith) c.if-times-mid.false, omega arith)
 
 pub overflow_sub-result : goal.overflow_sub-result
 overflow_sub-result c = omega arith
 
 pub returns-then-lo-gt0 : goal.returns-then-lo-gt0
 returns-then-lo-gt0 c =
-    let l = c.before.before in
+    let l = c in
     let a = l.args in
-    let e = last-is a.t (held l.before) a.times.now l.requires in
+    let e = last-is a.t (held (goal.at.returns-then-lo-gt0 l).Start) a.times.now l.requires in
     omega arith
 
 pub returns-else-lo-gt0 : goal.returns-else-lo-gt0
 returns-else-lo-gt0 c =
-    let l = c.before.before in
+    let l = c in
     let a = l.args in
-    let e = last-is a.t (held l.before) a.times.now l.requires in
+    let e = last-is a.t (held (goal.at.returns-else-lo-gt0 l).Start) a.times.now l.requires in
     omega arith

@@ -9,11 +9,10 @@ use lib.ListN.{length, get_or}
 use lib.Ieee.{Float, nan, le}
 use Rattle.definitions.specs.Reading.{by_halves, partition_point}
 use Rattle.definitions.proofs.Reading.{halves-few, halves-by, partition-within}
+use Rattle.lists.proofs.partition_point.Invariants.{at_most}
 use Rattle.lists.proofs.partition_point.Goals.{After-count_at_most}
+use Rattle.lists.proofs.partition_point.Goals.{then-times-mid, else-times-mid}
 use Rattle.lists.proofs.partition_point.Goals as goal
-
-abbrev at_most : List Float → Float → ℕ → Bool
-at_most xs t i = le (get_or xs i nan) t
 
 pub loop-n-init : goal.loop-n-init
 unfolding partition_point
@@ -30,15 +29,18 @@ module _ (xs : List Float) (t : Float) (at n : ℕ) (h : 16 < n) (inside : at + 
 
 pub loop-n-preserved : goal.loop-n-preserved
 loop-n-preserved c =
-    let l = c.before.before.before in
+    let l = c in
     let a = l.args in
     let on = goes_on a.times.now a.t l.loop-n.at l.loop-n.n (omega arith) l.loop-n.invariant.0 l.loop-n.invariant.1 in
-    ⊎_elim (λ w. on true w.0.taken c.if-times-mid.at w.1) (λ w. on false w.0.left c.if-times-mid.at w.1) c.if-times-mid.branch
+    elim c.if-times-mid.branch [
+      | then-times-mid w ↦ on true w.if-times-mid.true c.if-times-mid.at w.at-is
+      | else-times-mid w ↦ on false w.if-times-mid.false c.if-times-mid.at w.at-is
+    ]
 
 -- as many as are found
 found-is : (c : After-count_at_most) → c.loop-n.at + c.count_at_most.result ≡ partition_point c.args.times.now c.args.t
 found-is c =
-    let l = c.before.before in
+    let l = c in
     let a = l.args in
     ap (λ (k : ℕ). l.loop-n.at + k) c.count_at_most.ensures
     ∙ sym (halves-few (at_most a.times.now a.t) l.loop-n.n l.loop-n.at l.loop-n.n (omega arith)) ∙ l.loop-n.invariant.1

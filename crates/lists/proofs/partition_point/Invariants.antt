@@ -11,6 +11,10 @@ use Rattle.definitions.specs.Reading.{by_halves, partition_point}
 use Rattle.definitions.proofs.Reading.{halves-few, halves-by, partition-within}
 use Rattle.lists.proofs.partition_point.Given as goal
 
+-- `lists::partition_point` meets its contract. What the search finds from here on is what it finds in the whole list, and ever fewer places are left. Assumes nothing.
+abbrev pub at_most : List Float → Float → ℕ → Bool
+at_most xs t i = le (get_or xs i nan) t
+
 abbrev pub invariant-loop-n : goal.invariant-loop-n
 invariant-loop-n l = (l.at + l.n ≤ length l.times) × (by_halves (at_most l.times l.t) l.n l.at l.n ≡ partition_point l.times l.t)
 

@@ -8,10 +8,8 @@ use lib.ListN.{length, drop}
 use lib.Ieee.{Float, nan, eq}
 use Rattle.definitions.specs.Lists.{any, pairs}
 use Rattle.lists.proofs.Neighbours.{three-here, three-later, three-end}
+use Rattle.lists.proofs.three_equal.Invariants.{equal}
 use Rattle.lists.proofs.three_equal.Goals as goal
-
-abbrev equal : (Float × Float) × (Float × Float) → Bool
-equal w = eq w.0.0 w.0.1 && eq w.1.0 w.1.1
 
 pub loop-i-init : goal.loop-i-init
 loop-i-init c = (omega arith, refl)
@@ -37,7 +35,7 @@ bounds-times-i-in-loop-i-2 c = omega arith
 pub returns-then-are_equal : goal.returns-then-are_equal
 returns-then-are_equal c =
     let k = c.loop-i in
-    let s = c.before.before.before.before.before.before.before.before in
+    let s = c in
     sym (k.invariant.1 ∙ three-here equal s.args.times.now k.i nan (omega arith) (sym c.are_equal.ensures ∙ c.if-are_equal.true))
 
 pub overflow_add-i-in-loop-i-3 : goal.overflow_add-i-in-loop-i-3
@@ -49,11 +47,11 @@ loop-i-smaller c = omega arith
 pub loop-i-preserved : goal.loop-i-preserved
 loop-i-preserved c =
     let k = c.loop-i in
-    let s = c.before.before.before.before.before.before.before.before in
+    let s = c in
     (omega arith, k.invariant.1 ∙ three-later equal s.args.times.now k.i nan (omega arith) (sym c.are_equal.ensures ∙ c.if-are_equal.false))
 
 pub returns : goal.returns
 returns c =
     let k = c.loop-i in
-    let s = c.before.before.before in
+    let s = c in
     sym (k.invariant.1 ∙ three-end equal s.args.times.now k.i (omega arith))

@@ -10,6 +10,10 @@ use Rattle.definitions.specs.Lists.{any, pairs}
 use Rattle.lists.proofs.Neighbours.{three-here, three-later, three-end}
 use Rattle.lists.proofs.three_equal.Given as goal
 
+-- `lists::three_equal` meets its contract: the neighbours that are left answer for all. Assumes nothing.
+abbrev pub equal : (Float × Float) × (Float × Float) → Bool
+equal w = eq w.0.0 w.0.1 && eq w.1.0 w.1.1
+
 abbrev pub invariant-loop-i : goal.invariant-loop-i
 invariant-loop-i l = (l.i ≤ length l.times) × (any equal (pairs (pairs l.times)) ≡ any equal (drop l.i (pairs (pairs l.times))))
 

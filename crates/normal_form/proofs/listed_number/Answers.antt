@@ -16,7 +16,7 @@ returns-then-any_unstorable c = rw (sym c.unlike_lengths.ensures ∙ c.if-unlike
 
 pub any_nan-requires : goal.any_nan-requires
 any_nan-requires c =
-    let b = c.before.before in
+    let b = c in
     let p = paired _ _ _ (sym b.unlike_lengths.ensures ∙ b.if-unlike_lengths.false) in
     p.1 ∙ sym p.2
 

@@ -17,23 +17,23 @@ fields s = let a = s.args in explicit_fields a.clips a.newstarts.now a.newnumber
 
 pub returns-then-number-ne0 : goal.returns-then-number-ne0
 returns-then-number-ne0 c =
-    let s = c.before.before.before.before.before.before.before.before.before.before.before.before.before.before.before.before.before in
-    accept-refused (lent s) s.requires s.args.name.now s.args.declares (fields s) _ c.name_number-number.ensures c.if-number-ne0.true
+    let s = c in
+    accept-refused (lent (goal.at.returns-then-number-ne0 s).Start) s.requires s.args.name.now s.args.declares (fields (goal.at.returns-then-number-ne0 s).Start) _ c.name_number-number.ensures c.if-number-ne0.true
 
 pub returns-then-prepared-ne0 : goal.returns-then-prepared-ne0
 returns-then-prepared-ne0 c =
-    let e = c.before.before.before in
-    let s = c.before.before.before.before.before.before.before.before.before.before.before.before.before.before.before.before.before.before.before.before in
-    fields-refused (lent s) s.requires s.args.name.now s.args.declares (fields s) _ c.parse_set-prepared.ensures (sym e.name_number-number.ensures ∙ e.if-number-ne0.false) c.if-prepared-ne0.true
+    let e = c in
+    let s = c in
+    fields-refused (lent (goal.at.returns-then-prepared-ne0 s).Start) s.requires s.args.name.now s.args.declares (fields (goal.at.returns-then-prepared-ne0 s).Start) _ c.parse_set-prepared.ensures (sym e.name_number-number.ensures ∙ e.if-number-ne0.false) c.if-prepared-ne0.true
 
 pub extend-requires : goal.extend-requires
 extend-requires c =
-    let e = c.before.before.before.before.before.before.before.before.before.before.before in
-    let s = c.before.before.before.before.before.before.before.before.before.before.before.before.before.before.before.before.before.before.before.before.before.before.before.before.before.before.before.before.before in
-    (s.requires, (c.parse_set-prepared.ensures.made, sym e.name_number-number.ensures ∙ e.if-number-ne0.false))
+    let e = c in
+    let s = c in
+    record { fact_1 = s.requires; fact_2 = c.parse_set-prepared.ensures.made; fact_3 = sym e.name_number-number.ensures ∙ e.if-number-ne0.false }
 
 pub returns : goal.returns
 returns c =
-    let e = c.before.before.before.before.before.before.before.before.before.before.before.before.before.before.before.before.before.before.before.before.before.before.before.before.before.before.before.before in
-    let s = c.before.before.before.before.before.before.before.before.before.before.before.before.before.before.before.before.before.before.before.before.before.before.before.before.before.before.before.before.before.before.before.before.before.before.before.before.before.before.before.before.before.before.before.before.before.before in
-    accepts (lent s) s.requires s.args.name.now s.args.declares (fields s) _ c.parse_set-prepared.ensures _ (sym e.name_number-number.ensures ∙ e.if-number-ne0.false) c.if-prepared-ne0.false c.extend.ensures
+    let e = c in
+    let s = c in
+    accepts (lent (goal.at.returns s).Start) s.requires s.args.name.now s.args.declares (fields (goal.at.returns s).Start) _ c.parse_set-prepared.ensures _ (sym e.name_number-number.ensures ∙ e.if-number-ne0.false) c.if-prepared-ne0.false c.extend.ensures

@@ -17,23 +17,23 @@ fields s = let a = s.args in template_fields a.template.now a.times a.offset a.n
 
 pub returns-then-number-ne0 : goal.returns-then-number-ne0
 returns-then-number-ne0 c =
-    let s = c.before.before.before.before.before.before.before.before.before.before.before.before.before.before in
-    expand-refused (lent s) s.requires s.args.name.now s.args.declares (fields s) _ c.name_number-number.ensures c.if-number-ne0.true
+    let s = c in
+    expand-refused (lent (goal.at.returns-then-number-ne0 s).Start) s.requires s.args.name.now s.args.declares (fields (goal.at.returns-then-number-ne0 s).Start) _ c.name_number-number.ensures c.if-number-ne0.true
 
 pub returns-then-expanded-ne0 : goal.returns-then-expanded-ne0
 returns-then-expanded-ne0 c =
-    let e = c.before.before.before in
-    let s = c.before.before.before.before.before.before.before.before.before.before.before.before.before.before.before.before.before in
-    template-refused (lent s) s.requires s.args.name.now s.args.declares (fields s) _ c.expand_template-expanded.ensures (sym e.name_number-number.ensures ∙ e.if-number-ne0.false) c.if-expanded-ne0.true
+    let e = c in
+    let s = c in
+    template-refused (lent (goal.at.returns-then-expanded-ne0 s).Start) s.requires s.args.name.now s.args.declares (fields (goal.at.returns-then-expanded-ne0 s).Start) _ c.expand_template-expanded.ensures (sym e.name_number-number.ensures ∙ e.if-number-ne0.false) c.if-expanded-ne0.true
 
 pub extend-requires : goal.extend-requires
 extend-requires c =
-    let e = c.before.before.before.before.before.before.before.before.before.before.before in
-    let s = c.before.before.before.before.before.before.before.before.before.before.before.before.before.before.before.before.before.before.before.before.before.before.before.before.before.before in
-    (s.requires, (c.expand_template-expanded.ensures.made, sym e.name_number-number.ensures ∙ e.if-number-ne0.false))
+    let e = c in
+    let s = c in
+    record { fact_1 = s.requires; fact_2 = c.expand_template-expanded.ensures.made; fact_3 = sym e.name_number-number.ensures ∙ e.if-number-ne0.false }
 
 pub returns : goal.returns
 returns c =
-    let e = c.before.before.before.before.before.before.before.before.before.before.before.before.before.before.before.before.before.before.before.before.before.before.before.before.before.before.before.before in
-    let s = c.before.before.before.before.before.before.before.before.before.before.before.before.before.before.before.before.before.before.before.before.before.before.before.before.before.before.before.before.before.before.before.before.before.before.before.before.before.before.before.before.before.before.before in
-    expands (lent s) s.requires s.args.name.now s.args.declares (fields s) _ c.expand_template-expanded.ensures _ (sym e.name_number-number.ensures ∙ e.if-number-ne0.false) c.if-expanded-ne0.false c.extend.ensures
+    let e = c in
+    let s = c in
+    expands (lent (goal.at.returns s).Start) s.requires s.args.name.now s.args.declares (fields (goal.at.returns s).Start) _ c.expand_template-expanded.ensures _ (sym e.name_number-number.ensures ∙ e.if-number-ne0.false) c.if-expanded-ne0.false c.extend.ensures

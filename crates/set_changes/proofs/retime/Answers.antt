@@ -12,17 +12,17 @@ lent s = let a = s.args in pages a.starts.now a.numbers.now a.xs.now a.ys.now a.
 
 pub retime_at-requires : goal.retime_at-requires
 retime_at-requires c =
-    let s = c.before.before.before.before.before.before.before.before.before.before.before.before.before.before.before.before.before.before.before.before.before in
+    let s = c in
     let k = c in
-    (s.requires, below (lent s) s.requires s.args.name.now s.args.o _ (ap number_of (sym k.in-At.is) ∙ k.find-found.ensures))
+    record { fact_1 = s.requires; fact_2 = below (lent (goal.at.retime_at-requires s).Start) s.requires s.args.name.now s.args.o _ (ap number_of (sym k.in-At.is) ∙ k.find-found.ensures) }
 
 pub returns-in-At : goal.returns-in-At
 returns-in-At c =
-    let s = c.before.before.before.before.before.before.before.before.before.before.before.before.before.before.before.before.before.before.before.before.before.before.before.before.before.before.before.before.before.before.before.before.before.before.before.before.before.before in
+    let s = c in
     let k = c in
-    retimes (lent s) s.requires s.args.name.now s.args.o _ (ap number_of (sym k.in-At.is) ∙ k.find-found.ensures) _ _ c.retime_at.ensures
+    retimes (lent (goal.at.returns-in-At s).Start) s.requires s.args.name.now s.args.o _ (ap number_of (sym k.in-At.is) ∙ k.find-found.ensures) _ _ c.retime_at.ensures
 
 pub returns-in-Nothing : goal.returns-in-Nothing
 returns-in-Nothing c =
-    let s = c.before.before.before.before.before.before.before.before.before.before.before.before.before in
-    retimes-20 (lent s) s.requires s.args.name.now s.args.o (ap number_of (sym c.in-Nothing.is) ∙ c.find-found.ensures)
+    let s = c in
+    retimes-20 (lent (goal.at.returns-in-Nothing s).Start) s.requires s.args.name.now s.args.o (ap number_of (sym c.in-Nothing.is) ∙ c.find-found.ensures)

@@ -15,18 +15,18 @@ abbrev lent : At-start → Pages
 lent s = let a = s.args in pages a.starts.now a.numbers.now a.xs.now a.ys.now a.blocks.now a.defaults.now a.counts.now a.bytes.now
 
 few : (s : At-start) → s.args.i < max_sets
-few s = omega (arith, s.requires.0.names.few, s.requires.1)
+few s = omega (arith, s.requires.fact_1.names.few, s.requires.fact_2)
 
 pub move_set-settled-requires : goal.move_set-settled-requires
 move_set-settled-requires c =
-    let s = c.before.before.before.before.before.before.before.before.before.before.before.before.before.before.before in
-    let l = s.requires.0.long in
-    (record { of-starts = l.of-starts; of-numbers = l.of-numbers; of-xs = l.of-xs; of-ys = l.of-ys; of_blocks = l.of_blocks }, (few s, made-page (lent s) s.requires.0 s.args.i s.requires.1 _ c.shape_at-shape.ensures))
+    let s = c in
+    let l = s.requires.fact_1.long in
+    (record { of-starts = l.of-starts; of-numbers = l.of-numbers; of-xs = l.of-xs; of-ys = l.of-ys; of_blocks = l.of_blocks }, (few (goal.at.move_set-settled-requires s).Start, made-page (lent (goal.at.move_set-settled-requires s).Start) s.requires.fact_1 s.args.i s.requires.fact_2 _ c.shape_at-shape.ensures))
 
 -- the set as it was moved, or left
 module _ (c : After-move_set-settled) where
   abbrev entry : At-start
-  entry = c.before.before.before.before.before.before.before.before.before.before.before.before.before.before.before
+  entry = c.before.before.before.before.before.before.before.before.before.before.before.before.before.before.before.before.before.before
 
   moved : MovedAt entry.args.i (shape_in entry.args.defaults.now entry.args.counts.now entry.args.bytes.now entry.args.i) entry.args.o entry.args.starts.now entry.args.numbers.now entry.args.xs.now entry.args.ys.now entry.args.blocks.now
       c.move-set.result c.move-set.new.0 c.move-set.new.1.0 c.move-set.new.1.1.0 c.move-set.new.1.1.1.0 c.move-set.new.1.1.1.1.0
@@ -35,15 +35,15 @@ module _ (c : After-move_set-settled) where
 
 pub returns-then-settled-ne0 : goal.returns-then-settled-ne0
 returns-then-settled-ne0 c =
-    let k = c.before.before.before.before.before.before.before.before.before.before.before.before in
+    let k = c in
     let s = entry k in
     refused-at (lent s) s.pre.0 s.args.i s.pre.1 s.args.o _ _ _ _ _ _ (moved k) c.if-settled-ne0.true
 
 pub store_shape-requires : goal.store_shape-requires
-store_shape-requires c = let s = c.before.before.before.before.before.before.before.before.before.before.before.before.before.before.before.before.before.before.before.before.before.before.before.before.before.before.before.before.before.before.before.before in (s.requires.0.long.sizes, few s)
+store_shape-requires c = let s = c in record { fact_1 = s.requires.fact_1.long.sizes; fact_2 = few (goal.at.store_shape-requires s).Start }
 
 pub returns : goal.returns
 returns c =
-    let k = c.before.before.before.before.before.before.before.before.before.before.before.before.before.before.before.before.before.before.before.before.before.before in
+    let k = c in
     let s = entry k in
     moved_at-is (lent s) s.pre.0 s.args.i s.pre.1 s.args.o _ _ _ _ _ _ (moved k) c.if-settled-ne0.false _ _ _ c.store_shape.ensures

@@ -16,19 +16,19 @@ returns-then-ends-gt-LISTED c = simp (lt-ltb _ _ c.if-ends-gt-LISTED.true)
 
 pub returns-then-not-ends_close : goal.returns-then-not-ends_close
 unfolding list_faulty
-returns-then-not-ends_close c = simp (le-ltb _ _ c.if-ends-gt-LISTED.false, sym c.ends_close.ensures ∙ not-true _ c.if-not-ends_close.true)
+returns-then-not-ends_close c = simp (le-ltb _ _ c.if-ends-gt-LISTED.false, sym c.ends_close.ensures ∙ c.if-not-ends_close.true)
 
 -- past the second test
 closed : (c : Else-not-ends_close) → let a = c.args in closes 0 a.ends.now (length a.bytes.now) ≡ true
-closed c = sym c.ends_close.ensures ∙ not-false _ c.if-not-ends_close.false
+closed c = sym c.ends_close.ensures ∙ c.if-not-ends_close.false
 
 pub any_too_long-requires : goal.any_too_long-requires
 any_too_long-requires c = holds _ (closed c)
 
 pub returns-then-any_too_long : goal.returns-then-any_too_long
 unfolding list_faulty
-returns-then-any_too_long c = simp (le-ltb _ _ c.if-ends-gt-LISTED.false, closed c.before.before, sym c.any_too_long.ensures ∙ c.if-any_too_long.true)
+returns-then-any_too_long c = simp (le-ltb _ _ c.if-ends-gt-LISTED.false, closed (goal.at.returns-then-any_too_long c).Else-not-ends_close, sym c.any_too_long.ensures ∙ c.if-any_too_long.true)
 
 pub returns : goal.returns
 unfolding list_faulty
-returns c = simp (le-ltb _ _ c.if-ends-gt-LISTED.false, closed c.before.before, sym c.any_too_long.ensures ∙ c.if-any_too_long.false)
+returns c = simp (le-ltb _ _ c.if-ends-gt-LISTED.false, closed (goal.at.returns c).Else-not-ends_close, sym c.any_too_long.ensures ∙ c.if-any_too_long.false)

@@ -11,11 +11,8 @@ use Rattle.set_questions.specs.Asking.{order_of}
 use Rattle.pages.proofs.Parts.{part-to}
 use Rattle.set_questions.proofs.Asked.{then-first, then_next, listed-number, unlisted-number}
 use borrow.Author.Rules.{rules}
-use Rattle.set_questions.proofs.question_number.Goals.{After-shared_slice_known-8-1, Joined-given, Start as At-start}
+use Rattle.set_questions.proofs.question_number.Goals.{Joined-given, Start as At-start}
 use Rattle.set_questions.proofs.question_number.Goals as goal
-
-abbrev entry : After-shared_slice_known-8-1 → At-start
-entry c = c.before.before.before.before.before.before.before.before
 
 abbrev asked : At-start → ℕ
 asked s = order_number (order_of s.args.given s.args.listed.now s.args.nameends.now)
@@ -25,25 +22,25 @@ lent s = lent_samples s.args.lens.now s.args.ends.now s.args.times.now s.args.va
 
 pub returns-then-number-ne0 : goal.returns-then-number-ne0
 returns-then-number-ne0 c =
-    let o = c.before in
-    let s = entry o.before.before in
-    then-first _ (asked s) _ (listed-number s.args.given _ _ _ o.if-given.true o.order_number-number.ensures) c.if-number-ne0.true
+    let o = c in
+    let s = o in
+    then-first _ (asked (goal.at.returns-then-number-ne0 s).Start) _ (listed-number s.args.given _ _ _ o.if-given.true o.order_number-number.ensures) c.if-number-ne0.true
 
 pub samples_number-requires : goal.samples_number-requires
 samples_number-requires c =
-    let s = entry c.before.before.before in
+    let s = c in
     let l = s.args.counts.now in
-    subst FewClips (sym (part-to 1 (get_or l 0 0) l)) s.pre.few
+    subst FewClips (sym (part-to 1 (get_or l 0 0) l)) s.requires.few
 
 -- no number of an order list came before
-passed : (c : Joined-given) → asked (entry c.before) ≡ 0
+passed : (c : Joined-given) → asked (goal.at.Joined-given c).Start ≡ 0
 passed c =
-    let s = entry c.before in
+    let s = c in
     ⊎_elim (λ t. sym (listed-number s.args.given _ _ _ t.0.taken t.1.ensures) ∙ t.2.left) (λ t. unlisted-number s.args.given _ _ t.left) c.if-given.branch
 
 pub returns : goal.returns
 returns c =
-    let j = c.before.before.before in
-    let s = entry j.before in
+    let j = c in
+    let s = j in
     let l = s.args.counts.now in
-    then_next _ (asked s) _ (passed j) (c.samples_number.ensures ∙ ap (λ (x : List ℕ). set_samples_number x (lent s)) (part-to 1 (get_or l 0 0) l))
+    then_next _ (asked (goal.at.returns s).Start) _ (passed (goal.at.returns j).Joined-given) (c.samples_number.ensures ∙ ap (λ (x : List ℕ). set_samples_number x (lent (goal.at.returns s).Start)) (part-to 1 (get_or l 0 0) l))

@@ -13,33 +13,30 @@ use Rattle.set_questions.proofs.read_at.Goals as goal
 abbrev sets : At-start → Pages
 sets s = let a = s.args in pages a.starts.now a.numbers.now a.xs.now a.ys.now a.blocks.now a.defaults.now a.counts.now a.bytes.now
 
-abbrev entry : After-shape_at-shape → At-start
-entry c = c.before.before.before.before.before.before.before.before.before.before.before.before.before
-
 few : (s : At-start) → s.args.k < 16
-few s = omega (arith, s.requires.1.0, s.requires.0.names.few)
+few s = omega (arith, s.requires.fact_2, s.requires.fact_1.names.few)
 
 pub offset_bounds-blocks-a : goal.offset_bounds-blocks-a
-offset_bounds-blocks-a c = omega (arith, few (entry c.before.before.before.before))
+offset_bounds-blocks-a c = omega (arith, few (goal.at.offset_bounds-blocks-a c).Start)
 
 pub slice_bounds-value-end-5 : goal.slice_bounds-value-end-5
-slice_bounds-value-end-5 c = let s = entry c.before.before.before.before in omega (arith, few s, s.pre.0.long.of_blocks)
+slice_bounds-value-end-5 c = let s = c in omega (arith, few (goal.at.slice_bounds-value-end-5 s).Start, s.requires.fact_1.long.of_blocks)
 
 -- the doubles of lent lists are ones that a program can hold
-times-fit : (c : After-shape_at-shape) → Every Fits (entry c).args.times.now
-times-fit c = every-fits (entry c).args.times.now (λ i. c.shared_slice_known-9-1.given i)
+times-fit : (c : After-shape_at-shape) → Every Fits c.args.times.now
+times-fit c = every-fits c.args.times.now (λ i. c.shared_slice_known-9-1.given i)
 
-values-fit : (c : After-shape_at-shape) → Every Fits (entry c).args.values.now
-values-fit c = every-fits (entry c).args.values.now (λ i. c.shared_slice_known-10-1.given i)
+values-fit : (c : After-shape_at-shape) → Every Fits c.args.values.now
+values-fit c = every-fits c.args.values.now (λ i. c.shared_slice_known-10-1.given i)
 
 pub value-requires : goal.value-requires
 value-requires c =
-    let q = c.before.before.before.before.before in
-    let s = entry q in
-    (page-asked (sets s) s.pre.0 s.args.k s.pre.1.0 q.shape_at-shape.result q.shape_at-shape.ensures _ _ _ _ s.pre.1.1.0 (times-fit q) (values-fit q), s.pre.1.1.1)
+    let q = c in
+    let s = q in
+    record { fact_1 = page-asked (sets (goal.at.value-requires s).Start) s.requires.fact_1 s.args.k s.requires.fact_2 q.shape_at-shape.result q.shape_at-shape.ensures _ _ _ _ s.requires.fact_3 (times-fit (goal.at.value-requires q).After-shape_at-shape) (values-fit (goal.at.value-requires q).After-shape_at-shape); fact_2 = s.requires.fact_4 }
 
 pub returns : goal.returns
 returns c =
-    let q = c.before.before.before.before.before.before in
-    let s = entry q in
-    page-read (sets s) s.pre.0 s.args.k s.pre.1.0 q.shape_at-shape.result q.shape_at-shape.ensures s.args.times.now s.args.values.now s.args.marks.now s.args.ends.now s.pre.1.1.0 (times-fit q) (values-fit q) s.args.t _ c.value.ensures
+    let q = c in
+    let s = q in
+    page-read (sets (goal.at.returns s).Start) s.requires.fact_1 s.args.k s.requires.fact_2 q.shape_at-shape.result q.shape_at-shape.ensures s.args.times.now s.args.values.now s.args.marks.now s.args.ends.now s.requires.fact_3 (times-fit (goal.at.returns q).After-shape_at-shape) (values-fit (goal.at.returns q).After-shape_at-shape) s.args.t _ c.value.ensures

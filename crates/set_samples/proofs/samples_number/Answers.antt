@@ -25,24 +25,21 @@ summed : (c : In-Sum) → Totals c.args.counts.now (Sum c.in-Sum.samples)
 summed c = subst (Totals _) c.in-Sum.is c.total_samples-all.ensures
 
 pub returns-then-samples-times : goal.returns-then-samples-times
-returns-then-samples-times c = refused _ _ (λ p. c.if-samples-times.true ((summed c.before).1 ∙ p.samples-are))
+returns-then-samples-times c = refused _ _ (λ p. c.if-samples-times.true ((summed (goal.at.returns-then-samples-times c).In-Sum).1 ∙ p.samples-are))
 
 pub returns-then-ends-total_clips : goal.returns-then-ends-total_clips
 returns-then-ends-total_clips c = refused _ _ (λ p. c.if-ends-total_clips.true (p.ends-are ∙ sym c.total_clips.ensures))
 
 pub parts_number-requires : goal.parts_number-requires
 parts_number-requires c =
-    let four = c.before.before in
-    let three = four.before.before.before in
-    let two = three.before in
-    let s = two.before.before.before.before.before.before.before.before in (
-      s.requires,
-      parted s.args.clips.now (lent_samples s.args.counts.now s.args.ends.now s.args.times.now s.args.values.now s.args.marks.now) record {
+    let four = c in
+    let three = four in
+    let two = three in
+    let s = two in record { fact_1 = s.requires; fact_2 = parted s.args.clips.now (lent_samples s.args.counts.now s.args.ends.now s.args.times.now s.args.values.now s.args.marks.now) record {
         values-alike = two.if-values-times.false;
         marks-alike = two.if-marks-times.false;
         counts-are = three.if-counts-clips.false;
-        few = (summed four.before).0;
-        samples-are = sym (summed four.before).1 ∙ four.if-samples-times.false;
+        few = (summed (goal.at.parts_number-requires four).In-Sum).0;
+        samples-are = sym (summed (goal.at.parts_number-requires four).In-Sum).1 ∙ four.if-samples-times.false;
         ends-are = c.if-ends-total_clips.false ∙ c.total_clips.ensures;
-      },
-    )
+      } }

@@ -16,10 +16,10 @@ few : (c : At-loop-i) → c.loop-i.i < length c.args.clips.now → get_or c.args
 few c h = every-at (λ (n : ℕ). n ≤ max_clips) c.args.clips.now c.loop-i.i 0 c.requires.each h
 
 pub overflow_add-sum : goal.overflow_add-sum
-overflow_add-sum c = let k = c.loop-i in omega (arith, k.invariant.low, c.requires.few, few c.before.before (omega arith))
+overflow_add-sum c = let k = c.loop-i in omega (arith, k.invariant.low, c.requires.few, few (goal.at.overflow_add-sum c).At-loop-i (omega arith))
 
 pub loop-i-preserved : goal.loop-i-preserved
-loop-i-preserved c = let k = c.loop-i in add-next _ k.i k.sum k.invariant (omega arith) (omega (arith, few c.before.before (omega arith)))
+loop-i-preserved c = let k = c.loop-i in add-next _ k.i k.sum k.invariant (omega arith) (omega (arith, few (goal.at.loop-i-preserved c).At-loop-i (omega arith)))
 
 pub returns : goal.returns
 returns c = let k = c.loop-i in (added _ k.i k.sum k.invariant (omega arith)).1

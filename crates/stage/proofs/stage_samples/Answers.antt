@@ -16,11 +16,8 @@ use Rattle.stage.proofs.Accepted.{accepted-times, stage-times}
 use Rattle.stage.proofs.Writing.{length-written}
 use Rattle.stage.proofs.Samples.{samples-written, samples-none}
 use borrow.Author.Rules.{rules}
-use Rattle.stage.proofs.stage_samples.Goals.{After-shorter-room, After-write_times-count, Start as At-start, Then-counted-room}
+use Rattle.stage.proofs.stage_samples.Goals.{After-write_times-count, Start as At-start, Then-counted-room}
 use Rattle.stage.proofs.stage_samples.Goals as goal
-
-abbrev entry : After-shorter-room → At-start
-entry k = k.before.before.before.before.before.before.before.before.before.before.before.before
 
 abbrev set : At-start → ClipSet
 set s = unblocked s.args.starts.now s.args.clips.now s.args.xs.now s.args.ys.now s.args.m s.args.ends.now
@@ -31,75 +28,64 @@ lent s = samples_of s.args.times.now s.args.values.now s.args.marks.now s.args.e
 abbrev all : At-start → List Float
 all s = times_of s.args.starts.now s.args.clips.now s.args.xs.now s.args.ys.now s.args.times.now s.args.ends.now
 
--- before the times were counted
-abbrev asked : Then-counted-room → After-shorter-room
-asked c = c.before.before.before.before.before
-
 -- the shorter list has room for all
-room : (c : Then-counted-room) → let s = entry (asked c) in length (all s) ≤ min (length s.args.outtimes.now) (length s.args.outmarks.now)
+room : (c : Then-counted-room) → let s = entry (goal.at.Then-counted-room c).After-shorter-room in length (all (goal.at.Then-counted-room s).Start) ≤ min (length s.args.outtimes.now) (length s.args.outmarks.now)
 room c =
-    let k = asked c in
-    let s = entry k in
-    let r = k.shorter.ensures in
+    let k = c in
+    let s = k in
+    let r = k.shorter-room.ensures in
     let e = c.count_within-counted.ensures in
     let h = c.if-counted-room.true in
     omega arith
 
-times-room : (c : Then-counted-room) → let s = entry (asked c) in length (all s) ≤ length s.args.outtimes.now
-times-room c = let s = entry (asked c) in le_trans (room c) (min-le_left (length s.args.outtimes.now) (length s.args.outmarks.now))
+times-room : (c : Then-counted-room) → let s = entry (goal.at.Then-counted-room c).After-shorter-room in length (all s) ≤ length s.args.outtimes.now
+times-room c = let s = entry (goal.at.Then-counted-room c).After-shorter-room in le_trans (room c) (min-le_left (length s.args.outtimes.now) (length s.args.outmarks.now))
 
-marks-room : (c : Then-counted-room) → let s = entry (asked c) in length (all s) ≤ length s.args.outmarks.now
-marks-room c = let s = entry (asked c) in le_trans (room c) (min-le_right (length s.args.outtimes.now) (length s.args.outmarks.now))
+marks-room : (c : Then-counted-room) → let s = entry (goal.at.Then-counted-room c).After-shorter-room in length (all s) ≤ length s.args.outmarks.now
+marks-room c = let s = entry (goal.at.Then-counted-room c).After-shorter-room in le_trans (room c) (min-le_right (length s.args.outtimes.now) (length s.args.outmarks.now))
 
 pub latest_inverses-reach-requires : goal.latest_inverses-reach-requires
 latest_inverses-reach-requires c =
     let A = accepted-times c.requires in
-    (A.windows.readable.paired, (A.few, A.windows.readable.segments))
+    record { fact_1 = A.windows.readable.paired; fact_2 = A.few; fact_3 = A.windows.readable.segments }
 
 pub count_within-counted-requires : goal.count_within-counted-requires
 count_within-counted-requires c = search (rules, accepted-times)
 
 pub write_times-count-requires : goal.write_times-count-requires
 write_times-count-requires c =
-    let k = c.before.before.before.before in
-    (accepted-times (entry (asked k)).requires, ((asked k).before.latest-inverses.ensures, times-room k))
+    let k = c in
+    record { accepted_times_1 = accepted-times (entry (goal.at.write_times-count-requires k).After-shorter-room).requires; accepted_times_2 = k.latest_inverses-reach.ensures; ends_in_bounds = times-room (goal.at.write_times-count-requires k).Then-counted-room }
 
--- the times as they were written
-abbrev then : After-write_times-count → Then-counted-room
-then w = w.before.before.before.before.before
-
-times_long : (w : After-write_times-count) → length w.write_times-count.new.out ≡ length (entry (asked (then w))).args.outtimes.now
-times_long w = let s = entry (asked (then w)) in ap length w.write_times-count.ensures.1 ∙ length-written (all s) s.args.outtimes.now (times-room (then w))
+times_long : (w : After-write_times-count) → length w.write_times-count.new.out ≡ length (entry (asked (goal.at.After-write_times-count w).Then-counted-room)).args.outtimes.now
+times_long w = let s = entry (asked (goal.at.After-write_times-count w).Then-counted-room) in ap length w.write_times-count.ensures.1 ∙ length-written (all s) s.args.outtimes.now (times-room (goal.at.After-write_times-count w).Then-counted-room)
 
 count_room : (w : After-write_times-count) → w.write_times-count.result ≤ length w.write_times-count.new.out
-count_room w = omega (arith, times_long w, times-room (then w), w.write_times-count.ensures.0)
+count_room w = omega (arith, times_long w, times-room (goal.at.After-write_times-count w).Then-counted-room, w.write_times-count.ensures.0)
 
 pub slice_bounds-write_marks-end : goal.slice_bounds-write_marks-end
-slice_bounds-write_marks-end c = count_room c.before.before
+slice_bounds-write_marks-end c = count_room (goal.at.slice_bounds-write_marks-end c).After-write_times-count
 
 pub slice_bounds-write_marks-end-then-counted-room : goal.slice_bounds-write_marks-end-then-counted-room
-slice_bounds-write_marks-end-then-counted-room c = let w = c.before.before.before in sym (length-take-le w.write-times.result w.write-times.new.1.1.1.1.1.1.1.0 (count_room w))
+slice_bounds-write_marks-end-then-counted-room c = let w = c in sym (length-take-le w.write_times-count.result w.write_times-count.new.out (count_room (goal.at.slice_bounds-write_marks-end-then-counted-room w).After-write_times-count))
 
 pub write_marks-requires : goal.write_marks-requires
 write_marks-requires c =
-    let w = c.before.before.before.before in (
-      (entry (asked (then w))).requires,
-      omega (arith, length-take-le w.write-times.result w.write-times.new.1.1.1.1.1.1.1.0 (count_room w), marks-room (then w), w.write-times.ensures.0),
-    )
+    let w = c in record { fact_1 = (entry (asked (goal.at.write_marks-requires w).Then-counted-room)).requires; fact_2 = omega (arith, length-take-le w.write_times-count.result w.write_times-count.new.out (count_room (goal.at.write_marks-requires w).After-write_times-count), marks-room (goal.at.write_marks-requires w).Then-counted-room, w.write_times-count.ensures.0) }
 
 pub returns-then-counted-room : goal.returns-then-counted-room
 returns-then-counted-room c =
-    let b = c.before.before in
-    let w = b.before.before.before.before.before in
-    let s = entry (asked (then w)) in
-    samples-written (set s) (lent s) (all s) (stage-times s.pre) s.args.outtimes.now w.write-times.new.1.1.1.1.1.1.1.0 s.args.outmarks.now _ w.write-times.result w.write-times.ensures.0 (room (then w)) w.write-times.ensures.1 b.write_marks.ensures
+    let b = c in
+    let w = b in
+    let s = entry (asked (goal.at.returns-then-counted-room w).Then-counted-room) in
+    samples-written (set s) (lent s) (all s) (stage-times s.pre) s.args.outtimes.now w.write_times-count.new.out s.args.outmarks.now _ w.write_times-count.result w.write_times-count.ensures.0 (room (goal.at.returns-then-counted-room w).Then-counted-room) w.write_times-count.ensures.1 b.write_marks.ensures
 
 pub returns : goal.returns
 returns c =
-    let k = c.before.before.before.before.before in
-    let s = entry k in
-    let r = k.shorter.ensures in
+    let k = c in
+    let s = k in
+    let r = k.shorter-room.ensures in
     let e = c.count_within-counted.ensures in
     let h = c.if-counted-room.false in
-    samples-none (set s) (lent s) (all s) (stage-times s.pre) s.args.outtimes.now s.args.outtimes.now s.args.outmarks.now s.args.outmarks.now
+    samples-none (set (goal.at.returns s).Start) (lent (goal.at.returns s).Start) (all (goal.at.returns s).Start) (stage-times s.requires) s.args.outtimes.now s.args.outtimes.now s.args.outmarks.now s.args.outmarks.now
     (omega arith) refl refl

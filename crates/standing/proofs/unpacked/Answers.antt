@@ -15,7 +15,7 @@ pub unpack_active-requires : goal.unpack_active-requires
 unpack_active-requires c =
     let p = c.requires in
     let h = p.0.active in
-    (h, (lent 256 _ _ p.1.of-starts h.few, lent 256 _ _ p.1.of-numbers h.few))
+    record { fact_1 = h; fact_2 = lent 256 _ _ p.1.of-starts h.few; fact_3 = lent 256 _ _ p.1.of-numbers h.few }
 
 pub slice_bounds-unpack_knots-end-2 : goal.slice_bounds-unpack_knots-end-2
 slice_bounds-unpack_knots-end-2 c = let p = c.requires in sym (lent 512 _ _ p.1.of-xs p.0.knots.few)
@@ -27,7 +27,7 @@ pub unpack_knots-requires : goal.unpack_knots-requires
 unpack_knots-requires c =
     let p = c.requires in
     let h = p.0.knots in
-    (h, (lent 512 _ _ p.1.of-xs h.few, lent 512 _ _ p.1.of-ys h.few))
+    record { fact_1 = h; fact_2 = lent 512 _ _ p.1.of-xs h.few; fact_3 = lent 512 _ _ p.1.of-ys h.few }
 
 pub slice_bounds-unpack_blocks-end-2 : goal.slice_bounds-unpack_blocks-end-2
 slice_bounds-unpack_blocks-end-2 c = let p = c.requires in sym (lent 256 _ _ p.1.of_blocks p.0.blocks.few)
@@ -36,14 +36,14 @@ pub unpack_blocks-requires : goal.unpack_blocks-requires
 unpack_blocks-requires c =
     let p = c.requires in
     let h = p.0.blocks in
-    (h, lent 256 _ _ p.1.of_blocks h.few)
+    record { fact_1 = h; fact_2 = lent 256 _ _ p.1.of_blocks h.few }
 
 pub returns : goal.returns
 returns c =
-    let s = c.before.before.before.before.before.before.before.before.before.before.before.before.before.before.before.before.before.before.before.before.before.before.before in
+    let s = c in
     let a = s.args in
     let starts = c.unpack_active in
     let knots = c.unpack_knots in
     let blocks = c.unpack_blocks in
-    arrays-unpacked a.set s.requires.0 a.starts.now a.numbers.now a.xs.now a.ys.now a.blocks.now s.requires.1 starts.new.1.0 starts.new.1.1.0 knots.new.1.0 knots.new.1.1.0
+    arrays-unpacked a.set s.requires.fact_1 a.starts.now a.numbers.now a.xs.now a.ys.now a.blocks.now s.requires.fact_2 starts.new.1.0 starts.new.1.1.0 knots.new.1.0 knots.new.1.1.0
     starts.ensures.0 starts.ensures.1 knots.ensures.0 knots.ensures.1 blocks.new.1.0 blocks.ensures

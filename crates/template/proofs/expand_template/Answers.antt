@@ -23,84 +23,81 @@ use Rattle.template.proofs.expand_template.Goals as goal
 abbrev fields : At-start → TemplateFields
 fields c = template_fields c.args.template.now c.args.times c.args.offset c.args.blocks.now (manifest c.args.default c.args.interpolate)
 
-none : (c : Else-number-ne0) → template_fields_number (fields c.before.before.before.before) ≡ 0
+none : (c : Else-number-ne0) → template_fields_number (fields (goal.at.Else-number-ne0 c).Start) ≡ 0
 none c = sym c.fields_number-number.ensures ∙ c.if-number-ne0.false
-
-abbrev entry : After-knot_count-m → At-start
-entry c = c.before.before.before.before.before.before.before
 
 -- the clips and the knots have room
 few : (c : After-knot_count-m) → c.promote-promoted.result.count ≤ 256
 few c = c.if-n-gt-CLIPS.false
 
 few-lent : (c : After-knot_count-m) → c.knot_count-m.result ≤ 512
-few-lent c = omega (arith, c.knot_count-m.ensures, few-knots (entry c).args.offset c.promote-promoted.result.count (few c))
+few-lent c = omega (arith, c.knot_count-m.ensures, few-knots c.args.offset c.promote-promoted.result.count (few c))
 
 clips-lent : (c : After-knot_count-m) → length (take c.promote-promoted.result.count c.promote-promoted.result.items) ≡ c.promote-promoted.result.count
 clips-lent c = lent 256 c.promote-promoted.result.count c.promote-promoted.result.items c.promote-promoted.ensures.long (few c)
 
 -- what owning `f64`s tells: the format holds them
-fitting : (c : After-shared_slice_known-2-1) → TemplateFits (fields c.before.before)
+fitting : (c : After-shared_slice_known-2-1) → TemplateFits (fields (goal.at.After-shared_slice_known-2-1 c).Start)
 fitting c = record { blocks = all_fit c.args.blocks.now c.shared_slice_known-2-1.given; value = subst T (sym c.well_formed.1.1.1.1.0.1.1.1.0.1) tt }
 
 pub returns-then-number-ne0 : goal.returns-then-number-ne0
 returns-then-number-ne0 c =
-    let s = c.before.before.before.before.before in
-    template-refuses (fields s) c.fields_number-number.result c.refused.result c.fields_number-number.ensures c.if-number-ne0.true c.refused.ensures
+    let s = c in
+    template-refuses (fields (goal.at.returns-then-number-ne0 s).Start) c.fields_number-number.result c.refused.result c.fields_number-number.ensures c.if-number-ne0.true c.refused.ensures
 
 pub returns-then-n-gt-CLIPS : goal.returns-then-n-gt-CLIPS
 returns-then-n-gt-CLIPS c =
-    let s = c.before.before.before.before.before.before.before in
-    template-beyond (fields s) c.refused-then-n-gt-CLIPS.result (none c.before.before.before) (omega (arith, c.if-n-gt-CLIPS.true, c.promote-promoted.ensures.count)) c.refused-then-n-gt-CLIPS.ensures
+    let s = c in
+    template-beyond (fields (goal.at.returns-then-n-gt-CLIPS s).Start) c.refused-then-n-gt-CLIPS.result (none (goal.at.returns-then-n-gt-CLIPS c).Else-number-ne0) (omega (arith, c.if-n-gt-CLIPS.true, c.promote-promoted.ensures.count)) c.refused-then-n-gt-CLIPS.ensures
 
 pub slice_bounds-expand_lists-end : goal.slice_bounds-expand_lists-end
-slice_bounds-expand_lists-end c = sym (clips-lent c.before.before)
+slice_bounds-expand_lists-end c = sym (clips-lent (goal.at.slice_bounds-expand_lists-end c).After-knot_count-m)
 
 pub slice_bounds-starts-end : goal.slice_bounds-starts-end
-slice_bounds-starts-end c = omega (arith, few c.before.before)
+slice_bounds-starts-end c = omega (arith, few (goal.at.slice_bounds-starts-end c).After-knot_count-m)
 
 pub slice_bounds-expand_lists-end-2 : goal.slice_bounds-expand_lists-end-2
-slice_bounds-expand_lists-end-2 c = sym (length-take-le _ _ (few c.before.before.before))
+slice_bounds-expand_lists-end-2 c = sym (length-take-le _ _ (few (goal.at.slice_bounds-expand_lists-end-2 c).After-knot_count-m))
 
 pub slice_bounds-numbers-end : goal.slice_bounds-numbers-end
-slice_bounds-numbers-end c = omega (arith, few c.before.before.before)
+slice_bounds-numbers-end c = omega (arith, few (goal.at.slice_bounds-numbers-end c).After-knot_count-m)
 
 pub slice_bounds-expand_lists-end-3 : goal.slice_bounds-expand_lists-end-3
-slice_bounds-expand_lists-end-3 c = sym (length-take-le _ _ (few c.before.before.before.before))
+slice_bounds-expand_lists-end-3 c = sym (length-take-le _ _ (few (goal.at.slice_bounds-expand_lists-end-3 c).After-knot_count-m))
 
 pub slice_bounds-xs-end : goal.slice_bounds-xs-end
-slice_bounds-xs-end c = omega (arith, few-lent c.before.before.before.before)
+slice_bounds-xs-end c = omega (arith, few-lent (goal.at.slice_bounds-xs-end c).After-knot_count-m)
 
 pub slice_bounds-expand_lists-end-4 : goal.slice_bounds-expand_lists-end-4
-slice_bounds-expand_lists-end-4 c = sym (length-take-le _ _ (few-lent c.before.before.before.before.before))
+slice_bounds-expand_lists-end-4 c = sym (length-take-le _ _ (few-lent (goal.at.slice_bounds-expand_lists-end-4 c).After-knot_count-m))
 
 pub slice_bounds-ys-end : goal.slice_bounds-ys-end
-slice_bounds-ys-end c = omega (arith, few-lent c.before.before.before.before.before)
+slice_bounds-ys-end c = omega (arith, few-lent (goal.at.slice_bounds-ys-end c).After-knot_count-m)
 
 pub slice_bounds-expand_lists-end-5 : goal.slice_bounds-expand_lists-end-5
-slice_bounds-expand_lists-end-5 c = sym (length-take-le _ _ (few-lent c.before.before.before.before.before.before))
+slice_bounds-expand_lists-end-5 c = sym (length-take-le _ _ (few-lent (goal.at.slice_bounds-expand_lists-end-5 c).After-knot_count-m))
 
 pub expand_lists-requires : goal.expand_lists-requires
 expand_lists-requires c =
-    let b = c.before.before.before.before.before.before in
+    let b = c in
     let n = b.promote-promoted.result.count in
-    let t = clips-lent b in
-    let k : b.knot_count-m.result ≡ knot_count (entry b).args.offset (length (take n b.promote-promoted.result.items)) = b.knot_count-m.ensures ∙ ap (knot_count (entry b).args.offset) (sym t) in
+    let t = clips-lent (goal.at.expand_lists-requires b).After-knot_count-m in
+    let k : b.knot_count-m.result ≡ knot_count b.args.offset (length (take n b.promote-promoted.result.items)) = b.knot_count-m.ensures ∙ ap (knot_count b.args.offset) (sym t) in
     record {
-      for-times = length-take-le _ _ (few b) ∙ sym t;
-      for-numbers = length-take-le _ _ (few b) ∙ sym t;
-      for-xs = length-take-le _ _ (few-lent b) ∙ k;
-      for-ys = length-take-le _ _ (few-lent b) ∙ k;
-      few = omega (arith, t, few b);
-      few-blocks = few-blocks (fields (entry b)) (none b.before.before.before);
+      for-times = length-take-le _ _ (few (goal.at.expand_lists-requires b).After-knot_count-m) ∙ sym t;
+      for-numbers = length-take-le _ _ (few (goal.at.expand_lists-requires b).After-knot_count-m) ∙ sym t;
+      for-xs = length-take-le _ _ (few-lent (goal.at.expand_lists-requires b).After-knot_count-m) ∙ k;
+      for-ys = length-take-le _ _ (few-lent (goal.at.expand_lists-requires b).After-knot_count-m) ∙ k;
+      few = omega (arith, t, few (goal.at.expand_lists-requires b).After-knot_count-m);
+      few-blocks = few-blocks (fields (goal.at.expand_lists-requires b).Start) (none (goal.at.expand_lists-requires b).Else-number-ne0);
     }
 
 pub returns : goal.returns
 returns c =
-    let b = c.before.before.before.before.before.before.before.before.before.before.before in
-    let s = entry b in
-    let f = fields s in
+    let b = c in
+    let s = b in
+    let f = fields (goal.at.returns s).Start in
     let p = b.promote-promoted.ensures in
     let r = c.expand_lists in
-    template-settles f r.result (fitting b.before.before.before.before.before) (none b.before.before.before) (omega (arith, p.count, few b))
-    (subst (λ (ts : List Float). Stores empty_set (expanded_set ts s.args.times (active_offset f) s.args.blocks.now (manifest s.args.default s.args.interpolate)) r.result) (p.list (few b)) r.ensures)
+    template-settles f r.result (fitting (goal.at.returns b).After-shared_slice_known-2-1) (none (goal.at.returns b).Else-number-ne0) (omega (arith, p.count, few (goal.at.returns b).After-knot_count-m))
+    (subst (λ (ts : List Float). Stores empty_set (expanded_set ts s.args.times (active_offset f) s.args.blocks.now (manifest s.args.default s.args.interpolate)) r.result) (p.list (few (goal.at.returns b).After-knot_count-m)) r.ensures)

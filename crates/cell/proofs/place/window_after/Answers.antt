@@ -7,19 +7,19 @@ use borrow.Author.Rules.{rules}
 use Rattle.cell.proofs.place.window_after.Goals as goal
 
 pub follows-requires : goal.follows-requires
-follows-requires c = let a = c.before.before.before.before.before.before.before.before.before.before.before in ready-clip a.requires.0 a.args.p a.requires.1.1
+follows-requires c = let a = c in ready-clip a.requires.accepted_lists a.args.p a.requires.p_in_bounds
 
 pub clip_begin-begin-requires : goal.clip_begin-begin-requires
-clip_begin-begin-requires c = let a = c.before.before.before.before.before.before.before.before.before.before.before.before.before.before in ready-clip a.requires.0 a.args.p a.requires.1.1
+clip_begin-begin-requires c = let a = c in ready-clip a.requires.accepted_lists a.args.p a.requires.p_in_bounds
 
 pub returns-then-follows : goal.returns-then-follows
 returns-then-follows c =
-    let t = c.before.before.before.before in
-    let f = t.before in
-    let a = f.before.before.before.before.before.before.before.before.before.before.before.before in
+    let t = c in
+    let f = t in
+    let a = f in
     let F = f.follows.ensures t.if-follows.true in
     let n = F.next in
-    let S = a.requires.1.0 in
-    let h = a.requires.1.1 in
-    window_on a.requires.0 a.args.place.start a.args.place.window (S.window (omega arith)) F.none_before (S.gap (omega arith) F.none_before) a.args.p F.next h F.none_here
+    let S = a.requires.place_is in
+    let h = a.requires.p_in_bounds in
+    window_on a.requires.accepted_lists a.args.place.start a.args.place.window (S.window (omega arith)) F.none_before (S.gap (omega arith) F.none_before) a.args.p F.next h F.none_here
     _ refl refl c.window_min.ensures c.window_max.ensures c.clip_begin-begin.ensures refl refl

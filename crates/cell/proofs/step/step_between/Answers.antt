@@ -15,22 +15,22 @@ abbrev f : At-start → ℕ → ℕ
 f a = place_on a.args.ts.now a.args.line
 
 keys : (a : At-start) → Keys a.args.k a.args.hi
-keys a = a.requires.1.1.0
+keys a = a.requires.keys
 
 once : (a : At-start) → Once (f a) a.args.k a.args.hi
-once a = a.requires.1.1.1.0
+once a = a.requires.once
 
 at : (a : At-start) → f a a.args.k ≡ a.args.q
-at a = a.requires.1.1.1.1.0
+at a = a.requires.k_value
 
 left : (a : At-start) → f a a.args.hi ≡ a.args.q → ⊥
-left a = a.requires.1.1.1.1.1
+left a = a.requires.fact
 
 pub loop-b-init : goal.loop-b-init
 loop-b-init c =
-    let a = c.before in
-    let n : a.args.k ≡ a.args.hi → ⊥ = λ e. left a (ap (f a) (sym e) ∙ at a) in
-    (omega arith, omega (arith, (keys a).order), omega arith, at a, left a)
+    let a = c in
+    let n : a.args.k ≡ a.args.hi → ⊥ = λ e. left (goal.at.loop-b-init a).Start (ap (f (goal.at.loop-b-init a).Start) (sym e) ∙ at (goal.at.loop-b-init a).Start) in
+    (omega arith, omega (arith, (keys (goal.at.loop-b-init a).Start).order), omega arith, at (goal.at.loop-b-init a).Start, left (goal.at.loop-b-init a).Start)
 
 pub overflow_sub-b : goal.overflow_sub-b
 overflow_sub-b c = omega arith
@@ -43,16 +43,16 @@ overflow_add-mid c = omega arith
 
 pub is_read-requires : goal.is_read-requires
 is_read-requires c =
-    let a = c.before.before.before in
-    let K = keys a in
-    (a.requires.0, (a.requires.1.0, (omega (arith, K.low), omega (arith, K.high))))
+    let a = c in
+    let K = keys (goal.at.is_read-requires a).Start in
+    record { ascending_1 = a.requires.ascending_1; ascending_2 = a.requires.ascending_2; le_k = (omega (arith, K.low), omega (arith, K.high)) }
 
 pub loop-b-smaller-then-is_read : goal.loop-b-smaller-then-is_read
 loop-b-smaller-then-is_read c = omega arith
 
 pub loop-b-preserved-then-is_read : goal.loop-b-preserved-then-is_read
 loop-b-preserved-then-is_read c =
-    let b = c.before.before.before in
+    let b = c in
     (omega arith, omega arith, omega arith, eqb-true _ _ (sym c.is_read.ensures ∙ c.if-is_read.true), b.loop-b.invariant.4)
 
 pub loop-b-smaller : goal.loop-b-smaller
@@ -60,11 +60,11 @@ loop-b-smaller c = omega arith
 
 pub loop-b-preserved : goal.loop-b-preserved
 loop-b-preserved c =
-    let b = c.before.before.before in
+    let b = c in
     (omega arith, omega arith, omega arith, b.loop-b.invariant.3, eqb-false _ _ (sym c.is_read.ensures ∙ c.if-is_read.false))
 
 pub returns : goal.returns
 returns c =
-    let b = c.before in
-    let a = b.before.before in
-    bisected b.loop-b.a b.loop-b.b (once a) (omega arith) (omega arith) (omega arith) (omega arith) (b.loop-b.invariant.3 ∙ sym (at a)) (λ e. b.loop-b.invariant.4 (e ∙ at a))
+    let b = c in
+    let a = b in
+    bisected b.loop-b.a b.loop-b.b (once (goal.at.returns a).Start) (omega arith) (omega arith) (omega arith) (omega arith) (b.loop-b.invariant.3 ∙ sym (at (goal.at.returns a).Start)) (λ e. b.loop-b.invariant.4 (e ∙ at (goal.at.returns a).Start))

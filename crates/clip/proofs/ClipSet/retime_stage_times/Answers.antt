@@ -22,13 +22,13 @@ fitting c = subst T (sym c.well_formed.1.0.1.1.1.0.1) tt
 
 pub returns-then-not-is_finite : goal.returns-then-not-is_finite
 returns-then-not-is_finite c =
-    let s = c.before.before in
+    let s = c in
     retime-refuses s.args.self s.args.o s.requires.held s.requires.sound (untrue _ _ c.is_finite.ensures c.if-not-is_finite.true)
 
 pub returns-then-is_identity : goal.returns-then-is_identity
 returns-then-is_identity c =
-    let s = c.before.before.before.before in
-    retime-identity s.args.self s.args.o s.requires.held s.requires.sound (both-finite c.before.before) (sym c.is_identity.ensures ∙ c.if-is_identity.true)
+    let s = c in
+    retime-identity s.args.self s.args.o s.requires.held s.requires.sound (both-finite (goal.at.returns-then-is_identity c).Else-not-is_finite) (sym c.is_identity.ensures ∙ c.if-is_identity.true)
 
 pub slice_bounds-retime_lists-end : goal.slice_bounds-retime_lists-end
 slice_bounds-retime_lists-end c = simp length-take (omega arith)
@@ -47,19 +47,16 @@ slice_bounds-retime_lists-end-5 c = simp length-take (omega arith)
 
 pub retime_lists-requires : goal.retime_lists-requires
 retime_lists-requires c =
-    let h = c.requires.held in (
-      h,
-      record {
+    let h = c.requires.held in record { fact_1 = h; fact_2 = record {
         times = length-take-le _ _ h.active.few;
         numbers = length-take-le _ _ h.active.few;
         xs = length-take-le _ _ h.knots.few;
         ys = length-take-le _ _ h.knots.few;
         blocks = length-take-le _ _ h.blocks.few;
-      },
-    )
+      } }
 
 pub returns : goal.returns
 returns c =
-    let i = c.before.before.before.before.before.before.before.before.before.before.before in
-    let s = i.before.before.before.before in
-    retime-settles s.args.self s.args.o s.requires.held s.requires.sound (both-finite i.before.before) c.retime_lists.result (fitting s) (sym i.is_identity.ensures ∙ i.if-is_identity.false) c.retime_lists.ensures
+    let i = c in
+    let s = i in
+    retime-settles s.args.self s.args.o s.requires.held s.requires.sound (both-finite (goal.at.returns i).Else-not-is_finite) c.retime_lists.result (fitting (goal.at.returns s).Start) (sym i.is_identity.ensures ∙ i.if-is_identity.false) c.retime_lists.ensures

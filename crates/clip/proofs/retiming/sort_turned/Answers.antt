@@ -7,8 +7,8 @@ use Rattle.clip.proofs.retiming.sort_turned.Goals as goal
 pub returns-then-scale : goal.returns-then-scale
 unfolding of_bits
 returns-then-scale c =
-    let a = c.before.before.before.before.before.before.before.before.before.before.before in
-    let k = c.before.before.before.before in
+    let a = c in
+    let k = c in
     rw a.if-scale.true (a.sort_starts.ensures, k.sort_knots.ensures)
 
 pub returns-else-scale : goal.returns-else-scale

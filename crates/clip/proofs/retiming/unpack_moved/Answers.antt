@@ -5,7 +5,7 @@ use Rattle.clip.proofs.retiming.unpack_moved.Goals as goal
 
 pub returns : goal.returns
 returns c =
-    let s = c.before.before.before.before.before.before.before.before.before.before.before.before.before.before.before.before.before.before.before.before.before.before.before.before.before.before.before.before.before.before.before.before.before.before.before.before.before.before in
+    let s = c in
     let a = c.unpack_active in
     let k = c.unpack_knots in
     let b = c.unpack_blocks in

@@ -15,9 +15,9 @@ use Rattle.clip.proofs.storage.pack_active.Goals as goal
 
 pub loop-i-init : goal.loop-i-init
 loop-i-init c =
-    let s = c.before.before.before.before in
-    let n = zip_length start s.args.times.now s.args.clips.now s.requires.0 in
-    (fill_start (active_of s.args.times.now s.args.clips.now) c.no_active-none.result.items (omega (arith, c.no_active-none.ensures.room.long, s.requires.1)), c.no_active-none.ensures.room.long)
+    let s = c in
+    let n = zip_length start s.args.times.now s.args.clips.now s.requires.fact_1 in
+    (fill_start (active_of s.args.times.now s.args.clips.now) c.no_active-none.result.items (omega (arith, c.no_active-none.ensures.room.long, s.requires.fact_2)), c.no_active-none.ensures.room.long)
 
 pub offset_bounds-times-i : goal.offset_bounds-times-i
 offset_bounds-times-i c = omega arith
@@ -46,12 +46,12 @@ loop-i-smaller c = omega arith
 pub loop-i-preserved : goal.loop-i-preserved
 loop-i-preserved c =
     let k = c.loop-i in
-    let s = c.before.before.before.before.before.before.before.before in
-    let n = zip_length start s.args.times.now s.args.clips.now s.requires.0 in
+    let s = c in
+    let n = zip_length start s.args.times.now s.args.clips.now s.requires.fact_1 in
     (fill-next (active_of s.args.times.now s.args.clips.now) k.items k.i _ (start nan 0) k.invariant.0 (omega arith) (sym (zip-at start s.args.times.now s.args.clips.now k.i nan 0 (start nan 0) (omega arith) (omega arith))), length-set k.items k.i _ ∙ k.invariant.1)
 
 pub returns : goal.returns
 returns c =
     let k = c.loop-i in
-    let s = c.before.before.before.before.before.before in
-    packed max_active (active_of s.args.times.now s.args.clips.now) k.items _ k.i k.invariant.0 k.invariant.1 (zip_length start s.args.times.now s.args.clips.now s.requires.0) (omega arith)
+    let s = c in
+    packed max_active (active_of s.args.times.now s.args.clips.now) k.items _ k.i k.invariant.0 k.invariant.1 (zip_length start s.args.times.now s.args.clips.now s.requires.fact_1) (omega arith)

@@ -12,7 +12,7 @@ use Rattle.clip.proofs.storage.pack_blocks.Goals as goal
 
 pub loop-i-init : goal.loop-i-init
 loop-i-init c =
-    let s = c.before.before.before in
+    let s = c in
     (fill_start s.args.times.now c.no_blocks-none.result.items (omega (arith, c.no_blocks-none.ensures.room.long, s.requires)), c.no_blocks-none.ensures.room.long)
 
 pub offset_bounds-times-i : goal.offset_bounds-times-i
@@ -36,11 +36,11 @@ loop-i-smaller c = omega arith
 pub loop-i-preserved : goal.loop-i-preserved
 loop-i-preserved c =
     let k = c.loop-i in
-    let s = c.before.before.before.before.before.before in
+    let s = c in
     (fill-next s.args.times.now k.items k.i _ nan k.invariant.0 (omega arith) refl, length-set k.items k.i _ ∙ k.invariant.1)
 
 pub returns : goal.returns
 returns c =
     let k = c.loop-i in
-    let s = c.before.before.before.before.before in
+    let s = c in
     packed max_blocks s.args.times.now k.items _ k.i k.invariant.0 k.invariant.1 refl (omega arith)

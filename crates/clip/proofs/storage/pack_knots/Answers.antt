@@ -16,9 +16,9 @@ use Rattle.clip.proofs.storage.pack_knots.Goals as goal
 
 pub loop-i-init : goal.loop-i-init
 loop-i-init c =
-    let s = c.before.before.before.before in
-    let n = zip_length knot s.args.xs.now s.args.ys.now s.requires.0 in
-    (fill_start (knots_of s.args.xs.now s.args.ys.now) c.no_knots-none.result.items (omega (arith, c.no_knots-none.ensures.room.long, s.requires.1)), c.no_knots-none.ensures.room.long)
+    let s = c in
+    let n = zip_length knot s.args.xs.now s.args.ys.now s.requires.fact_1 in
+    (fill_start (knots_of s.args.xs.now s.args.ys.now) c.no_knots-none.result.items (omega (arith, c.no_knots-none.ensures.room.long, s.requires.fact_2)), c.no_knots-none.ensures.room.long)
 
 pub offset_bounds-xs-i : goal.offset_bounds-xs-i
 offset_bounds-xs-i c = omega arith
@@ -47,12 +47,12 @@ loop-i-smaller c = omega arith
 pub loop-i-preserved : goal.loop-i-preserved
 loop-i-preserved c =
     let k = c.loop-i in
-    let s = c.before.before.before.before.before.before.before.before in
-    let n = zip_length knot s.args.xs.now s.args.ys.now s.requires.0 in
+    let s = c in
+    let n = zip_length knot s.args.xs.now s.args.ys.now s.requires.fact_1 in
     (fill-next (knots_of s.args.xs.now s.args.ys.now) k.items k.i _ (knot nan nan) k.invariant.0 (omega arith) (sym (zip-at knot s.args.xs.now s.args.ys.now k.i nan nan (knot nan nan) (omega arith) (omega arith))), length-set k.items k.i _ ∙ k.invariant.1)
 
 pub returns : goal.returns
 returns c =
     let k = c.loop-i in
-    let s = c.before.before.before.before.before.before in
-    packed max_knots (knots_of s.args.xs.now s.args.ys.now) k.items _ k.i k.invariant.0 k.invariant.1 (zip_length knot s.args.xs.now s.args.ys.now s.requires.0) (omega arith)
+    let s = c in
+    packed max_knots (knots_of s.args.xs.now s.args.ys.now) k.items _ k.i k.invariant.0 k.invariant.1 (zip_length knot s.args.xs.now s.args.ys.now s.requires.fact_1) (omega arith)

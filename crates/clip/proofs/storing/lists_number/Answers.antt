@@ -30,24 +30,24 @@ returns-then-any_unstorable c = rw (sym c.any_unstorable.ensures ∙ c.if-any_un
 
 pub returns-then-any_unstorable-2 : goal.returns-then-any_unstorable-2
 unfolding lists_number
-returns-then-any_unstorable-2 c = rw (not1 c.before.before, sym c.any_unstorable-2.ensures ∙ c.if-any_unstorable-2.true)
+returns-then-any_unstorable-2 c = rw (not1 (goal.at.returns-then-any_unstorable-2 c).Else-any_unstorable, sym c.any_unstorable-2.ensures ∙ c.if-any_unstorable-2.true)
 
 pub returns-then-any_unstorable-3 : goal.returns-then-any_unstorable-3
 unfolding lists_number
-returns-then-any_unstorable-3 c = rw (not1 c.before.before.before.before, not2 c.before.before, sym c.any_unstorable-3.ensures ∙ c.if-any_unstorable-3.true)
+returns-then-any_unstorable-3 c = rw (not1 (goal.at.returns-then-any_unstorable-3 c).Else-any_unstorable, not2 (goal.at.returns-then-any_unstorable-3 c).Else-any_unstorable-2, sym c.any_unstorable-3.ensures ∙ c.if-any_unstorable-3.true)
 
 pub returns-then-two_equal : goal.returns-then-two_equal
 unfolding lists_number
-returns-then-two_equal c = let a = c.before.before in rw (not1 a.before.before.before.before, not2 a.before.before, not3 a, sym c.two_equal.ensures ∙ c.if-two_equal.true)
+returns-then-two_equal c = let a = c in rw (not1 (goal.at.returns-then-two_equal a).Else-any_unstorable, not2 (goal.at.returns-then-two_equal a).Else-any_unstorable-2, not3 (goal.at.returns-then-two_equal a).Else-any_unstorable-3, sym c.two_equal.ensures ∙ c.if-two_equal.true)
 
 pub returns-then-three_equal : goal.returns-then-three_equal
 unfolding lists_number
-returns-then-three_equal c = let a = c.before.before.before.before in rw (not1 a.before.before.before.before, not2 a.before.before, not3 a, not4 c.before.before, sym c.three_equal.ensures ∙ c.if-three_equal.true)
+returns-then-three_equal c = let a = c in rw (not1 (goal.at.returns-then-three_equal a).Else-any_unstorable, not2 (goal.at.returns-then-three_equal a).Else-any_unstorable-2, not3 (goal.at.returns-then-three_equal a).Else-any_unstorable-3, not4 (goal.at.returns-then-three_equal c).Else-two_equal, sym c.three_equal.ensures ∙ c.if-three_equal.true)
 
 pub returns-then-default-gt2 : goal.returns-then-default-gt2
 unfolding lists_number bad_default_mark
-returns-then-default-gt2 c = let a = c.before.before.before.before.before.before in rw (not1 a.before.before.before.before, not2 a.before.before, not3 a, not4 c.before.before.before.before, not5 c.before.before, lt-ltb _ _ c.if-default-gt2.true)
+returns-then-default-gt2 c = let a = c in rw (not1 (goal.at.returns-then-default-gt2 a).Else-any_unstorable, not2 (goal.at.returns-then-default-gt2 a).Else-any_unstorable-2, not3 (goal.at.returns-then-default-gt2 a).Else-any_unstorable-3, not4 (goal.at.returns-then-default-gt2 c).Else-two_equal, not5 (goal.at.returns-then-default-gt2 c).Else-three_equal, lt-ltb _ _ c.if-default-gt2.true)
 
 pub returns : goal.returns
 unfolding lists_number bad_default_mark
-returns c = let a = c.before.before.before.before.before.before in rw (not1 a.before.before.before.before, not2 a.before.before, not3 a, not4 c.before.before.before.before, not5 c.before.before, le-ltb _ _ c.if-default-gt2.false)
+returns c = let a = c in rw (not1 (goal.at.returns a).Else-any_unstorable, not2 (goal.at.returns a).Else-any_unstorable-2, not3 (goal.at.returns a).Else-any_unstorable-3, not4 (goal.at.returns c).Else-two_equal, not5 (goal.at.returns c).Else-three_equal, le-ltb _ _ c.if-default-gt2.false)

@@ -10,10 +10,8 @@ use Rattle.gf.specs.Doubles.{is_clip_number}
 use Rattle.definitions.specs.Lists.{any}
 use Rattle.lists.proofs.Fronts.{any_here, any-later, any-end}
 use Rattle.explicit.specs.Parsing.{any_not_clip}
+use Rattle.explicit.proofs.fields.any_not_clip.Invariants.{bad}
 use Rattle.explicit.proofs.fields.any_not_clip.Goals as goal
-
-abbrev bad : ℕ → Float → Bool
-bad clips c = not (is_clip_number clips c)
 
 pub loop-i-init : goal.loop-i-init
 loop-i-init c = (omega arith, refl)
@@ -24,7 +22,7 @@ bounds-numbers-i c = omega arith
 pub returns-then-not-is_clip_number : goal.returns-then-not-is_clip_number
 returns-then-not-is_clip_number c =
     let k = c.loop-i in
-    let s = c.before.before.before.before.before.before in
+    let s = c in
     sym (k.invariant.1 ∙ any_here (bad s.args.clips) s.args.numbers.now k.i nan (omega arith) (ap not (sym c.is_clip_number.ensures) ∙ c.if-not-is_clip_number.true))
 
 pub overflow_add-i : goal.overflow_add-i
@@ -36,11 +34,11 @@ loop-i-smaller c = omega arith
 pub loop-i-preserved : goal.loop-i-preserved
 loop-i-preserved c =
     let k = c.loop-i in
-    let s = c.before.before.before.before.before.before in
+    let s = c in
     (omega arith, k.invariant.1 ∙ any-later (bad s.args.clips) s.args.numbers.now k.i nan (omega arith) (ap not (sym c.is_clip_number.ensures) ∙ c.if-not-is_clip_number.false))
 
 pub returns : goal.returns
 returns c =
     let k = c.loop-i in
-    let s = c.before.before.before in
+    let s = c in
     sym (k.invariant.1 ∙ any-end (bad s.args.clips) s.args.numbers.now k.i (omega arith))

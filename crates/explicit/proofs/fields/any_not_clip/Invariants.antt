@@ -12,6 +12,10 @@ use Rattle.lists.proofs.Fronts.{any_here, any-later, any-end}
 use Rattle.explicit.specs.Parsing.{any_not_clip}
 use Rattle.explicit.proofs.fields.any_not_clip.Given as goal
 
+-- `explicit::fields::any_not_clip` meets its contract: what is left of the list answers for the whole. Assumes nothing.
+abbrev pub bad : ℕ → Float → Bool
+bad clips c = not (is_clip_number clips c)
+
 abbrev pub invariant-loop-i : goal.invariant-loop-i
 invariant-loop-i l = (l.i ≤ length l.numbers) × (any_not_clip l.clips l.numbers ≡ any (bad l.clips) (drop l.i l.numbers))
 

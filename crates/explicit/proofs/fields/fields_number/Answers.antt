@@ -36,28 +36,28 @@ returns-then-is_misshapen c = rw (sym c.is_misshapen.ensures ∙ c.if-is_misshap
 
 pub returns-then-any_unstorable : goal.returns-then-any_unstorable
 unfolding fields_number explicit1 misshapen explicit2 explicit3
-returns-then-any_unstorable c = rw (not1 c.before.before, sym c.any_unstorable.ensures ∙ c.if-any_unstorable.true)
+returns-then-any_unstorable c = rw (not1 (goal.at.returns-then-any_unstorable c).Else-is_misshapen, sym c.any_unstorable.ensures ∙ c.if-any_unstorable.true)
 
 pub returns-then-any_unstorable-2 : goal.returns-then-any_unstorable-2
 unfolding fields_number explicit1 misshapen explicit2 explicit3
-returns-then-any_unstorable-2 c = rw (not1 c.before.before.before.before, not2 c.before.before, sym c.any_unstorable-2.ensures ∙ c.if-any_unstorable-2.true)
+returns-then-any_unstorable-2 c = rw (not1 (goal.at.returns-then-any_unstorable-2 c).Else-is_misshapen, not2 (goal.at.returns-then-any_unstorable-2 c).Else-any_unstorable, sym c.any_unstorable-2.ensures ∙ c.if-any_unstorable-2.true)
 
 pub returns-then-any_unstorable-3 : goal.returns-then-any_unstorable-3
 unfolding fields_number explicit1 misshapen explicit2 explicit3
-returns-then-any_unstorable-3 c = rw (not1 c.before.before.before.before.before.before, not2 c.before.before.before.before, not3 c.before.before, sym c.any_unstorable-3.ensures ∙ c.if-any_unstorable-3.true)
+returns-then-any_unstorable-3 c = rw (not1 (goal.at.returns-then-any_unstorable-3 c).Else-is_misshapen, not2 (goal.at.returns-then-any_unstorable-3 c).Else-any_unstorable, not3 (goal.at.returns-then-any_unstorable-3 c).Else-any_unstorable-2, sym c.any_unstorable-3.ensures ∙ c.if-any_unstorable-3.true)
 
 pub returns-then-any_unstorable-4 : goal.returns-then-any_unstorable-4
 unfolding fields_number explicit1 misshapen explicit2 explicit3
-returns-then-any_unstorable-4 c = rw (not1 c.before.before.before.before.before.before.before.before, not2 c.before.before.before.before.before.before, not3 c.before.before.before.before, not4 c.before.before, sym c.any_unstorable-4.ensures ∙ c.if-any_unstorable-4.true)
+returns-then-any_unstorable-4 c = rw (not1 (goal.at.returns-then-any_unstorable-4 c).Else-is_misshapen, not2 (goal.at.returns-then-any_unstorable-4 c).Else-any_unstorable, not3 (goal.at.returns-then-any_unstorable-4 c).Else-any_unstorable-2, not4 (goal.at.returns-then-any_unstorable-4 c).Else-any_unstorable-3, sym c.any_unstorable-4.ensures ∙ c.if-any_unstorable-4.true)
 
 pub returns-then-is_nan_default : goal.returns-then-is_nan_default
 unfolding fields_number explicit1 misshapen explicit2 explicit3
-returns-then-is_nan_default c = rw (not1 c.before.before.before.before.before.before.before.before.before.before, not2 c.before.before.before.before.before.before.before.before, not3 c.before.before.before.before.before.before, not4 c.before.before.before.before, not5 c.before.before, sym c.is_nan_default.ensures ∙ c.if-is_nan_default.true)
+returns-then-is_nan_default c = rw (not1 (goal.at.returns-then-is_nan_default c).Else-is_misshapen, not2 (goal.at.returns-then-is_nan_default c).Else-any_unstorable, not3 (goal.at.returns-then-is_nan_default c).Else-any_unstorable-2, not4 (goal.at.returns-then-is_nan_default c).Else-any_unstorable-3, not5 (goal.at.returns-then-is_nan_default c).Else-any_unstorable-4, sym c.is_nan_default.ensures ∙ c.if-is_nan_default.true)
 
 pub returns-then-any_not_clip : goal.returns-then-any_not_clip
 unfolding fields_number explicit1 misshapen explicit2 explicit3
-returns-then-any_not_clip c = rw (not1 c.before.before.before.before.before.before.before.before.before.before.before.before, not2 c.before.before.before.before.before.before.before.before.before.before, not3 c.before.before.before.before.before.before.before.before, not4 c.before.before.before.before.before.before, not5 c.before.before.before.before, not6 c.before.before, sym c.any_not_clip.ensures ∙ c.if-any_not_clip.true)
+returns-then-any_not_clip c = rw (not1 (goal.at.returns-then-any_not_clip c).Else-is_misshapen, not2 (goal.at.returns-then-any_not_clip c).Else-any_unstorable, not3 (goal.at.returns-then-any_not_clip c).Else-any_unstorable-2, not4 (goal.at.returns-then-any_not_clip c).Else-any_unstorable-3, not5 (goal.at.returns-then-any_not_clip c).Else-any_unstorable-4, not6 (goal.at.returns-then-any_not_clip c).Else-is_nan_default, sym c.any_not_clip.ensures ∙ c.if-any_not_clip.true)
 
 pub returns : goal.returns
 unfolding fields_number explicit1 misshapen explicit2 explicit3
-returns c = rw (not1 c.before.before.before.before.before.before.before.before.before.before.before.before, not2 c.before.before.before.before.before.before.before.before.before.before, not3 c.before.before.before.before.before.before.before.before, not4 c.before.before.before.before.before.before, not5 c.before.before.before.before, not6 c.before.before, not7 c)
+returns c = rw (not1 (goal.at.returns c).Else-is_misshapen, not2 (goal.at.returns c).Else-any_unstorable, not3 (goal.at.returns c).Else-any_unstorable-2, not4 (goal.at.returns c).Else-any_unstorable-3, not5 (goal.at.returns c).Else-any_unstorable-4, not6 (goal.at.returns c).Else-is_nan_default, not7 c)

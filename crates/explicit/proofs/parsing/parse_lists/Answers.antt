@@ -11,65 +11,46 @@ use Rattle.clip.proofs.Stored.{sorted-is}
 use Rattle.explicit.specs.Parsing.{explicit_fields}
 use Rattle.explicit.proofs.Indices.{clips-indexed}
 use Rattle.explicit.proofs.Acceptance.{fields_fit, fields-clips, explicit-is}
-use Rattle.explicit.proofs.parsing.parse_lists.Goals.{After-check_and_store, After-copy, After-copy-2, After-copy-3, After-copy_clips, After-sort_lists, After-sort_lists-arg-4-1, Start as At-start}
+use Rattle.explicit.proofs.parsing.parse_lists.Goals.{After-check_and_store, After-copy_clips, After-sort_lists-arg-4-1, Start as At-start}
 use Rattle.explicit.proofs.parsing.parse_lists.Goals as goal
 
 abbrev fields : At-start → ExplicitFields
 fields c = explicit_fields c.args.clips c.args.starts.now c.args.numbers.now c.args.xs.now c.args.ys.now c.args.blocks.now c.args.manifest
 
 limits : (c : At-start) → ExplicitLimits (fields c)
-limits c = fields_fit (fields c) c.requires.0
-
--- the copies one after the other, and what comes after them
-abbrev entry : After-copy → At-start
-entry t = t.before.before.before.before.before.before.before.before.before.before.before
-
-abbrev starts-copied : After-copy_clips → After-copy
-starts-copied i = i.before.before.before.before
-
-abbrev clips-copied : After-copy-2 → After-copy_clips
-clips-copied x = x.before.before.before.before
-
-abbrev xs-copied : After-copy-3 → After-copy-2
-xs-copied y = y.before.before.before.before
-
-abbrev ys-copied : After-sort_lists-arg-4-1 → After-copy-3
-ys-copied c = c.before.before.before.before.before.before
-
-abbrev sorted : goal.After-check-and-store-arg4 → After-sort_lists
-sorted c = c.before.before.before.before.before.before.before.before.before.before.before.before
+limits c = fields_fit (fields c) c.requires.fact_1
 
 pub copy_clips-requires : goal.copy_clips-requires
 copy_clips-requires c =
-    let s = entry c.before.before.before in
-    (clips-indexed s.args.clips s.args.numbers.now s.fits.clips.fits (fields-clips (fields s) s.pre.0), s.pre.1.for-indices ∙ (limits s).starts-paired)
+    let s = c in
+    record { fact_1 = clips-indexed s.args.clips s.args.numbers.now s.fits.clips.fits (fields-clips (fields (goal.at.copy_clips-requires s).Start) s.requires.fact_1); fact_2 = s.requires.fact_2.for-indices ∙ (limits (goal.at.copy_clips-requires s).Start).starts-paired }
 
 pub copy-requires-3 : goal.copy-requires-3
-copy-requires-3 c = let s = entry (starts-copied (clips-copied c.before.before.before)) in s.pre.1.for-ys ∙ (limits s).knots-paired
+copy-requires-3 c = let s = entry (starts-copied (goal.at.copy-requires-3 c).After-copy_clips) in s.pre.1.for-ys ∙ (limits s).knots-paired
 
 -- lists of their lengths
-fitting : (c : After-sort_lists-arg-4-1) → let w = ys-copied c in let v = xs-copied w in let k = clips-copied v in let h = starts-copied k in
-    Fitting h.copy.last.1.0 k.copy-clips.last.1.0 v.copy2.last.1.0 w.copy3.last.1.0 (entry h).args.blocks.now
+fitting : (c : After-sort_lists-arg-4-1) → let w = c in let v = w in let k = v in let h = k in
+    Fitting h.copy.last.1.0 k.copy_clips.last.1.0 v.copy-2.last.1.0 w.copy-3.last.1.0 h.args.blocks.now
 fitting c =
-    let w = ys-copied c in
-    let v = xs-copied w in
-    let k = clips-copied v in
-    let h = starts-copied k in
-    let s = entry h in
-    let t = h.copy.kept.1.0 ∙ s.pre.1.for-times in
-    let i = k.copy-clips.kept.1.0 ∙ s.pre.1.for-indices in
-    let x = v.copy2.kept.1.0 ∙ s.pre.1.for-xs in
-    let y = w.copy3.kept.1.0 ∙ s.pre.1.for-ys in
-    let l = limits s in
+    let w = c in
+    let v = w in
+    let k = v in
+    let h = k in
+    let s = h in
+    let t = h.copy.kept.1.0 ∙ s.requires.fact_2.for-times in
+    let i = k.copy_clips.kept.1.0 ∙ s.requires.fact_2.for-indices in
+    let x = v.copy-2.kept.1.0 ∙ s.requires.fact_2.for-xs in
+    let y = w.copy-3.kept.1.0 ∙ s.requires.fact_2.for-ys in
+    let l = limits (goal.at.After-sort_lists-arg-4-1 s).Start in
     record { starts = t ∙ sym i; knots = x ∙ sym y; few-starts = omega arith; few-knots = omega arith; few-blocks = l.blocks }
 
 pub sort_lists-requires : goal.sort_lists-requires
-sort_lists-requires c = let f = fitting c in ((f.starts, omega (arith, f.few-starts)), (f.knots, omega (arith, f.few-knots)))
+sort_lists-requires c = let f = fitting c in record { times_len = (f.starts, omega (arith, f.few-starts)); xs_len = (f.knots, omega (arith, f.few-knots)) }
 
 pub check_and_store-requires : goal.check_and_store-requires
 check_and_store-requires c =
-    let k = (sorted c).sort-lists.auto in
-    let f = fitting (sorted c).before in
+    let k = c.sort_lists.auto in
+    let f = fitting (goal.at.check_and_store-requires c).After-sort_lists-arg-4-1 in
     record {
       starts = k.0 ∙ f.starts ∙ sym k.1.0;
       knots = k.1.1.0 ∙ f.knots ∙ sym k.1.1.1.0;
@@ -80,25 +61,25 @@ check_and_store-requires c =
 
 -- the copy of the clip numbers, from the end
 abbrev numbers-copied : After-check_and_store → After-copy_clips
-numbers-copied c = clips-copied (xs-copied (ys-copied (sorted c.before).before))
+numbers-copied c = clips-copied (xs-copied (ys-copied (goal.at.After-check_and_store c).After-sort_lists-arg-4-1))
 
 pub shape_of-times : goal.shape_of-times
-shape_of-times c = (sorted c.before).sort-lists.auto.0 ∙ (starts-copied (numbers-copied c)).copy.auto.1.0
+shape_of-times c = c.sort_lists.auto.0 ∙ (starts-copied (numbers-copied c)).copy.auto.1.0
 
 pub shape_of-indices : goal.shape_of-indices
-shape_of-indices c = (sorted c.before).sort-lists.auto.1.0 ∙ (numbers-copied c).copy-clips.auto.1.0
+shape_of-indices c = c.sort_lists.auto.1.0 ∙ (numbers-copied c).copy-clips.auto.1.0
 
 pub shape_of-us : goal.shape_of-us
-shape_of-us c = (sorted c.before).sort-lists.auto.1.1.0 ∙ (xs-copied (ys-copied (sorted c.before).before)).copy2.auto.1.0
+shape_of-us c = c.sort_lists.auto.1.1.0 ∙ (xs-copied (ys-copied (goal.at.shape_of-us c).After-sort_lists-arg-4-1)).copy2.auto.1.0
 
 pub shape_of-vs : goal.shape_of-vs
-shape_of-vs c = (sorted c.before).sort-lists.auto.1.1.1.0 ∙ (ys-copied (sorted c.before).before).copy3.auto.1.0
+shape_of-vs c = c.sort_lists.auto.1.1.1.0 ∙ (ys-copied (goal.at.shape_of-vs c).After-sort_lists-arg-4-1).copy3.auto.1.0
 
 pub returns : goal.returns
 returns c =
-    let o = (sorted c.before).sort-lists in
-    let y = (ys-copied (sorted c.before).before).copy3 in
-    let x = (xs-copied (ys-copied (sorted c.before).before)).copy2 in
+    let o = c.sort_lists in
+    let y = (ys-copied (goal.at.returns c).After-sort_lists-arg-4-1).copy3 in
+    let x = (xs-copied (ys-copied (goal.at.returns c).After-sort_lists-arg-4-1)).copy2 in
     let i = (numbers-copied c).copy-clips in
     let t = (starts-copied (numbers-copied c)).copy in
     let r = c.check_and_store in

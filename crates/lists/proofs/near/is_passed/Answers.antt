@@ -14,10 +14,10 @@ held c = subst T (sym c.well_formed.1.1.0.1) tt
 
 pub returns-then-next-times : goal.returns-then-next-times
 returns-then-next-times c =
-    let s = c.before.before in
-    passed_is s.args.t (held s) s.args.times.now s.requires.0 s.args.place (omega arith)
+    let s = c in
+    passed_is s.args.t (held (goal.at.returns-then-next-times s).Start) s.args.times.now s.requires.fact_1 s.args.place (omega arith)
 
 pub returns : goal.returns
 returns c =
-    let s = c.before in
-    not-passed s.args.t (held s) s.args.times.now s.requires.0 s.args.place (omega arith)
+    let s = c in
+    not-passed s.args.t (held (goal.at.returns s).Start) s.args.times.now s.requires.fact_1 s.args.place (omega arith)

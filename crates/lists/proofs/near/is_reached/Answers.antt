@@ -22,5 +22,5 @@ returns-then-place-eq0 c =
 
 pub returns : goal.returns
 returns c =
-    let s = c.before.before in
-    reached-is s.args.t (held s) s.args.times.now s.requires.0 s.args.place c.if-place-eq0.false (omega (arith, s.requires.1))
+    let s = c in
+    reached-is s.args.t (held (goal.at.returns s).Start) s.args.times.now s.requires.fact_1 s.args.place c.if-place-eq0.false (omega (arith, s.requires.fact_2))

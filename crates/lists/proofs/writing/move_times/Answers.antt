@@ -15,11 +15,11 @@ pub loop-i-preserved : goal.loop-i-preserved
 unfolding apply
 loop-i-preserved c =
     let k = c.loop-i in
-    let s = c.before.before.before.before.before in
+    let s = c in
     change-next (apply s.args.o) s.args.times.now k.times k.i nan k.invariant (omega arith)
 
 pub returns : goal.returns
 returns c =
     let k = c.loop-i in
-    let s = c.before.before in
+    let s = c in
     change-end (apply s.args.o) s.args.times.now k.times k.i k.invariant (omega arith)

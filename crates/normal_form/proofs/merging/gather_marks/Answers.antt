@@ -8,10 +8,8 @@ use lib.ListN.{length, get_or, length-set}
 use Rattle.laws.proofs.list.Every.{every-at}
 use Rattle.lists.specs.Placed.{Inside}
 use Rattle.lists.proofs.ByPlaces.{gathered_to, gathered_next, gathered-all}
+use Rattle.normal_form.proofs.merging.gather_marks.Invariants.{at}
 use Rattle.normal_form.proofs.merging.gather_marks.Goals as goal
-
-abbrev at : List ℕ → ℕ → ℕ
-at source i = get_or source i 0
 
 pub loop-i-init : goal.loop-i-init
 loop-i-init c = (omega arith, refl, refl)
@@ -21,7 +19,7 @@ overflow_cast-place c = omega (arith, c.shared_slice_known-1.given c.loop-i.i)
 
 pub bounds-source-place : goal.bounds-source-place
 bounds-source-place c =
-    let e = c.before.before.before.before in
+    let e = c in
     every-at (Inside e.args.source.now) e.args.places.now c.loop-i.i 0 e.requires.0 (omega arith)
 
 pub loop-i-preserved : goal.loop-i-preserved

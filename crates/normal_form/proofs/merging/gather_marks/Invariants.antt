@@ -10,6 +10,10 @@ use Rattle.lists.specs.Placed.{Inside}
 use Rattle.lists.proofs.ByPlaces.{gathered_to, gathered_next, gathered-all}
 use Rattle.normal_form.proofs.merging.gather_marks.Given as goal
 
+-- `normal_form::merging::gather_marks` meets its contract: the first i slots are written, and the others as they were. Assumes nothing.
+abbrev pub at : List ℕ → ℕ → ℕ
+at source i = get_or source i 0
+
 abbrev pub invariant-loop-i : goal.invariant-loop-i
 invariant-loop-i l = (l.i ≤ length l.places) × (length l.out ≡ length l.initial.out) × (l.out ≡ gathered_to (at l.source) l.places l.initial.out l.i)
 

@@ -11,12 +11,12 @@ use Rattle.normal_form.proofs.merging.normalize_into.Goals as goal
 
 pub order-requires : goal.order-requires
 order-requires c =
-    let e = c.before.before.before.before.before.before.before.before.before.before.before in
+    let e = c in
     (storable _ _ _ e.requires.0, (long _ _ _ e.requires.0).0, e.requires.1.places-long, e.requires.1.first-long)
 
 pub runs-at-requires : goal.runs-at-requires
 runs-at-requires c =
-    let e = c.before.before.before.before.before.before.before.before.before.before.before.before.before.before.before.before.before.before.before in
+    let e = c in
     let t = e.args.times.now in
     let o = c.order in
     let n = ap length o.ensures ∙ order-length t in

@@ -14,37 +14,37 @@ lent e = outputs e.args.outtimes.now e.args.outvalues.now e.args.outmarks.now
 
 pub returns-then-outtimes-count : goal.returns-then-outtimes-count
 returns-then-outtimes-count c =
-    let e = c.before.before.before.before.before.before.before.before.before in
-    no_room _ _ _ _ _ e.requires (lent e) (short-times (lent e) (length e.args.firsts.now) c.if-outtimes-count.true)
+    let e = c in
+    no_room _ _ _ _ _ e.requires (lent (goal.at.returns-then-outtimes-count e).Start) (short-times (lent (goal.at.returns-then-outtimes-count e).Start) (length e.args.firsts.now) c.if-outtimes-count.true)
 
 pub returns-then-outvalues-count : goal.returns-then-outvalues-count
 returns-then-outvalues-count c =
-    let e = c.before.before.before.before.before.before.before.before.before.before in
-    no_room _ _ _ _ _ e.requires (lent e) (short-values (lent e) (length e.args.firsts.now) c.if-outvalues-count.true)
+    let e = c in
+    no_room _ _ _ _ _ e.requires (lent (goal.at.returns-then-outvalues-count e).Start) (short-values (lent (goal.at.returns-then-outvalues-count e).Start) (length e.args.firsts.now) c.if-outvalues-count.true)
 
 pub returns-then-outmarks-count : goal.returns-then-outmarks-count
 returns-then-outmarks-count c =
-    let e = c.before.before.before.before.before.before.before.before.before.before.before in
-    no_room _ _ _ _ _ e.requires (lent e) (short-marks (lent e) (length e.args.firsts.now) c.if-outmarks-count.true)
+    let e = c in
+    no_room _ _ _ _ _ e.requires (lent (goal.at.returns-then-outmarks-count e).Start) (short-marks (lent (goal.at.returns-then-outmarks-count e).Start) (length e.args.firsts.now) c.if-outmarks-count.true)
 
 pub gather-requires : goal.gather-requires
 gather-requires c =
-    let e = c.before.before.before.before.before.before.before.before.before.before.before.before in
+    let e = c in
     (first-inside _ _ _ _ _ e.requires, omega arith)
 
 pub gather-requires-2 : goal.gather-requires-2
 gather-requires-2 c =
-    let e = c.before.before.before.before.before.before.before.before.before.before.before.before.before.before.before.before in
+    let e = c in
     (last-values _ _ _ _ _ e.requires, omega (arith, first-length _ _ _ _ _ e.requires, last-length _ _ _ _ _ e.requires))
 
 pub gather_marks-requires : goal.gather_marks-requires
 gather_marks-requires c =
-    let e = c.before.before.before.before.before.before.before.before.before.before.before.before.before.before.before.before.before.before.before.before in
+    let e = c in
     (last-marks _ _ _ _ _ e.requires, omega (arith, first-length _ _ _ _ _ e.requires, last-length _ _ _ _ _ e.requires))
 
 pub returns : goal.returns
 returns c =
-    let e = c.before.before.before.before.before.before.before.before.before.before.before.before.before.before.before.before.before.before.before.before.before.before.before in
-    let k = c.before.before.before.before.before.before.before.before.before.before.before.before in
-    written _ _ _ _ _ e.requires (lent e) _ _ _ k.if-outtimes-count.false k.if-outvalues-count.false k.if-outmarks-count.false
+    let e = c in
+    let k = c in
+    written _ _ _ _ _ e.requires (lent (goal.at.returns e).Start) _ _ _ k.if-outtimes-count.false k.if-outvalues-count.false k.if-outmarks-count.false
     c.gather.ensures c.gather-2.ensures c.gather_marks.ensures

@@ -36,7 +36,7 @@ use Rattle.pages.proofs.placing.enter.Goals as goal
 -- what stands once the shape is written
 pub insert_by_name-requires : goal.insert_by_name-requires
 insert_by_name-requires c =
-    let k = c.before.before.before.before.before.before.before.before.before.before.before.before in
+    let k = c in
     let s = entry k in
     (subst (λ (l : List ℕ). NamePages l (suc s.args.n)) (sym c.store_name.ensures) (pages-named k), (s.pre.few, (omega (arith, s.pre.few, sixteen k), numbers-below k)))
 
@@ -56,7 +56,7 @@ module _ (c : After-insert_by_name) where
 
 pub shape_of-counts : goal.shape_of-counts
 shape_of-counts c =
-    let k = c.before.before in
+    let k = c in
     let b = before k in
     let s = entry b in
     length-set (take 65 (shaped b) ++ (order k ++ drop 16 (drop 65 (shaped b)))) 0 (s.args.n + 1)
@@ -67,7 +67,7 @@ shape_of-counts c =
 
 pub returns : goal.returns
 returns c =
-    let k = c.before.before in
+    let k = c in
     let b = before k in
     let s = entry b in
     record {

@@ -37,11 +37,11 @@ module _ (s : tie.Start) where
 use Rattle.pages.proofs.placing.move_set.Goals as goal
 
 pub retime-requires : goal.retime-requires
-retime-requires c = let s = c.before.before.before.before.before.before.before.before.before.before in subst Made (sym (lent-is s)) s.requires.1.1
+retime-requires c = let s = c in subst Made (sym (lent-is s)) s.requires.fact_3
 
 pub returns : goal.returns
 returns c =
-    let s = c.before.before.before.before.before.before.before.before.before.before.before.before.before.before.before.before.before.before.before.before.before in
+    let s = c in
     let k = c.retime in
     let w = k.ensures.made.whole in
     let a = s.args.i * 256 in

@@ -21,22 +21,19 @@ use Rattle.pages.proofs.placing.put_set.Goals as goal
 
 pub install-requires : goal.install-requires
 install-requires c =
-    let s = c.before.before.before.before.before.before.before.before.before.before.before in
+    let s = c in
     let a = s.args.i * 256 in
-    let b = s.args.i * 512 in (
-      (c.fresh.ensures _ _ _ _ _ (record {
+    let b = s.args.i * 512 in record { made = (c.fresh.ensures _ _ _ _ _ (record {
         of-starts = lent-long a 256 s.args.starts.now (in-starts s);
         of-numbers = lent-long a 256 s.args.numbers.now (in-numbers s);
         of-xs = lent-long b 512 s.args.xs.now (in-xs s);
         of-ys = lent-long b 512 s.args.ys.now (in_ys s);
         of_blocks = lent-long a 256 s.args.blocks.now (in_blocks s);
-      })).made,
-      s.requires.1.1,
-    )
+      })).made; made_set = s.requires.fact_3 }
 
 pub returns : goal.returns
 returns c =
-    let s = c.before.before.before.before.before.before.before.before.before.before.before.before.before.before.before.before.before.before.before.before.before.before in
+    let s = c in
     let k = c.install in
     let w = k.ensures.made.whole in
     let a = s.args.i * 256 in

@@ -13,11 +13,11 @@ loop-i-init c = (fill_start c.args.from.now c.args.to.now (omega arith), c.requi
 pub loop-i-preserved : goal.loop-i-preserved
 loop-i-preserved c =
     let k = c.loop-i in
-    let s = c.before.before.before in
+    let s = c in
     (fill-next s.args.from.now k.to k.i _ 0 k.invariant.0 (omega arith) refl, length-set k.to k.i _ ∙ k.invariant.1)
 
 pub returns : goal.returns
 returns c =
     let k = c.loop-i in
-    let s = c.before.before in
+    let s = c in
     fill-whole s.args.from.now k.to k.i k.invariant.0 (omega arith) k.invariant.1

@@ -31,18 +31,18 @@ bounds-bytes-at c = let s = entry c.before.before in omega (arith, put-long c.be
 
 pub bounds-bytes-i : goal.bounds-bytes-i
 bounds-bytes-i c =
-    let k = c.before.before.before in
+    let k = c in
     let s = entry k in
     omega (arith, put-long k, length-set (put k) (s.args.i * 256) (length s.args.name.now), s.pre.1.0)
 
 pub shape_of-bytes : goal.shape_of-bytes
 shape_of-bytes c =
-    let k = c.before.before.before in
+    let k = c in
     let s = entry k in
     length-set (set (put k) (s.args.i * 256) (length s.args.name.now)) (4128 + s.args.i) c.bit_of.result ∙ length-set (put k) (s.args.i * 256) (length s.args.name.now) ∙ put-long k ∙ sym s.pre.0
 
 pub returns : goal.returns
 returns c =
-    let k = c.before.before.before in
+    let k = c in
     let s = entry k in
     ap₂ (λ (l : List ℕ) (b : ℕ). set (set l (s.args.i * 256) (length s.args.name.now)) (4128 + s.args.i) b) (put_is k) c.bit_of.ensures

@@ -20,7 +20,7 @@ module _ (s : At-start) where
   two = set one (17 + s.args.i) s.args.shape.counts.starts
 
   long-1 : length one ≡ 81
-  long-1 = length-set s.args.counts.now (1 + s.args.i) s.args.shape.clips ∙ s.pre.0.of-counts
+  long-1 = length-set s.args.counts.now (1 + s.args.i) s.args.shape.clips ∙ s.requires.fact_1.of-counts
 
   long-2 : length two ≡ 81
   long-2 = length-set one (17 + s.args.i) s.args.shape.counts.starts ∙ long-1
@@ -36,10 +36,10 @@ bounds-counts-i-4 c = let s = entry c in omega (arith, long-2 s, length-set (two
 
 pub bounds-bytes-i-2 : goal.bounds-bytes-i-2
 bounds-bytes-i-2 c =
-    let s = entry c.before in
+    let s = entry (goal.at.bounds-bytes-i-2 c).After-entries-1 in
     omega (arith, length-set s.args.bytes.now (4096 + s.args.i) s.args.shape.manifest.default.mark, s.pre.0.of-bytes, s.pre.1)
 
 pub returns : goal.returns
 returns c =
-    let s = entry c.before in
+    let s = entry (goal.at.returns c).After-entries-1 in
     record { defaults-after = refl; counts-after = refl; bytes_after = ap (λ (b : ℕ). set (set s.args.bytes.now (4096 + s.args.i) s.args.shape.manifest.default.mark) (4112 + s.args.i) b) c.bit_of.ensures }

@@ -11,8 +11,8 @@ use Rattle.run.proofs.begin.last_before.Goals as goal
 
 pub returns-then-h-ceil : goal.returns-then-h-ceil
 returns-then-h-ceil c =
-    let i = c.before in
-    let sp = i.before.before in
+    let i = c in
+    let sp = i in
     let a = c.args in
     let k : Knot × Knot = (a.s.a, a.s.b) in (
       subst (λ (h : Float). In h (on_segment a.cs.now k)) (sym i.stage_time-h.ensures) (in-segment a.cs.now k _ sp.if-i-cs.true (holds _ (sym sp.spans.ensures ∙ i.if-spans.true))),

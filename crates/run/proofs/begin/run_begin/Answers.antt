@@ -18,25 +18,22 @@ passed : (b : Bool) → not b ≡ false → b ≡ true
 passed true e = refl
 passed false e = absurd (false≢true (sym e))
 
-abbrev entry : Else-not-is_between → At-start
-entry c = c.before.before.before.before.before.before.before.before
-
 fits-max : (a : At-start) → T (fits binary64 a.args.w.max)
 fits-max a = search rules
 
-on : (c : Else-not-is_between) → OnSegment (entry c).args.xs.now (entry c).args.t c.last_at_most_near-i.result
+on : (c : Else-not-is_between) → OnSegment c.args.xs.now c.args.t c.last_at_most_near-i.result
 on c = on-between _ _ _ (sym c.is_between.ensures ∙ passed c.is_between.result c.if-not-is_between.false)
 
 pub last_in-requires : goal.last_in-requires
 last_in-requires c =
-    let e = c.before in
-    let a = entry e in
-    (a.pre.0.knots, (a.pre.0.paired, ((on e).place, (le-no-nan a.args.t a.args.w.max (lt→le a.args.t a.args.w.max a.pre.0.upto)).1)))
+    let e = c in
+    let a = e in
+    record { ascending_1 = a.requires.nearing_1.knots; ascending_2 = a.requires.nearing_1.paired; ascending_3 = (on (goal.at.last_in-requires e).Else-not-is_between).place; t = (le-no-nan a.args.t a.args.w.max (lt→le a.args.t a.args.w.max a.requires.nearing_1.upto)).1 }
 
 pub returns : goal.returns
 returns c =
-    let e = c.before.before.before.before.before.before.before.before.before.before in
-    let a = entry e in
+    let e = c in
+    let a = e in
     let g = c.h-1.given in
     let l = c.lower-1.given in
     let s = samples_in a.args.times.now a.args.w in
@@ -44,10 +41,10 @@ returns c =
     let ahead = c.is_below.ensures (passed c.is_below.result c.if-not-is_below.false) in (
       omega (arith, c.if-end-begin.false),
       record {
-        nears = a.pre.0;
-        least = a.pre.1.1;
-        most = fits-max a;
-        here = on e;
+        nears = a.requires.nearing_1;
+        least = a.requires.fact;
+        most = fits-max (goal.at.returns a).Start;
+        here = on (goal.at.returns e).Else-not-is_between;
         begun = ahead.0;
         lower = subst (LowerIs (window_times a.args.xs.now a.args.ys.now s a.args.w) a.args.t) l.1 c.neighbours_in-near.ensures.lower;
         past = c.is_past.ensures (passed c.is_past.result c.if-not-is_past.false);

@@ -6,21 +6,18 @@ use Rattle.cell.specs.step.Lines.{line_is, place_on}
 use Rattle.run.specs.Readings.{entry_at}
 use Rattle.run.proofs.Readings.{place-slots}
 use borrow.Author.Rules.{rules}
-use Rattle.run.proofs.inside.entry_along.Goals.{After-last_at_most_near-place, Start as At-start}
+use Rattle.run.proofs.inside.entry_along.Goals.{After-last_at_most_near-place}
 use Rattle.run.proofs.inside.entry_along.Goals as goal
 
-abbrev entry : After-last_at_most_near-place → At-start
-entry c = c.before.before.before.before.before.before
-
 -- the place that is read
-place : (c : After-last_at_most_near-place) → c.last_at_most_near-place.result ≡ place_on (entry c).args.cs.now (entry c).args.line (entry c).args.k
+place : (c : After-last_at_most_near-place) → c.last_at_most_near-place.result ≡ place_on c.args.cs.now c.args.line c.args.k
 unfolding place_on
 place c =
-    let a = (entry c).args in
+    let a = c.args in
     c.last_at_most_near-place.ensures ∙ ap (last_at_most a.cs.now) (c.along.ensures ∙ ap (Knots.along (line_is a.line)) c.of_key.ensures)
 
 pub entry_of_sample-requires : goal.entry_of_sample-requires
-entry_of_sample-requires c = let a = entry c in place-slots a.pre.0 a.args.line c.last_at_most_near-place.result a.args.k (place c)
+entry_of_sample-requires c = let a = c in place-slots a.requires.reads a.args.line c.last_at_most_near-place.result a.args.k (place c)
 
 pub returns : goal.returns
-returns c = let a = (entry c.before).args in c.entry_of_sample.ensures ∙ ap (entry_at a.vs.now a.ms.now) (place c.before)
+returns c = let a = c.args in c.entry_of_sample.ensures ∙ ap (entry_at a.vs.now a.ms.now) (place (goal.at.returns c).After-last_at_most_near-place)

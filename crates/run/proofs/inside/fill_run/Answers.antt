@@ -17,7 +17,7 @@ use Rattle.run.proofs.Runs.{begins}
 use Rattle.run.proofs.Between.{stays, passed_reads, passed-reaches}
 use Rattle.run.proofs.Filling.{Long}
 use Rattle.run.proofs.Walking.{stands-first, stands-long, stands-room, stands-level, stands-next, stands-full, full, walked_all, walked-full}
-use Rattle.run.proofs.inside.fill_run.Goals.{After-offer-behind, After-slice_known-in-loop-m-3-1, At-loop-m, In-At-2, In_default, Start as At-start, Then-room-behind}
+use Rattle.run.proofs.inside.fill_run.Goals.{After-offer-behind, In-At-2, In_default, Start as At-start, Then-room-behind}
 use Rattle.run.proofs.inside.fill_run.Goals as goal
 
 -- from the function's entry: the segment, what is asked, what is read, the outputs
@@ -31,88 +31,69 @@ abbrev Asks : At-start → Float → Type 0
 Asks a floor = Passing a.args.cs.now a.args.vs.now a.args.ms.now (q a) floor (entry_is a.args.last) a.args.k a.args.hi
 
 -- of some floor; what needs no floor is told by that
-asked : (a : At-start) → Asks a a.requires.0.floor
-asked a = a.requires.0.passing
+asked : (a : At-start) → Asks a a.requires.passing_on.floor
+asked a = a.requires.passing_on.passing
 
 abbrev outs : At-start → Outputs
 outs a = outputs a.args.outtimes.now a.args.outvalues.now a.args.outmarks.now
 
 room : (a : At-start) → Room a.args.room a.args.slot (outs a)
-room a = a.requires.1
+room a = a.requires.room
 
--- at the loop's head: the function's entry
-abbrev entry : At-loop-m → At-start
-entry b = b.before.before.before.before.before.before.before.before.before
-
--- the end
-abbrev end : In_default → At-loop-m
-end c = c.before.before.before
-
-ended : (c : In_default) (f : Float) → Asks (entry (end c)) f → Stands (w (entry (end c)) f) (entry (end c)).args.k (entry (end c)).args.room (entry (end c)).args.slot (outs (entry (end c))) (outputs (end c).loop.outtimes (end c).loop.outvalues (end c).loop.outmarks) (entry (end c)).args.hi (entry_is (end c).loop.held) (end c).loop.count
+ended : (c : In_default) (f : Float) → Asks (entry (goal.at.In_default c).At-loop-m) f → Stands (w (entry (goal.at.In_default c).At-loop-m) f) (entry (goal.at.In_default c).At-loop-m).args.k (entry (goal.at.In_default c).At-loop-m).args.room (entry (goal.at.In_default c).At-loop-m).args.slot (outs (entry (goal.at.In_default c).At-loop-m)) (outputs c.loop-m.outtimes c.loop-m.outvalues c.loop-m.outmarks) (entry (goal.at.In_default c).At-loop-m).args.hi (entry_is c.loop-m.held) c.loop-m.count
 ended c f P =
-    let b = end c in
-    let a = entry b in
-    let S = b.loop.inv.2 f P in
-    let l : NextInRunIs a.args.cs.now (q a) b.loop.place b.loop.at a.args.hi Nothing = subst (λ (r : NextInRun). NextInRunIs a.args.cs.now (q a) b.loop.place b.loop.at a.args.hi r) c.in_default.is (c.next_in_run.ensures b.loop.at b.loop.inv.1) in
-    stands-level (w a f) a.args.k a.args.room a.args.slot (outs a) (room a) S b.loop.inv.0 (stays P b.loop.at a.args.hi S.from (omega arith) l)
+    let b = c in
+    let a = b in
+    let S = b.loop-m.inv.2 f P in
+    let l : NextInRunIs a.args.cs.now (q (goal.at.In_default a).Start) b.loop-m.place b.loop-m.at a.args.hi Nothing = subst (λ (r : NextInRun). NextInRunIs a.args.cs.now (q (goal.at.In_default a).Start) b.loop-m.place b.loop-m.at a.args.hi r) c.in_default.is (c.next_in_run.ensures b.loop-m.at b.loop-m.inv.1) in
+    stands-level (w (goal.at.In_default a).Start f) a.args.k a.args.room a.args.slot (outs (goal.at.In_default a).Start) (room (goal.at.In_default a).Start) S b.loop-m.inv.0 (stays P b.loop-m.at a.args.hi S.from (omega arith) l)
 
--- a further inverse time
-abbrev loop : In-At-2 → At-loop-m
-loop c = c.before.before.before
-
-found : (c : In-At-2) → InRunAt (entry (loop c)).args.cs.now (q (entry (loop c))) (loop c).loop.place (loop c).loop.at (entry (loop c)).args.hi c.in-At.m c.in-At.i c.in-At.next
-found c = let b = loop c in subst (λ (r : NextInRun). NextInRunIs (entry b).args.cs.now (q (entry b)) b.loop.place b.loop.at (entry b).args.hi r) c.in-At.is (c.next_in_run.ensures b.loop.at b.loop.inv.1)
-
--- the change that was offered
-abbrev stepped : After-slice_known-in-loop-m-3-1 → After-offer-behind
-stepped c = c.before.before.before.before.before.before
-
-abbrev step : After-offer-behind → In-At-2
-step c = c.before.before.before.before.before.before
+found : (c : In-At-2) → InRunAt (entry (goal.at.In-At-2 c).At-loop-m).args.cs.now (q (entry (goal.at.In-At-2 c).At-loop-m)) c.loop-m.place c.loop-m.at (entry (goal.at.In-At-2 c).At-loop-m).args.hi c.in-At.m c.in-At.i c.in-At.next
+found c = let b = c in subst (λ (r : NextInRun). NextInRunIs b.args.cs.now (q (goal.at.In-At-2 b).Start) b.loop-m.place b.loop-m.at b.args.hi r) c.in-At.is (c.next_in_run.ensures b.loop-m.at b.loop-m.inv.1)
 
 abbrev after : After-offer-behind → Outputs
-after c = let o = c.offer.new.1.1.1.1.1 in outputs o.0 o.1.0 o.1.1.0
+after c = let o = c.offer-behind.new.1.1.1.1.1 in outputs o.0 o.1.0 o.1.1.0
 
-there : (c : After-offer-behind) (f : Float) → Asks (entry (loop (step c))) f → entry_is c.entry_along-entry.result ≡ w (entry (loop (step c))) f (step c).m.given.0.0
+there : (c : After-offer-behind) (f : Float) → Asks (entry (loop (goal.at.After-offer-behind c).In-At-2)) f → entry_is c.entry_along-entry.result ≡ w (entry (loop (goal.at.After-offer-behind c).In-At-2)) f c.in-At.m
 there c f P =
-    let b = loop (step c) in
-    c.entry_along-entry.ensures ∙ sym (passed_reads P (b.loop.inv.2 f P).from (found (step c)))
+    let b = loop (goal.at.After-offer-behind c).In-At-2 in
+    c.entry_along-entry.ensures ∙ sym (passed_reads P (b.loop.inv.2 f P).from (found (goal.at.After-offer-behind c).In-At-2))
 
 -- without room for it
-refused : (c : Then-room-behind) → let g = stepped c.before in let b = loop (step g) in let a = entry b in
-    (f : Float) → Asks a f → Stands (w a f) a.args.k a.args.room a.args.slot (outs a) (after g) b.loop.at (entry_is b.loop.held) b.loop.count
+refused : (c : Then-room-behind) → let g = c in let b = loop (goal.at.Then-room-behind g).In-At-2 in let a = b in
+    (f : Float) → Asks a f → Stands (w a f) a.args.k a.args.room a.args.slot (outs a) (after (goal.at.Then-room-behind g).After-offer-behind) b.loop.at (entry_is b.loop.held) b.loop.count
 refused c f P =
-    let g = stepped c.before in
-    let b = loop (step g) in
-    let a = entry b in
+    let g = c in
+    let b = loop (goal.at.Then-room-behind g).In-At-2 in
+    let a = b in
     let S = b.loop.inv.2 f P in
-    stands-full (w a f) a.args.k a.args.room a.args.slot (outs a) (room a) S (passed-reaches P S.from (found (step g))) (there g f P) g.offer.ensures c.if-room-behind.true
+    stands-full (w a f) a.args.k a.args.room a.args.slot (outs a) (room a) S (passed-reaches P S.from (found (goal.at.Then-room-behind g).In-At-2)) (there (goal.at.Then-room-behind g).After-offer-behind f P) g.offer-behind.ensures c.if-room-behind.true
 
-long : (c : Then-room-behind) → Long (outs (entry (loop (step (stepped c.before))))) (after (stepped c.before))
-long c = let a = entry (loop (step (stepped c.before))) in let f = a.pre.0.floor in stands-long (w a f) a.args.k a.args.room a.args.slot (outs a) (room a) (refused c f (asked a))
+long : (c : Then-room-behind) → Long (outs (entry (loop (goal.at.Then-room-behind c).In-At-2))) (after (goal.at.Then-room-behind c).After-offer-behind)
+long c = let a = entry (loop (goal.at.Then-room-behind c).In-At-2) in let f = a.pre.0.floor in stands-long (w a f) a.args.k a.args.room a.args.slot (outs a) (room a) (refused c f (asked a))
 
-long-end : (c : In_default) → Long (outs (entry (end c))) (outputs (end c).loop.outtimes (end c).loop.outvalues (end c).loop.outmarks)
-long-end c = let a = entry (end c) in let f = a.pre.0.floor in stands-long (w a f) a.args.k a.args.room a.args.slot (outs a) (room a) (ended c f (asked a))
+long-end : (c : In_default) → Long (outs (entry (goal.at.In_default c).At-loop-m)) (outputs c.loop-m.outtimes c.loop-m.outvalues c.loop-m.outmarks)
+long-end c = let a = entry (goal.at.In_default c).At-loop-m in let f = a.pre.0.floor in stands-long (w a f) a.args.k a.args.room a.args.slot (outs a) (room a) (ended c f (asked a))
 
 pub of_key-requires : goal.of_key-requires
-of_key-requires c = let K = (asked c.before.before.before.before.before.before).keys in (K.low, omega (arith, K.order, K.high))
+of_key-requires c = let K = (asked (goal.at.of_key-requires c).Start).keys in (K.low, omega (arith, K.order, K.high))
 
 pub crossing-place-requires : goal.crossing-place-requires
 crossing-place-requires c = tt
 
 pub loop-m-init : goal.loop-m-init
 loop-m-init c =
-    let a = c.before.before.before.before.before.before.before.before in
-    let R = asked a in
+    let a = c in
+    let R = asked (goal.at.loop-m-init a).Start in
     let K = R.keys in
-    let U = subst (λ (t : Float). Crossing (is_beyond t (q a)) a.args.cs.now c.crossing-place.result) c.of_key.ensures c.crossing-place.ensures in (
+    let U = subst (λ (t : Float). Crossing (is_beyond t (q (goal.at.loop-m-init a).Start)) a.args.cs.now c.crossing-place.result) c.of_key.ensures c.crossing-place.ensures in (
       K.order,
-      begins a.args.cs.now R.reads.ascending (q a) R.segment a.args.k c.crossing-place.result K.low (omega (arith, K.order, K.high)) U,
-      λ f P. stands-first (w a f) a.args.k a.args.room a.args.slot (outs a) (room a) (entry_is a.args.last) P.last,
+      begins a.args.cs.now R.reads.ascending (q (goal.at.loop-m-init a).Start) R.segment a.args.k c.crossing-place.result K.low (omega (arith, K.order, K.high)) U,
+      λ f P. stands-first (w (goal.at.loop-m-init a).Start f) a.args.k a.args.room a.args.slot (outs (goal.at.loop-m-init a).Start) (room (goal.at.loop-m-init a).Start) (entry_is a.args.last) P.last,
     )
 
 pub next_in_run-requires : goal.next_in_run-requires
-next_in_run-requires c = let R = asked (entry c) in (R.segment, (R.reads.ascending, record { key = c.loop-m.at; here = c.loop-m.invariant.1 }))
+next_in_run-requires c = let R = asked (goal.at.next_in_run-requires c).Start in record { sound_segment_1 = R.segment; sound_segment_2 = R.reads.ascending; place_in_run = record { key = c.loop-m.at; here = c.loop-m.invariant.1 } }
 
 pub shape_of-outtimes-in_default : goal.shape_of-outtimes-in_default
 shape_of-outtimes-in_default c = (long-end c).times
@@ -128,22 +109,22 @@ returns-in_default c = λ f P. walked_all (ended c f P) refl
 
 pub entry_along-entry-requires : goal.entry_along-entry-requires
 entry_along-entry-requires c =
-    let b = loop c.before in
-    let R = asked (entry b) in
-    let p = found c.before in
-    let l = (b.loop.inv.2 _ R).from in
-    (R.reads, (omega (arith, R.keys.low, l, p.from), omega (arith, R.keys.high, p.within)))
+    let b = c in
+    let R = asked (goal.at.entry_along-entry-requires b).Start in
+    let p = found (goal.at.entry_along-entry-requires c).In-At-2 in
+    let l = (b.loop-m.inv.2 _ R).from in
+    record { reads = R.reads; le_k = (omega (arith, R.keys.low, l, p.from), omega (arith, R.keys.high, p.within)) }
 
 pub offer-behind-requires : goal.offer-behind-requires
 offer-behind-requires c =
     let p = c in
-    let b = loop p in
-    let a = entry b in
-    let K = (asked a).keys in
-    let f = found p in
-    let S = b.loop.inv.2 _ (asked a) in
+    let b = p in
+    let a = b in
+    let K = (asked (goal.at.offer-behind-requires a).Start).keys in
+    let f = found (goal.at.offer-behind-requires p).In-At-2 in
+    let S = b.loop-m.inv.2 _ (asked (goal.at.offer-behind-requires a).Start) in
     let l = S.from in
-    ((omega (arith, K.low, l, f.from), omega (arith, K.high, f.within)), stands-room (w a a.pre.0.floor) a.args.k a.args.room a.args.slot (outs a) (room a) S)
+    record { le_k = (omega (arith, K.low, l, f.from), omega (arith, K.high, f.within)); room = stands-room (w (goal.at.offer-behind-requires a).Start a.requires.passing_on.floor) a.args.k a.args.room a.args.slot (outs (goal.at.offer-behind-requires a).Start) (room (goal.at.offer-behind-requires a).Start) S }
 
 pub shape_of-outtimes-then-room-behind : goal.shape_of-outtimes-then-room-behind
 shape_of-outtimes-then-room-behind c = (long c).times
@@ -156,22 +137,22 @@ shape_of-outmarks-then-room-behind c = (long c).marks
 
 pub returns-then-room-behind : goal.returns-then-room-behind
 returns-then-room-behind c = λ f P.
-    let g = stepped c.before in
-    let b = loop (step g) in
-    let a = entry b in
-    let p = found (step g) in
+    let g = c in
+    let b = loop (goal.at.returns-then-room-behind g).In-At-2 in
+    let a = b in
+    let p = found (goal.at.returns-then-room-behind g).In-At-2 in
     let S = b.loop.inv.2 f P in
     walked-full (refused c f P) b.loop.inv.0
-    (full (w a f) a.args.k a.args.room a.args.slot (outs a) (room a) S (passed-reaches P S.from p) (there g f P) g.offer.ensures p.within c.if-room-behind.true)
+    (full (w a f) a.args.k a.args.room a.args.slot (outs a) (room a) S (passed-reaches P S.from p) (there (goal.at.returns-then-room-behind g).After-offer-behind f P) g.offer-behind.ensures p.within c.if-room-behind.true)
 
 pub loop-m-smaller : goal.loop-m-smaller
-loop-m-smaller c = (found (step (stepped c.before))).less
+loop-m-smaller c = (found (goal.at.loop-m-smaller c).In-At-2).less
 
 pub loop-m-preserved : goal.loop-m-preserved
 loop-m-preserved c =
-    let g = stepped c.before in
-    let b = loop (step g) in
-    let a = entry b in
-    let p = found (step g) in
+    let g = c in
+    let b = loop (goal.at.loop-m-preserved g).In-At-2 in
+    let a = b in
+    let p = found (goal.at.loop-m-preserved g).In-At-2 in
     let h = c.if-room-behind.false in
-    (p.within, p.place, λ f P. let S = b.loop.inv.2 f P in stands-next (w a f) a.args.k a.args.room a.args.slot (outs a) (room a) S (passed-reaches P S.from p) (there g f P) g.offer.ensures (omega arith))
+    (p.within, p.place, λ f P. let S = b.loop.inv.2 f P in stands-next (w a f) a.args.k a.args.room a.args.slot (outs a) (room a) S (passed-reaches P S.from p) (there (goal.at.loop-m-preserved g).After-offer-behind f P) g.offer-behind.ensures (omega arith))

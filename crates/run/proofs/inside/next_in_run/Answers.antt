@@ -15,35 +15,35 @@ q a = (a.args.s.a, a.args.s.b)
 
 pub sample_in_run-requires : goal.sample_in_run-requires
 sample_in_run-requires c =
-    let n = c.before.before in
-    let u = n.before in
-    let a = u.before.before in
-    (a.requires.0, (a.requires.1.0, (n.if-n-cs.true, span-up a.args.cs.now a.requires.1.0 (q a) a.requires.0 a.args.n a.requires.1.1.key a.args.hi a.requires.1.1.here (holds _ u.if-ca-cb.true) n.if-n-cs.true (holds _ c.if-cs-n.true))))
+    let n = c in
+    let u = n in
+    let a = u in
+    record { sound_segment_1 = a.requires.sound_segment_1; sound_segment_2 = a.requires.sound_segment_2; i_in_bounds_1 = n.if-n-cs.true; i_in_bounds_2 = span-up a.args.cs.now a.requires.sound_segment_2 (q (goal.at.sample_in_run-requires a).Start) a.requires.sound_segment_1 a.args.n a.requires.place_in_run.key a.args.hi a.requires.place_in_run.here (holds _ u.if-ca-cb.true) n.if-n-cs.true (holds _ c.if-cs-n.true) }
 
 pub returns-then-cs-n : goal.returns-then-cs-n
 returns-then-cs-n c = λ k P.
-    let h = c.before in
-    let n = h.before.before in
-    let u = n.before in
-    let a = u.before.before in
-    step-up a.args.cs.now a.requires.1.0 (q a) a.requires.0 a.args.n k a.args.hi P (holds _ u.if-ca-cb.true) n.if-n-cs.true (holds _ h.if-cs-n.true) c.sample_in_run.result c.sample_in_run.ensures
+    let h = c in
+    let n = h in
+    let u = n in
+    let a = u in
+    step-up a.args.cs.now a.requires.sound_segment_2 (q (goal.at.returns-then-cs-n a).Start) a.requires.sound_segment_1 a.args.n k a.args.hi P (holds _ u.if-ca-cb.true) n.if-n-cs.true (holds _ h.if-cs-n.true) c.sample_in_run.result c.sample_in_run.ensures
 
 pub returns-else-cs-n : goal.returns-else-cs-n
 returns-else-cs-n c = λ k P.
-    let n = c.before.before in
-    let u = n.before in
-    let a = u.before.before in
-    over-end a.args.cs.now a.requires.1.0 (q a) a.requires.0 a.args.n k a.args.hi P (holds _ u.if-ca-cb.true) n.if-n-cs.true c.if-cs-n.false
+    let n = c in
+    let u = n in
+    let a = u in
+    over-end a.args.cs.now a.requires.sound_segment_2 (q (goal.at.returns-else-cs-n a).Start) a.requires.sound_segment_1 a.args.n k a.args.hi P (holds _ u.if-ca-cb.true) n.if-n-cs.true c.if-cs-n.false
 
 pub returns-else-n-cs : goal.returns-else-n-cs
 returns-else-n-cs c = λ k P.
-    let u = c.before in
-    let a = u.before.before in
+    let u = c in
+    let a = u in
     let h = c.if-n-cs.false in
-    end-up a.args.cs.now a.requires.1.0 (q a) a.requires.0 a.args.n k a.args.hi P (holds _ u.if-ca-cb.true) (omega arith)
+    end-up a.args.cs.now a.requires.sound_segment_2 (q (goal.at.returns-else-n-cs a).Start) a.requires.sound_segment_1 a.args.n k a.args.hi P (holds _ u.if-ca-cb.true) (omega arith)
 
 pub bounds-cs-before : goal.bounds-cs-before
-bounds-cs-before c = let p = c.before in let a = p.before.before.before.before in let h = p.if-n-gt0.true in omega (arith, a.requires.1.1.here.upto)
+bounds-cs-before c = let p = c in let a = p in let h = p.if-n-gt0.true in omega (arith, a.requires.place_in_run.here.upto)
 
 -- the sample before the place
 before : (c : Then-n-gt0) → suc (c.args.n - 1) ≡ c.args.n
@@ -51,36 +51,36 @@ before c = let h = c.if-n-gt0.true in omega arith
 
 pub sample_in_run-requires-then-cb-cs : goal.sample_in_run-requires-then-cb-cs
 sample_in_run-requires-then-cb-cs c =
-    let p = c.before.before in
-    let d = p.before in
-    let a = d.before.before.before in
+    let p = c in
+    let d = p in
+    let a = d in
     let h = p.if-n-gt0.true in
-    (a.requires.0, (a.requires.1.0, (omega (arith, a.requires.1.1.here.upto), span-down a.args.cs.now a.requires.1.0 (q a) a.requires.0 a.args.n a.requires.1.1.key a.args.hi a.requires.1.1.here (holds _ d.if-cb-ca.true) (a.args.n - 1) (before p) (holds _ c.if-cb-cs.true))))
+    record { sound_segment_1 = a.requires.sound_segment_1; sound_segment_2 = a.requires.sound_segment_2; i_in_bounds_1 = omega (arith, a.requires.place_in_run.here.upto); i_in_bounds_2 = span-down a.args.cs.now a.requires.sound_segment_2 (q (goal.at.sample_in_run-requires-then-cb-cs a).Start) a.requires.sound_segment_1 a.args.n a.requires.place_in_run.key a.args.hi a.requires.place_in_run.here (holds _ d.if-cb-ca.true) (a.args.n - 1) (before (goal.at.sample_in_run-requires-then-cb-cs p).Then-n-gt0) (holds _ c.if-cb-cs.true) }
 
 pub returns-then-cb-cs : goal.returns-then-cb-cs
 returns-then-cb-cs c = λ k P.
-    let e = c.before in
-    let p = e.before.before in
-    let d = p.before in
-    let a = d.before.before.before in
-    step_down a.args.cs.now a.requires.1.0 (q a) a.requires.0 a.args.n k a.args.hi P (holds _ d.if-cb-ca.true) (a.args.n - 1) (before p) (holds _ e.if-cb-cs.true) c.sample_in_run-then-cb-cs.result c.sample_in_run-then-cb-cs.ensures
+    let e = c in
+    let p = e in
+    let d = p in
+    let a = d in
+    step_down a.args.cs.now a.requires.sound_segment_2 (q (goal.at.returns-then-cb-cs a).Start) a.requires.sound_segment_1 a.args.n k a.args.hi P (holds _ d.if-cb-ca.true) (a.args.n - 1) (before (goal.at.returns-then-cb-cs p).Then-n-gt0) (holds _ e.if-cb-cs.true) c.sample_in_run-then-cb-cs.result c.sample_in_run-then-cb-cs.ensures
 
 pub returns-else-cb-cs : goal.returns-else-cb-cs
 returns-else-cb-cs c = λ k P.
-    let p = c.before.before in
-    let d = p.before in
-    let a = d.before.before.before in
-    under-end a.args.cs.now a.requires.1.0 (q a) a.requires.0 a.args.n k a.args.hi P (holds _ d.if-cb-ca.true) (a.args.n - 1) (before p) c.if-cb-cs.false
+    let p = c in
+    let d = p in
+    let a = d in
+    under-end a.args.cs.now a.requires.sound_segment_2 (q (goal.at.returns-else-cb-cs a).Start) a.requires.sound_segment_1 a.args.n k a.args.hi P (holds _ d.if-cb-ca.true) (a.args.n - 1) (before (goal.at.returns-else-cb-cs p).Then-n-gt0) c.if-cb-cs.false
 
 pub returns-else-n-gt0 : goal.returns-else-n-gt0
 returns-else-n-gt0 c = λ k P.
-    let d = c.before in
-    let a = d.before.before.before in
+    let d = c in
+    let a = d in
     let h = c.if-n-gt0.false in
-    end-down a.args.cs.now a.requires.1.0 (q a) a.requires.0 a.args.n k a.args.hi P (holds _ d.if-cb-ca.true) (omega arith)
+    end-down a.args.cs.now a.requires.sound_segment_2 (q (goal.at.returns-else-n-gt0 a).Start) a.requires.sound_segment_1 a.args.n k a.args.hi P (holds _ d.if-cb-ca.true) (omega arith)
 
 pub returns-else-cb-ca : goal.returns-else-cb-ca
 returns-else-cb-ca c = λ k P.
-    let o = c.before in
-    let a = o.before.before in
-    end-flat a.args.cs.now a.requires.1.0 (q a) a.requires.0 a.args.n k a.args.hi P o.if-ca-cb.false c.if-cb-ca.false
+    let o = c in
+    let a = o in
+    end-flat a.args.cs.now a.requires.sound_segment_2 (q (goal.at.returns-else-cb-ca a).Start) a.requires.sound_segment_1 a.args.n k a.args.hi P o.if-ca-cb.false c.if-cb-ca.false

@@ -17,12 +17,12 @@ found c = c.key-m.ensures ∙ ap key c.stage_time.ensures
 
 pub key-m-requires : goal.key-m-requires
 key-m-requires c =
-    let b = c.before.before.before in
+    let b = c in
     let a = b.args in
-    subst (λ (x : Float). T (not (is_nan x))) (sym c.stage_time.ensures) (span-number a.cs.now b.requires.1.0 (a.s.a, a.s.b) b.requires.0 a.i b.requires.1.1.1).1
+    subst (λ (x : Float). T (not (is_nan x))) (sym c.stage_time.ensures) (span-number a.cs.now b.requires.sound_segment_2 (a.s.a, a.s.b) b.requires.sound_segment_1 a.i b.requires.i_in_bounds_2).1
 
 pub returns-then-hi-m : goal.returns-then-hi-m
-returns-then-hi-m c = let e = found c.before in let l = c.if-hi-m.true in omega arith
+returns-then-hi-m c = let e = found (goal.at.returns-then-hi-m c).After-key-m in let l = c.if-hi-m.true in omega arith
 
 pub returns : goal.returns
-returns c = let l = c.if-hi-m.false in (found c.before, omega arith, refl, refl)
+returns c = let l = c.if-hi-m.false in (found (goal.at.returns c).After-key-m, omega arith, refl, refl)

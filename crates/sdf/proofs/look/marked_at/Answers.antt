@@ -6,7 +6,7 @@ use Rattle.sdf.proofs.look.marked_at.Goals as goal
 
 pub returns-then-marks-at-eq0 : goal.returns-then-marks-at-eq0
 returns-then-marks-at-eq0 c =
-    let s = c.before.before.before in
+    let s = c in
     let a = s.args in
     marked-value a.values.now a.marks.now (a.begin + a.place) s.requires.value c.if-marks-at-eq0.true
 

@@ -9,17 +9,14 @@ use lib.ListN.{length, get_or}
 use lib.Ieee.{nan, is_nan}
 use Rattle.lists.proofs.Fronts.{at_most_one}
 use Rattle.sdf.proofs.Beside.{either_from, beside-found, beside-all}
-use Rattle.sdf.proofs.scans.any_nan_beside.Goals.{After-nan_found-found, Start as At-start}
+use Rattle.sdf.proofs.scans.any_nan_beside.Goals.{After-nan_found-found}
 use Rattle.sdf.proofs.scans.any_nan_beside.Goals as goal
-
-abbrev lists : After-nan_found-found → At-start
-lists c = c.before.before.before.before.before.before.before
 
 -- what is counted of two values
 one_more : (c : After-nan_found-found) → c.nan_found-found.result ≤ 1
 one_more c =
     let k = c.loop-i in
-    at_most_one (is_nan (get_or (lists c).args.left.now k.i nan) || is_nan (get_or (lists c).args.right.now k.i nan)) c.nan_found-found.ensures
+    at_most_one (is_nan (get_or c.args.left.now k.i nan) || is_nan (get_or c.args.right.now k.i nan)) c.nan_found-found.ensures
 
 pub loop-i-init : goal.loop-i-init
 loop-i-init c = (omega arith, omega arith, refl)
@@ -42,8 +39,8 @@ loop-i-smaller c = omega arith
 pub loop-i-preserved : goal.loop-i-preserved
 loop-i-preserved c =
     let k = c.loop-i in
-    let l = (lists c).args.left.now in
-    let r = (lists c).args.right.now in (
+    let l = c.args.left.now in
+    let r = c.args.right.now in (
       omega arith,
       omega (arith, k.invariant.1, one_more c),
       k.invariant.2 ∙ beside-found is_nan l r k.i k.found nan (omega arith) (omega arith)

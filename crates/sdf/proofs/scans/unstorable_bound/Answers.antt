@@ -18,10 +18,10 @@ returns-then-begin-end c =
 pub returns-then-not-is_storable : goal.returns-then-not-is_storable
 returns-then-not-is_storable c =
     let a = c.args in
-    sym (ap₂ (λ (q s : Bool). q && (not s || not (storable (get_or a.times.now (a.end - 1) nan)))) (lt-ltb a.begin a.end (omega arith)) (sym c.is_storable.ensures ∙ not-true _ c.if-not-is_storable.true))
+    sym (ap₂ (λ (q s : Bool). q && (not s || not (storable (get_or a.times.now (a.end - 1) nan)))) (lt-ltb a.begin a.end (omega arith)) (sym c.is_storable.ensures ∙ c.if-not-is_storable.true))
 
 pub returns : goal.returns
 returns c =
     let a = c.args in
-    let first : storable (get_or a.times.now a.begin nan) ≡ _ = sym c.is_storable.ensures ∙ not-false _ c.if-not-is_storable.false in
+    let first : storable (get_or a.times.now a.begin nan) ≡ _ = sym c.is_storable.ensures ∙ c.if-not-is_storable.false in
     ap not c.is_storable-2.ensures ∙ sym (ap₂ (λ (q s : Bool). q && (not s || not (storable (get_or a.times.now (a.end - 1) nan)))) (lt-ltb a.begin a.end (omega arith)) first)

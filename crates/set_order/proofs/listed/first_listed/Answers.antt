@@ -12,34 +12,27 @@ use Rattle.set_names.proofs.InPages.{names-long}
 use Rattle.set_order.proofs.Ends.{name, end_after, end-within}
 use Rattle.set_order.proofs.Mentions.{found_below}
 use Rattle.set_order.proofs.Passed.{Passed, none_passed, unknown, again, answers, placed, nobody}
-use Rattle.set_order.proofs.listed.first_listed.Goals.{At-loop-i, In-At, Start as At-start}
+use Rattle.set_order.proofs.listed.first_listed.Goals.{At-loop-i, In-At}
 use Rattle.set_order.proofs.listed.first_listed.Goals as goal
-
-abbrev entry : At-loop-i → At-start
-entry c = c.before.before.before.before.before.before
 
 -- the names of the sets
 abbrev sets : At-loop-i → List (List ℕ)
-sets c = let a = (entry c).args in names_in a.names.now (length a.starts.now)
-
--- ---- a name that a set has
-abbrev walked : In-At → At-loop-i
-walked c = c.before.before.before.before.before.before.before
+sets c = let a = c.args in names_in a.names.now (length a.starts.now)
 
 abbrev number : In-At → ℕ
-number c = c.before.found.given.0.0
+number c = c.in-At.k
 
-is_number : (c : In-At) → let a = (entry (walked c)).args in some (number c) ≡ set_number (name a.bytes.now a.ends.now (walked c).loop.begin (walked c).loop.i) (sets (walked c))
+is_number : (c : In-At) → let a = (entry (goal.at.In-At c).At-loop-i).args in some (number c) ≡ set_number (name a.bytes.now a.ends.now c.loop-i.begin c.loop-i.i) (sets (goal.at.In-At c).At-loop-i)
 is_number c = sym (ap number_of c.in-At.is) ∙ c.find-found.ensures
 
-is_set : (c : In-At) → number c < length (entry (walked c)).args.starts.now
+is_set : (c : In-At) → number c < length (entry (goal.at.In-At c).At-loop-i).args.starts.now
 is_set c =
-    let a = (entry (walked c)).args in
+    let a = (entry (goal.at.In-At c).At-loop-i).args in
     omega (arith, found_below _ _ (number c) (is_number c), names-long a.names.now (length a.starts.now))
 
 -- ---- the needs
 pub loop-i-init : goal.loop-i-init
-loop-i-init c = none_passed _ _ _ _ _ c.requires.1.1.1
+loop-i-init c = none_passed _ _ _ _ _ c.requires.fact_4
 
 pub slice_bounds-find-count : goal.slice_bounds-find-count
 slice_bounds-find-count c = let k = c.loop-i in end_after _ _ k.begin k.i k.invariant.walk (omega arith)
@@ -51,7 +44,7 @@ pub slice_bounds-find-end : goal.slice_bounds-find-end
 slice_bounds-find-end c = let k = c.loop-i in end-within _ _ k.begin k.i k.invariant.walk (omega arith)
 
 pub find-found-requires : goal.find-found-requires
-find-found-requires c = let p = (entry c.before.before.before).pre in (p.0, p.1.0)
+find-found-requires c = let p = c.requires in record { fact_1 = p.0; fact_2 = p.1.0 }
 
 pub loop-i-preserved-in_default : goal.loop-i-preserved-in_default
 loop-i-preserved-in_default c =
@@ -59,35 +52,35 @@ loop-i-preserved-in_default c =
     unknown _ _ _ _ _ k.met k.place k.begin k.i k.invariant (omega arith) (sym (ap number_of c.in_default.is) ∙ c.find-found.ensures)
 
 pub bounds-met-k : goal.bounds-met-k
-bounds-met-k c = omega (arith, is_set c, (entry (walked c)).pre.1.0)
+bounds-met-k c = omega (arith, is_set c, (entry (goal.at.bounds-met-k c).At-loop-i).pre.1.0)
 
 pub loop-i-preserved-then-met-k : goal.loop-i-preserved-then-met-k
 loop-i-preserved-then-met-k c =
-    let k = (walked c.before).loop in
-    again _ _ _ _ _ k.met k.place k.begin k.i k.inv (omega arith) (number c.before) (is_number c.before) c.if-met-k.true
+    let k = c.loop-i in
+    again _ _ _ _ _ k.met k.place k.begin k.i k.inv (omega arith) (number (goal.at.loop-i-preserved-then-met-k c).In-At) (is_number (goal.at.loop-i-preserved-then-met-k c).In-At) c.if-met-k.true
 
 pub qualifies-requires : goal.qualifies-requires
-qualifies-requires c = (is_set c.before, (entry (walked c.before)).pre.1.1.0)
+qualifies-requires c = record { fact_1 = is_set (goal.at.qualifies-requires c).In-At; fact_2 = (entry (goal.at.qualifies-requires c).At-loop-i).pre.1.1.0 }
 
 pub returns-then-qualifies : goal.returns-then-qualifies
 returns-then-qualifies c =
-    let n = c.before.before.before in
-    let k = (walked n).loop in
-    let p = (entry (walked n)).pre in
-    answers _ _ _ _ _ k.met k.place k.begin k.i k.inv (omega arith) (number n) (is_number n) c.if-met-k.false p.1.0 p.1.1.0 (is_set n) (sym c.qualifies.ensures ∙ c.if-qualifies.true)
+    let n = c in
+    let k = n.loop-i in
+    let p = (entry (goal.at.returns-then-qualifies n).At-loop-i).pre in
+    answers _ _ _ _ _ k.met k.place k.begin k.i k.inv (omega arith) (number (goal.at.returns-then-qualifies n).In-At) (is_number (goal.at.returns-then-qualifies n).In-At) c.if-met-k.false p.1.0 p.1.1.0 (is_set (goal.at.returns-then-qualifies n).In-At) (sym c.qualifies.ensures ∙ c.if-qualifies.true)
 
 pub bounds-met-k-in-loop-i : goal.bounds-met-k-in-loop-i
-bounds-met-k-in-loop-i c = let n = c.before.before.before in omega (arith, is_set n, (entry (walked n)).pre.1.0)
+bounds-met-k-in-loop-i c = let n = c in omega (arith, is_set (goal.at.bounds-met-k-in-loop-i n).In-At, (entry (goal.at.bounds-met-k-in-loop-i n).At-loop-i).pre.1.0)
 
 pub overflow_add-place : goal.overflow_add-place
-overflow_add-place c = let k = walked c.before.before.before in omega (arith, k.loop.inv.counted)
+overflow_add-place c = let k = c in omega (arith, k.loop-i.inv.counted)
 
 pub loop-i-preserved : goal.loop-i-preserved
 loop-i-preserved c =
-    let n = c.before.before.before in
-    let k = (walked n).loop in
-    let p = (entry (walked n)).pre in
-    placed _ _ _ _ _ k.met k.place k.begin k.i k.inv (omega arith) (number n) (is_number n) c.if-met-k.false p.1.0 p.1.1.0 (is_set n) (sym c.qualifies.ensures ∙ c.if-qualifies.false)
+    let n = c in
+    let k = n.loop-i in
+    let p = (entry (goal.at.loop-i-preserved n).At-loop-i).pre in
+    placed _ _ _ _ _ k.met k.place k.begin k.i k.inv (omega arith) (number (goal.at.loop-i-preserved n).In-At) (is_number (goal.at.loop-i-preserved n).In-At) c.if-met-k.false p.1.0 p.1.1.0 (is_set (goal.at.loop-i-preserved n).In-At) (sym c.qualifies.ensures ∙ c.if-qualifies.false)
 
 pub returns : goal.returns
 returns c = let k = c.loop-i in nobody _ _ _ _ _ k.met k.place k.begin k.i k.invariant (omega arith)

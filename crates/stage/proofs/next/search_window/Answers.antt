@@ -10,25 +10,22 @@ use borrow.Author.Rules.{rules}
 use Rattle.stage.proofs.next.search_window.Goals.{After-whole_window-w, Start as At-start}
 use Rattle.stage.proofs.next.search_window.Goals as goal
 
-abbrev entry : After-whole_window-w → At-start
-entry k = k.before.before.before.before.before.before.before.before
-
 pub whole_window-w-requires : goal.whole_window-w-requires
 whole_window-w-requires c =
-    let s = c.before.before.before.before.before.before.before in
-    let A = s.requires.0 in
-    let h = s.requires.1.1.1.0 in
+    let s = c in
+    let A = s.requires.windows_1 in
+    let h = s.requires.p_value_2 in
     (h, (A.paired, A.named s.args.p h))
 
 order : (k : After-whole_window-w) → k.whole_window-w.result.begin ≤ k.whole_window-w.result.end
-order k = let s = entry k in whole-order s.pre.0 s.args.p s.pre.1.1.1.0 k.whole_window-w.result k.whole_window-w.ensures
+order k = let s = k in whole-order s.requires.windows_1 s.args.p s.requires.p_value_2 k.whole_window-w.result k.whole_window-w.ensures
 
-upto : (k : After-whole_window-w) → k.whole_window-w.result.end ≤ length (entry k).args.times.now
-upto k = let s = entry k in whole-upto s.pre.0 s.args.p s.pre.1.1.1.0 k.whole_window-w.result k.whole_window-w.ensures
+upto : (k : After-whole_window-w) → k.whole_window-w.result.end ≤ length k.args.times.now
+upto k = let s = k in whole-upto s.requires.windows_1 s.args.p s.requires.p_value_2 k.whole_window-w.result k.whole_window-w.ensures
 
 -- the time, as owning it tells
 time : (s : At-start) → FiniteDouble s.args.t
-time s = record { fitting = subst T (sym s.well_formed.1.1.1.1.1.1.1.1.0.1) tt; finitely = s.requires.1.1.1.1 }
+time s = record { fitting = subst T (sym s.well_formed.1.1.1.1.1.1.1.1.0.1) tt; finitely = s.requires.p_value_3 }
 
 pub offset_bounds-times-begin : goal.offset_bounds-times-begin
 offset_bounds-times-begin c = let l = order c in let u = upto c in search rules
@@ -44,12 +41,12 @@ slice_bounds-neighbours_in-end c = let l = order c in let u = upto c in search r
 
 pub neighbours_in-requires : goal.neighbours_in-requires
 neighbours_in-requires c =
-    let k = c.before in
-    let s = entry k in
-    whole-nears s.pre.0 s.args.p s.pre.1.1.1.0 k.whole_window-w.result k.whole_window-w.ensures s.args.t s.pre.1.1.0 (time s) s.args.latest.now s.pre.1.0
+    let k = c in
+    let s = k in
+    whole-nears s.requires.windows_1 s.args.p s.requires.p_value_2 k.whole_window-w.result k.whole_window-w.ensures s.args.t s.requires.p_value_1 (time (goal.at.neighbours_in-requires s).Start) s.args.latest.now s.requires.windows_2
 
 pub returns : goal.returns
 returns c =
-    let k = c.before.before in
-    let s = entry k in
-    whole-found s.pre.0 s.args.p s.pre.1.1.1.0 k.whole_window-w.result k.whole_window-w.ensures s.args.t (bounds_of c.neighbours_in.result) c.neighbours_in.ensures
+    let k = c in
+    let s = k in
+    whole-found s.requires.windows_1 s.args.p s.requires.p_value_2 k.whole_window-w.result k.whole_window-w.ensures s.args.t (bounds_of c.neighbours_in.result) c.neighbours_in.ensures

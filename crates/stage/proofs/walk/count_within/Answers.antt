@@ -14,11 +14,8 @@ use Rattle.stage.proofs.Times.{before_all, before-finite, times-all}
 use Rattle.stage.proofs.Ordered.{after-rises}
 use Rattle.stage.proofs.Writing.{count-done, count-over, count-on}
 use borrow.Author.Rules.{rules}
-use Rattle.stage.proofs.walk.count_within.Goals.{After-next_time-next, At-loop-h, Start as At-start}
+use Rattle.stage.proofs.walk.count_within.Goals.{After-next_time-next, Start as At-start}
 use Rattle.stage.proofs.walk.count_within.Goals as goal
-
-abbrev entry : At-loop-h → At-start
-entry k = k.before.before.before.before.before.before.before.before
 
 -- all stage sample times, and those above t
 abbrev all : At-start → List Float
@@ -32,21 +29,21 @@ from-none k = omega arith
 
 pub loop-h-init : goal.loop-h-init
 unfolding of_bits neg
-loop-h-init c = let R = c.requires.0 in (before-finite, omega arith, omega (arith, ap length (times-all R)), from-none (key before_all))
+loop-h-init c = let R = c.requires.fact_1 in (before-finite, omega arith, omega (arith, ap length (times-all R)), from-none (key before_all))
 
 -- what the next time is
-next-is : (k : After-next_time-next) (b : Bound) → k.next_time-next.result.time ≡ b → let s = entry k.before in
+next-is : (k : After-next_time-next) (b : Bound) → k.next_time-next.result.time ≡ b → let s = k in
     NextTime s.args.starts.now s.args.clips.now s.args.xs.now s.args.ys.now s.args.times.now s.args.ends.now k.loop-h.t b
 next-is k b e = rw e at k.next_time-next.ensures
 
 pub next_time-next-requires : goal.next_time-next-requires
-next_time-next-requires c = ((entry c).requires.0, ((entry c).requires.1, c.loop-h.invariant.0.finitely))
+next_time-next-requires c = record { fact_1 = c.requires.fact_1; fact_2 = c.requires.fact_2; fact_3 = c.loop-h.invariant.0.finitely }
 
 pub returns-in_default : goal.returns-in_default
 returns-in_default c =
-    let k = c.before in
-    let n = next-is k _ c.in_default.is in
-    count-done (all (entry k.before)) (above (entry k.before) k.loop-h.t) k.loop-h.count (entry k.before).args.room k.loop-h.invariant.2 k.loop-h.invariant.1 n
+    let k = c in
+    let n = next-is (goal.at.returns-in_default k).After-next_time-next _ c.in_default.is in
+    count-done (all (goal.at.returns-in_default k).Start) (above (goal.at.returns-in_default k).Start k.loop-h.t) k.loop-h.count k.args.room k.loop-h.invariant.2 k.loop-h.invariant.1 n
 
 pub overflow_add-count : goal.overflow_add-count
 overflow_add-count c =
@@ -57,8 +54,8 @@ pub returns-then-room-count : goal.returns-then-room-count
 returns-then-room-count c =
     let g = c in
     let k = g in
-    let n = next-is k _ g.in-At.is in
-    count-over (all (entry k.before)) (above (entry k.before) k.loop-h.t) k.loop-h.count (entry k.before).args.room k.loop-h.invariant.2 g.in-At.h _ k.loop-h.invariant.1 c.if-room-count.true n.1
+    let n = next-is (goal.at.returns-then-room-count k).After-next_time-next _ g.in-At.is in
+    count-over (all (goal.at.returns-then-room-count k).Start) (above (goal.at.returns-then-room-count k).Start k.loop-h.t) k.loop-h.count k.args.room k.loop-h.invariant.2 g.in-At.h _ k.loop-h.invariant.1 c.if-room-count.true n.1
 
 pub loop-h-smaller : goal.loop-h-smaller
 loop-h-smaller c = omega (arith, c.loop-h.invariant.1, c.if-room-count.false)
@@ -68,6 +65,6 @@ loop-h-preserved c =
     let g = c in
     let k = g in
     let i = k.loop-h.invariant in
-    let n = next-is k _ g.in-At.is in
+    let n = next-is (goal.at.loop-h-preserved k).After-next_time-next _ g.in-At.is in
     let r = after-rises _ k.loop-h.t g.in-At.h _ i.0 n.0 n.1 in
-    (n.0, omega (arith, i.1, c.if-room-count.false), count-on (all (entry k.before)) (above (entry k.before) k.loop-h.t) k.loop-h.count (entry k.before).args.room i.2 g.in-At.h _ n.1, omega (arith, i.3))
+    (n.0, omega (arith, i.1, c.if-room-count.false), count-on (all (goal.at.loop-h-preserved k).Start) (above (goal.at.loop-h-preserved k).Start k.loop-h.t) k.loop-h.count k.args.room i.2 g.in-At.h _ n.1, omega (arith, i.3))

@@ -19,7 +19,7 @@ bounds-xs-i c = omega arith
 pub returns-then-total_key-eq-MINUS_ZERO : goal.returns-then-total_key-eq-MINUS_ZERO
 returns-then-total_key-eq-MINUS_ZERO c =
     let k = c.loop-i in
-    let s = c.before.before.before.before.before.before in
+    let s = c in
     sym (k.invariant.1 ∙ any_here is_minus_zero s.args.xs.now k.i nan (omega arith) (eq-eqb _ _ (sym c.total_key.ensures ∙ c.if-total_key-eq-MINUS_ZERO.true)))
 
 pub overflow_add-i : goal.overflow_add-i
@@ -31,11 +31,11 @@ loop-i-smaller c = omega arith
 pub loop-i-preserved : goal.loop-i-preserved
 loop-i-preserved c =
     let k = c.loop-i in
-    let s = c.before.before.before.before.before.before in
+    let s = c in
     (omega arith, k.invariant.1 ∙ any-later is_minus_zero s.args.xs.now k.i nan (omega arith) (ne_eqb _ _ (λ e. c.if-total_key-eq-MINUS_ZERO.false (c.total_key.ensures ∙ e))))
 
 pub returns : goal.returns
 returns c =
     let k = c.loop-i in
-    let s = c.before.before.before in
+    let s = c in
     sym (k.invariant.1 ∙ any-end is_minus_zero s.args.xs.now k.i (omega arith))

@@ -7,40 +7,37 @@ use Rattle.laws.proofs.list.Places.{last-inside}
 use Rattle.stage.specs.MinusZero.{minus_zero}
 use Rattle.stage.proofs.MinusZero.{minus-finite}
 use borrow.Author.Rules.{rules}
-use Rattle.stage.proofs.zero.is_sampled.Goals.{After-clip_end-end, After-last_at_most-p, Start as At-start}
+use Rattle.stage.proofs.zero.is_sampled.Goals.{After-clip_end-end, After-last_at_most-p}
 use Rattle.stage.proofs.zero.is_sampled.Goals as goal
-
-abbrev entry : After-last_at_most-p → At-start
-entry k = k.before.before.before.before.before
 
 pub last_at_most-p-requires : goal.last_at_most-p-requires
 last_at_most-p-requires c = c.requires.rising
 
 -- the active start's place
-active : (k : After-last_at_most-p) → k.last_at_most-p.result < length (entry k).args.starts.now
+active : (k : After-last_at_most-p) → k.last_at_most-p.result < length k.args.starts.now
 unfolding of_bits neg
-active k = let P = (entry k).requires in omega (arith, k.last_at_most-p.ensures, last-inside minus_zero minus-finite.fitting (entry k).args.starts.now P.rising P.some)
+active k = let P = k.requires in omega (arith, k.last_at_most-p.ensures, last-inside minus_zero minus-finite.fitting k.args.starts.now P.rising P.some)
 
-named : (k : After-last_at_most-p) → get_or (entry k).args.clips.now k.last_at_most-p.result 0 < length (entry k).args.ends.now
-named k = (entry k).requires.named k.last_at_most-p.result (active k)
+named : (k : After-last_at_most-p) → get_or k.args.clips.now k.last_at_most-p.result 0 < length k.args.ends.now
+named k = k.requires.named k.last_at_most-p.result (active k)
 
 pub offset_bounds-clips-p : goal.offset_bounds-clips-p
-offset_bounds-clips-p c = let l = active c in let e = (entry c).requires.paired in search rules
+offset_bounds-clips-p c = let l = active c in let e = c.requires.paired in search rules
 
 pub bounds-clips-p : goal.bounds-clips-p
-bounds-clips-p c = omega (arith, active c.before, (entry c.before).requires.paired)
+bounds-clips-p c = omega (arith, active (goal.at.bounds-clips-p c).After-last_at_most-p, c.requires.paired)
 
 pub clip_begin-begin-requires : goal.clip_begin-begin-requires
-clip_begin-begin-requires c = named c.before
+clip_begin-begin-requires c = named (goal.at.clip_begin-begin-requires c).After-last_at_most-p
 
 pub clip_end-end-requires : goal.clip_end-end-requires
-clip_end-end-requires c = named c.before.before
+clip_end-end-requires c = named (goal.at.clip_end-end-requires c).After-last_at_most-p
 
 order : (c : After-clip_end-end) → c.clip_begin-begin.result ≤ c.clip_end-end.result
-order c = let k = c.before.before.before in omega (arith, (entry k).requires.order _ (named k), c.clip_begin-begin.ensures, c.clip_end-end.ensures)
+order c = let k = c in omega (arith, k.requires.order _ (named (goal.at.After-clip_end-end k).After-last_at_most-p), c.clip_begin-begin.ensures, c.clip_end-end.ensures)
 
-upto : (c : After-clip_end-end) → c.clip_end-end.result ≤ length (entry c.before.before.before).args.times.now
-upto c = let k = c.before.before.before in omega (arith, (entry k).requires.inside _ (named k), c.clip_end-end.ensures)
+upto : (c : After-clip_end-end) → c.clip_end-end.result ≤ length c.args.times.now
+upto c = let k = c in omega (arith, k.requires.inside _ (named (goal.at.After-clip_end-end k).After-last_at_most-p), c.clip_end-end.ensures)
 
 pub offset_bounds-times-begin : goal.offset_bounds-times-begin
 offset_bounds-times-begin c = let l = order c in let u = upto c in search rules
@@ -57,6 +54,6 @@ slice_bounds-has_minus_zero-end c = let l = order c in let u = upto c in search 
 pub returns : goal.returns
 unfolding of_bits neg
 returns c =
-    let e = c.before.before in
-    let k = e.before.before.before in
+    let e = c in
+    let k = e in
     rw (c.has_minus_zero.ensures, e.clip_end-end.ensures, e.clip_begin-begin.ensures, k.last_at_most-p.ensures)

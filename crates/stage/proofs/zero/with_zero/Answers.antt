@@ -8,14 +8,14 @@ use Rattle.stage.proofs.zero.with_zero.Goals as goal
 pub returns-then-is_minus : goal.returns-then-is_minus
 unfolding of_bits neg
 returns-then-is_minus c =
-    let m = c.before in
+    let m = c in
     let g = m in
     rw (sym m.is_minus.ensures ∙ c.if-is_minus.true) (zero-taken _ _ g.in-At.h g.in-At.is m.if-h.true)
 
 pub returns-then-h : goal.returns-then-h
 unfolding of_bits
 returns-then-h c =
-    let m = c.before in
+    let m = c in
     let g = m in
     rw (sym m.is_minus.ensures ∙ c.if-is_minus.false) (zero-taken _ _ g.in-At.h g.in-At.is m.if-h.true)
 

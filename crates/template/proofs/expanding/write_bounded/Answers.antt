@@ -14,10 +14,10 @@ between : (c : After-write_clip_times) → length c.write_clip_times.new.to ≡ 
 between c = ap length c.write_clip_times.ensures ∙ length-map c.args.ts.now (λ (t : Float). t ⊘ 10000·0)
 
 pub bounds-xs-end : goal.bounds-xs-end
-bounds-xs-end c = let s = c.before.before.before.before.before.before in omega (arith, bounded-length s.args.xs.now c.write_clip_times.new.to (length s.args.ts.now) s.args.first s.requires (between c.before.before))
+bounds-xs-end c = let s = c in omega (arith, bounded-length s.args.xs.now c.write_clip_times.new.to (length s.args.ts.now) s.args.first s.requires (between (goal.at.bounds-xs-end c).After-write_clip_times))
 
 pub returns : goal.returns
 returns c =
-    let s = c.before.before.before.before.before.before in
-    bounded-is s.args.xs.now c.write_clip_times.new.to (length s.args.ts.now) s.args.first s.args.last s.requires (between c.before.before)
+    let s = c in
+    bounded-is s.args.xs.now c.write_clip_times.new.to (length s.args.ts.now) s.args.first s.args.last s.requires (between (goal.at.returns c).After-write_clip_times)
     ∙ ap (λ (l : List Float). s.args.first ∷ (l ++ (s.args.last ∷ []))) c.write_clip_times.ensures

@@ -23,13 +23,13 @@ pub loop-i-preserved : goal.loop-i-preserved
 unfolding of_bits
 loop-i-preserved c =
     let k = c.loop-i in
-    let s = c.before.before.before in
+    let s = c in
     let n = length-map s.args.ts.now (λ (t : Float). t ⊘ 10000·0) in
     (fill-next (map (λ (t : Float). t ⊘ 10000·0) s.args.ts.now) k.to k.i _ nan k.invariant.0 (omega arith) (mapped_at (λ (t : Float). t ⊘ 10000·0) s.args.ts.now k.i nan nan (omega arith)), length-set k.to k.i _ ∙ k.invariant.1)
 
 pub returns : goal.returns
 returns c =
     let k = c.loop-i in
-    let s = c.before.before in
+    let s = c in
     let n = length-map s.args.ts.now (λ (t : Float). t ⊘ 10000·0) in
     fill-whole (map (λ (t : Float). t ⊘ 10000·0) s.args.ts.now) k.to k.i k.invariant.0 (omega arith) (k.invariant.1 ∙ sym n)

@@ -15,13 +15,13 @@ loop-i-init c = (fill_start (numbered 0 c.args.to.now) c.args.to.now (omega (ari
 pub loop-i-preserved : goal.loop-i-preserved
 loop-i-preserved c =
     let k = c.loop-i in
-    let s = c.before.before in
+    let s = c in
     let n = numbered-length 0 s.args.to.now in
     (fill-next (numbered 0 s.args.to.now) k.to k.i _ 0 k.invariant.0 (omega arith) (numbered-at s.args.to.now k.i 0 (omega arith)), length-set k.to k.i _ ∙ k.invariant.1)
 
 pub returns : goal.returns
 returns c =
     let k = c.loop-i in
-    let s = c.before.before in
+    let s = c in
     let n = numbered-length 0 s.args.to.now in
     fill-whole (numbered 0 s.args.to.now) k.to k.i k.invariant.0 (omega arith) (k.invariant.1 ∙ sym n)

@@ -14,7 +14,7 @@ use Rattle.template.proofs.fields.fields_number.Goals as goal
 abbrev fields : At-start → TemplateFields
 fields c = template_fields c.args.template.now c.args.times c.args.offset c.args.blocks.now c.args.manifest
 
-short : (c : Else-blocks-gt-BLOCKS) → template1 (fields c.before.before.before.before) ≡ false
+short : (c : Else-blocks-gt-BLOCKS) → template1 (fields (goal.at.Else-blocks-gt-BLOCKS c).Start) ≡ false
 unfolding template1
 short c = rw (le-ltb _ _ c.if-template-gt-TEMPLATE_BYTES.false, le-ltb _ _ c.if-blocks-gt-BLOCKS.false)
 
@@ -25,11 +25,11 @@ not-blocks : (c : Else-any_unstorable) → any_unstorable c.args.blocks.now ≡ 
 not-blocks c = sym c.any_unstorable.ensures ∙ c.if-any_unstorable.false
 
 -- the tests of 2 that failed so far, and the one that is left
-stored : (c : Else-is_nan_default) → template2 (fields c.before.before.before.before.before.before.before.before.before.before) ≡ false
+stored : (c : Else-is_nan_default) → template2 (fields (goal.at.Else-is_nan_default c).Start) ≡ false
 unfolding template2 times_unstorable
-stored c = rw (not-numbers c.before.before.before.before, not-blocks c.before.before, sym c.is_nan_default.ensures ∙ c.if-is_nan_default.false)
+stored c = rw (not-numbers (goal.at.Else-is_nan_default c).Else-is_unstorable, not-blocks (goal.at.Else-is_nan_default c).Else-any_unstorable, sym c.is_nan_default.ensures ∙ c.if-is_nan_default.false)
 
-ordered : (c : Else-is_disordered) → template7 (fields c.before.before.before.before.before.before.before.before.before.before.before.before) ≡ false
+ordered : (c : Else-is_disordered) → template7 (fields (goal.at.Else-is_disordered c).Start) ≡ false
 unfolding template7 times_disordered
 ordered c = sym c.is_disordered.ensures ∙ c.if-is_disordered.false
 
@@ -43,24 +43,24 @@ returns-then-blocks-gt-BLOCKS c = rw (le-ltb _ _ c.if-template-gt-TEMPLATE_BYTES
 
 pub returns-then-is_unstorable : goal.returns-then-is_unstorable
 unfolding template_fields_number template2 times_unstorable
-returns-then-is_unstorable c = rw (short c.before.before, sym c.is_unstorable.ensures ∙ c.if-is_unstorable.true)
+returns-then-is_unstorable c = rw (short (goal.at.returns-then-is_unstorable c).Else-blocks-gt-BLOCKS, sym c.is_unstorable.ensures ∙ c.if-is_unstorable.true)
 
 pub returns-then-any_unstorable : goal.returns-then-any_unstorable
 unfolding template_fields_number template2 times_unstorable
-returns-then-any_unstorable c = rw (short c.before.before.before.before, not-numbers c.before.before, sym c.any_unstorable.ensures ∙ c.if-any_unstorable.true)
+returns-then-any_unstorable c = rw (short (goal.at.returns-then-any_unstorable c).Else-blocks-gt-BLOCKS, not-numbers (goal.at.returns-then-any_unstorable c).Else-is_unstorable, sym c.any_unstorable.ensures ∙ c.if-any_unstorable.true)
 
 pub returns-then-is_nan_default : goal.returns-then-is_nan_default
 unfolding template_fields_number template2 times_unstorable
-returns-then-is_nan_default c = rw (short c.before.before.before.before.before.before, not-numbers c.before.before.before.before, not-blocks c.before.before, sym c.is_nan_default.ensures ∙ c.if-is_nan_default.true)
+returns-then-is_nan_default c = rw (short (goal.at.returns-then-is_nan_default c).Else-blocks-gt-BLOCKS, not-numbers (goal.at.returns-then-is_nan_default c).Else-is_unstorable, not-blocks (goal.at.returns-then-is_nan_default c).Else-any_unstorable, sym c.is_nan_default.ensures ∙ c.if-is_nan_default.true)
 
 pub returns-then-is_disordered : goal.returns-then-is_disordered
 unfolding template_fields_number template7 times_disordered
-returns-then-is_disordered c = rw (short c.before.before.before.before.before.before.before.before, stored c.before.before, sym c.is_disordered.ensures ∙ c.if-is_disordered.true)
+returns-then-is_disordered c = rw (short (goal.at.returns-then-is_disordered c).Else-blocks-gt-BLOCKS, stored (goal.at.returns-then-is_disordered c).Else-is_nan_default, sym c.is_disordered.ensures ∙ c.if-is_disordered.true)
 
 pub returns-then-not-is_readable : goal.returns-then-not-is_readable
 unfolding template_fields_number template6
-returns-then-not-is_readable c = rw (short c.before.before.before.before.before.before.before.before.before.before, stored c.before.before.before.before, ordered c.before.before, untrue _ _ c.is_readable.ensures c.if-not-is_readable.true)
+returns-then-not-is_readable c = rw (short (goal.at.returns-then-not-is_readable c).Else-blocks-gt-BLOCKS, stored (goal.at.returns-then-not-is_readable c).Else-is_nan_default, ordered (goal.at.returns-then-not-is_readable c).Else-is_disordered, untrue _ _ c.is_readable.ensures c.if-not-is_readable.true)
 
 pub returns : goal.returns
 unfolding template_fields_number template6
-returns c = rw (short c.before.before.before.before.before.before.before.before.before.before, stored c.before.before.before.before, ordered c.before.before, holding _ _ c.is_readable.ensures c.if-not-is_readable.false)
+returns c = rw (short (goal.at.returns c).Else-blocks-gt-BLOCKS, stored (goal.at.returns c).Else-is_nan_default, ordered (goal.at.returns c).Else-is_disordered, holding _ _ c.is_readable.ensures c.if-not-is_readable.false)

@@ -24,16 +24,16 @@ returns-then-not-is_storable c = rw (untrue _ _ c.is_storable.ensures c.if-not-i
 
 pub returns-then-not-is_storable-2 : goal.returns-then-not-is_storable-2
 unfolding times_unstorable
-returns-then-not-is_storable-2 c = rw (start_fits c.before.before, untrue _ _ c.is_storable-2.ensures c.if-not-is_storable-2.true)
+returns-then-not-is_storable-2 c = rw (start_fits (goal.at.returns-then-not-is_storable-2 c).Else-not-is_storable, untrue _ _ c.is_storable-2.ensures c.if-not-is_storable-2.true)
 
 pub returns-then-not-is_finite : goal.returns-then-not-is_finite
 unfolding times_unstorable
-returns-then-not-is_finite c = rw (start_fits c.before.before.before.before, end_fits c.before.before, untrue _ _ c.is_finite.ensures c.if-not-is_finite.true)
+returns-then-not-is_finite c = rw (start_fits (goal.at.returns-then-not-is_finite c).Else-not-is_storable, end_fits (goal.at.returns-then-not-is_finite c).Else-not-is_storable-2, untrue _ _ c.is_finite.ensures c.if-not-is_finite.true)
 
 pub returns-then-offset : goal.returns-then-offset
 unfolding times_unstorable
-returns-then-offset c = rw (start_fits c.before.before.before.before.before.before, end_fits c.before.before.before.before, stride-finite c.before.before, c.if-offset.true) (ap not c.is_finite-then-offset.ensures)
+returns-then-offset c = rw (start_fits (goal.at.returns-then-offset c).Else-not-is_storable, end_fits (goal.at.returns-then-offset c).Else-not-is_storable-2, stride-finite (goal.at.returns-then-offset c).Else-not-is_finite, c.if-offset.true) (ap not c.is_finite-then-offset.ensures)
 
 pub returns : goal.returns
 unfolding times_unstorable
-returns c = rw (start_fits c.before.before.before.before.before, end_fits c.before.before.before, stride-finite c.before, c.if-offset.false)
+returns c = rw (start_fits (goal.at.returns c).Else-not-is_storable, end_fits (goal.at.returns c).Else-not-is_storable-2, stride-finite (goal.at.returns c).Else-not-is_finite, c.if-offset.false)

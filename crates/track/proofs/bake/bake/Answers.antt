@@ -7,14 +7,14 @@ use Rattle.track.proofs.bake.bake.Goals as goal
 
 pub bake_from_least-requires : goal.bake_from_least-requires
 bake_from_least-requires c =
-    let s = c.before.before.before.before.before.before.before.before.before.before.before.before.before.before.before.before.before in
-    (s.requires, no-latest _ _)
+    let s = c in
+    record { accepted_lists = s.requires; latest_of = no-latest _ _ }
 
 pub latest_inverses-latest-requires : goal.latest_inverses-latest-requires
-latest_inverses-latest-requires c = let a = c.before.before.before.before.before.before.before.before.before.before.before.before.before in (a.requires.knots-paired, (few-knots a.requires, (ready-readable a.requires).segments))
+latest_inverses-latest-requires c = let a = c in record { fact_1 = a.requires.knots-paired; fact_2 = few-knots a.requires; fact_3 = (ready-readable a.requires).segments }
 
 pub bake_from_least-requires-2 : goal.bake_from_least-requires-2
 bake_from_least-requires-2 c =
-    let l = c.before.before.before.before.before.before in
-    let s = l.before.before.before.before.before.before.before.before.before.before.before.before.before.before in
-    (s.requires, l.latest-inverses.ensures)
+    let l = c in
+    let s = l in
+    record { accepted_lists = s.requires; latest_of = l.latest_inverses-latest.ensures }

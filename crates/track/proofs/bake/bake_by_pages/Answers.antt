@@ -34,82 +34,78 @@ count a = length (changes_of (set a) (lent a) least most)
 abbrev room : At-start → ℕ
 room a = min (length a.args.outtimes.now) (min (length a.args.outvalues.now) (length a.args.outmarks.now))
 
--- from the first page back to the entry
-abbrev entry : After-fill-first → At-start
-entry f = f.before.before.before.before.before.before.before.before.before.before.before.before.before.before.before.before.before.before.before.before.before.before
-
 -- the value at the lowest key
 head-is : (a : At-start) → entry_is a.args.from.last ≡ entry_at_key (set a) (lent a) least
-head-is a = a.requires.1.1.0.last ∙ ap (entry_at_key (set a) (lent a)) a.requires.1.1.1.0
+head-is a = a.requires.cursor_is_1.last ∙ ap (entry_at_key (set a) (lent a)) a.requires.cursor_is_2
 
 -- the changes on the first page and behind it
-total : (f : After-fill-first) → count (entry f) ≡ f.fill-first.result.count + length (changes_of (set (entry f)) (lent (entry f)) f.fill-first.result.cursor.key most)
-total f = filled-total _ _ _ _ _ _ f.fill-first.ensures (entry f).requires.1.1.1.0
+total : (f : After-fill-first) → count (goal.at.After-fill-first f).Start ≡ f.fill-first.result.count + length (changes_of (set (goal.at.After-fill-first f).Start) (lent (goal.at.After-fill-first f).Start) f.fill-first.result.cursor.key most)
+total f = filled-total _ _ _ _ _ _ f.fill-first.ensures f.requires.cursor_is_2
 
 -- the page is as long as it was
-page-long : (f : After-fill-first) → let a = (entry f).args in Long (outputs a.pagetimes.now a.pagevalues.now a.pagemarks.now) (outputs f.fill-first.new.outtimes f.fill-first.new.outvalues f.fill-first.new.outmarks)
+page-long : (f : After-fill-first) → let a = f.args in Long (outputs a.pagetimes.now a.pagevalues.now a.pagemarks.now) (outputs f.fill-first.new.outtimes f.fill-first.new.outvalues f.fill-first.new.outmarks)
 page-long f = record { times = f.fill-first.auto.1.1.1.1.1.1.1.1.1.1.1.1.1.0; values = f.fill-first.auto.1.1.1.1.1.1.1.1.1.1.1.1.1.1.0; marks = f.fill-first.auto.1.1.1.1.1.1.1.1.1.1.1.1.1.1.1.0 }
 
 pub fill-first-requires : goal.fill-first-requires
-fill-first-requires c = let a = c.before.before.before.before.before.before.before.before.before.before.before.before.before.before.before.before.before.before.before.before.before in (a.requires.0, (a.requires.1.0, a.requires.1.1.0))
+fill-first-requires c = let a = c in record { accepted_lists = a.requires.accepted_lists; latest_of = a.requires.latest_of; cursor_is = a.requires.cursor_is_1 }
 
 pub returns-then-room-count : goal.returns-then-room-count
 returns-then-room-count c =
-    let f = c.before.before.before.before.before.before.before.before in
-    let a = entry f in
+    let f = c in
+    let a = f in
     let r = f.shortest-room.ensures in
     let h = c.if-room-count.true in
-    let t = total f in
-    let less : room a < count a = omega arith in
-    subst (λ (b : Baked). BakeIs (set a) (lent a) (outputs a.args.outtimes.now a.args.outvalues.now a.args.outmarks.now) (outputs a.args.outtimes.now a.args.outvalues.now a.args.outmarks.now) b) (sym c.refused.ensures)
-    (bake-refused (set a) (lent a) a.args.outtimes.now a.args.outvalues.now a.args.outmarks.now less)
+    let t = total (goal.at.returns-then-room-count f).After-fill-first in
+    let less : room (goal.at.returns-then-room-count a).Start < count (goal.at.returns-then-room-count a).Start = omega arith in
+    subst (λ (b : Baked). BakeIs (set (goal.at.returns-then-room-count a).Start) (lent (goal.at.returns-then-room-count a).Start) (outputs a.args.outtimes.now a.args.outvalues.now a.args.outmarks.now) (outputs a.args.outtimes.now a.args.outvalues.now a.args.outmarks.now) b) (sym c.refused.ensures)
+    (bake-refused (set (goal.at.returns-then-room-count a).Start) (lent (goal.at.returns-then-room-count a).Start) a.args.outtimes.now a.args.outvalues.now a.args.outmarks.now less)
 
 pub write_page-requires : goal.write_page-requires
 write_page-requires c =
-    let f = c.before.before.before.before.before.before.before.before.before.before.before.before.before.before in
-    let a = entry f in
-    let l = page-long f in
+    let f = c in
+    let a = f in
+    let l = page-long (goal.at.write_page-requires f).After-fill-first in
     let s = slots-is a.args.pagetimes.now a.args.pagevalues.now a.args.pagemarks.now in
-    let n = f.fill.ensures.fits in
+    let n = f.fill-first.ensures.fits in
     let r = f.shortest-room.ensures in
     let h = c.if-room-count.false in
-    (room_of _ _ _ _ (omega (arith, l.times, l.values, l.marks)), room_of _ _ _ _ (omega arith))
+    record { fact_1 = room_of _ _ _ _ (omega (arith, l.times, l.values, l.marks)); fact_2 = room_of _ _ _ _ (omega arith) }
 
 pub returns-then-first : goal.returns-then-first
 returns-then-first c =
-    let f = c.before.before.before.before.before.before.before.before.before.before.before.before.before.before.before.before.before.before.before.before.before in
-    let a = entry f in
-    let d = filled-done _ _ least _ _ _ f.fill.ensures a.pre.1.1.1.0 c.if-first.true in
+    let f = c in
+    let a = f in
+    let d = filled-done _ _ least _ _ _ f.fill-first.ensures a.requires.cursor_is_2 c.if-first.true in
     let r = f.shortest-room.ensures in
     let h = c.if-room-count.false in
-    let n : f.fill.result.count ≡ count a = d.0 in
-    let fits : count a ≤ room a = omega arith in
-    bake-done (set a) (lent a) a.args.outtimes.now a.args.outvalues.now a.args.outmarks.now _ _ _ _ fits (head-is a) d.0
-    (c.write_page.ensures ∙ page-copied (changes_of (set a) (lent a) least most) (outputs a.args.pagetimes.now a.args.pagevalues.now a.args.pagemarks.now) (outputs f.fill.new.1.1.1.1.1.1.1.1.1.1.1.1.1.0 f.fill.new.1.1.1.1.1.1.1.1.1.1.1.1.1.1.0 f.fill.new.1.1.1.1.1.1.1.1.1.1.1.1.1.1.1.0) (outputs a.args.outtimes.now a.args.outvalues.now a.args.outmarks.now) f.fill.result.count d.0 d.1)
+    let n : f.fill-first.result.count ≡ count (goal.at.returns-then-first a).Start = d.0 in
+    let fits : count (goal.at.returns-then-first a).Start ≤ room (goal.at.returns-then-first a).Start = omega arith in
+    bake-done (set (goal.at.returns-then-first a).Start) (lent (goal.at.returns-then-first a).Start) a.args.outtimes.now a.args.outvalues.now a.args.outmarks.now _ _ _ _ fits (head-is (goal.at.returns-then-first a).Start) d.0
+    (c.write_page.ensures ∙ page-copied (changes_of (set (goal.at.returns-then-first a).Start) (lent (goal.at.returns-then-first a).Start) least most) (outputs a.args.pagetimes.now a.args.pagevalues.now a.args.pagemarks.now) (outputs f.fill-first.new.outtimes f.fill-first.new.outvalues f.fill-first.new.outmarks) (outputs a.args.outtimes.now a.args.outvalues.now a.args.outmarks.now) f.fill-first.result.count d.0 d.1)
 
 pub count_within-rest-requires : goal.count_within-rest-requires
 count_within-rest-requires c =
-    let f = c.before.before.before.before.before.before.before.before.before.before.before in
-    let a = entry f in
-    (a.pre.0, (a.pre.1.0, (f.fill-first.ensures.passed.cursor, slots-long (page-long f) a.pre.1.1.1.1)))
+    let f = c in
+    let a = f in
+    record { accepted_lists = a.requires.accepted_lists; latest_of = a.requires.latest_of; cursor_is = f.fill-first.ensures.passed.cursor; nonzero = slots-long (page-long (goal.at.count_within-rest-requires f).After-fill-first) a.requires.nonzero }
 
 pub returns-then-left-rest : goal.returns-then-left-rest
 returns-then-left-rest c =
-    let f = c.before.before.before.before.before.before.before.before.before.before.before.before.before.before.before.before.before.before.before.before in
-    let a = entry f in
-    let k = c.before.before.before.before.before.before.before.before in
+    let f = c in
+    let a = f in
+    let k = c in
     let r = f.shortest-room.ensures in
     let h = c.if-room-count.false in
-    let t = total f in
+    let t = total (goal.at.returns-then-left-rest f).After-fill-first in
     let e = k.count_within-rest.ensures in
     let b = c.if-left-rest.true in
-    let n : f.shortest-room.result - f.fill-first.result.count < length (changes_of (set a) (lent a) f.fill-first.result.cursor.key most) = omega arith in
-    let less : room a < count a = omega arith in
-    subst (λ (b : Baked). BakeIs (set a) (lent a) (outputs a.args.outtimes.now a.args.outvalues.now a.args.outmarks.now) (outputs a.args.outtimes.now a.args.outvalues.now a.args.outmarks.now) b) (sym c.refused-then-left-rest.ensures)
-    (bake-refused (set a) (lent a) a.args.outtimes.now a.args.outvalues.now a.args.outmarks.now less)
+    let n : f.shortest-room.result - f.fill-first.result.count < length (changes_of (set (goal.at.returns-then-left-rest a).Start) (lent (goal.at.returns-then-left-rest a).Start) f.fill-first.result.cursor.key most) = omega arith in
+    let less : room (goal.at.returns-then-left-rest a).Start < count (goal.at.returns-then-left-rest a).Start = omega arith in
+    subst (λ (b : Baked). BakeIs (set (goal.at.returns-then-left-rest a).Start) (lent (goal.at.returns-then-left-rest a).Start) (outputs a.args.outtimes.now a.args.outvalues.now a.args.outmarks.now) (outputs a.args.outtimes.now a.args.outvalues.now a.args.outmarks.now) b) (sym c.refused-then-left-rest.ensures)
+    (bake-refused (set (goal.at.returns-then-left-rest a).Start) (lent (goal.at.returns-then-left-rest a).Start) a.args.outtimes.now a.args.outvalues.now a.args.outmarks.now less)
 
 pub fill-filled-requires : goal.fill-filled-requires
-fill-filled-requires c = let a = c.before.before.before.before.before.before.before.before.before.before.before.before.before.before.before.before.before.before.before.before.before.before.before.before.before.before.before.before.before.before.before.before.before.before.before.before.before.before.before.before.before.before.before.before in (a.requires.0, (a.requires.1.0, a.requires.1.1.0))
+fill-filled-requires c = let a = c in record { accepted_lists = a.requires.accepted_lists; latest_of = a.requires.latest_of; cursor_is = a.requires.cursor_is_1 }
 
 pub shape_of-pagetimes : goal.shape_of-pagetimes
 shape_of-pagetimes c = c.count_within-rest.auto.1.1.1.1.1.1.1.1.1.1.1.1.1.1.0 ∙ c.fill-first.auto.1.1.1.1.1.1.1.1.1.1.1.1.1.0
@@ -122,17 +118,17 @@ shape_of-pagemarks c = c.count_within-rest.auto.1.1.1.1.1.1.1.1.1.1.1.1.1.1.1.1.
 
 pub returns : goal.returns
 returns c =
-    let f = c.before.before.before.before.before.before.before.before.before.before.before.before.before.before.before.before.before.before.before.before.before.before.before.before.before.before.before.before.before in
-    let a = entry f in
-    let k = c.before.before.before.before.before.before.before.before.before.before.before.before.before.before.before.before.before in
+    let f = c in
+    let a = f in
+    let k = c in
     let r = f.shortest-room.ensures in
     let h = c.if-room-count.false in
-    let t = total f in
+    let t = total (goal.at.returns f).After-fill-first in
     let e = k.count_within-rest.ensures in
     let b = c.if-left-rest.false in
-    let n : length (changes_of (set a) (lent a) f.fill-first.result.cursor.key most) ≤ f.shortest-room.result - f.fill-first.result.count = omega arith in
+    let n : length (changes_of (set (goal.at.returns a).Start) (lent (goal.at.returns a).Start) f.fill-first.result.cursor.key most) ≤ f.shortest-room.result - f.fill-first.result.count = omega arith in
     let q = slots-is a.args.outtimes.now a.args.outvalues.now a.args.outmarks.now in
-    let l : count a ≤ slots (outputs a.args.outtimes.now a.args.outvalues.now a.args.outmarks.now) = omega arith in
-    let d = filled-all _ _ least _ _ _ c.fill-filled.ensures a.pre.1.1.1.0 l in
-    let fits : count a ≤ room a = omega arith in
-    bake-done (set a) (lent a) a.args.outtimes.now a.args.outvalues.now a.args.outmarks.now _ _ _ _ fits (head-is a) d.0 d.1
+    let l : count (goal.at.returns a).Start ≤ slots (outputs a.args.outtimes.now a.args.outvalues.now a.args.outmarks.now) = omega arith in
+    let d = filled-all _ _ least _ _ _ c.fill-filled.ensures a.requires.cursor_is_2 l in
+    let fits : count (goal.at.returns a).Start ≤ room (goal.at.returns a).Start = omega arith in
+    bake-done (set (goal.at.returns a).Start) (lent (goal.at.returns a).Start) a.args.outtimes.now a.args.outvalues.now a.args.outmarks.now _ _ _ _ fits (head-is (goal.at.returns a).Start) d.0 d.1

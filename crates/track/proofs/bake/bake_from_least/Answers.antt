@@ -5,6 +5,6 @@ use Rattle.track.proofs.bake.bake_from_least.Goals as goal
 
 pub bake_by_pages-requires : goal.bake_by_pages-requires
 bake_by_pages-requires c =
-    let n = c.before.before.before.before.before.before in
-    let a = n.before.before.before.before.before.before.before.before.before.before.before.before.before.before in
-    (a.requires.0, (a.requires.1, (n.least_cursor-from.ensures.0, (n.least_cursor-from.ensures.1, slots-some _ _ _ _ _ _))))
+    let n = c in
+    let a = n in
+    record { accepted_lists = a.requires.accepted_lists; latest_of = a.requires.latest_of; cursor_is_1 = n.least_cursor-from.ensures.0; cursor_is_2 = n.least_cursor-from.ensures.1; nonzero = slots-some _ _ _ _ _ _ }

@@ -7,43 +7,43 @@ use Rattle.track.proofs.Baking.{copied_is}
 use Rattle.track.proofs.bake.write_page.Goals as goal
 
 pub slice_bounds-copy-end : goal.slice_bounds-copy-end
-slice_bounds-copy-end c = sym (length-take-le _ _ c.requires.0.times)
+slice_bounds-copy-end c = sym (length-take-le _ _ c.requires.fact_1.times)
 
 pub slice_bounds-copy-end-2 : goal.slice_bounds-copy-end-2
-slice_bounds-copy-end-2 c = c.requires.1.times
+slice_bounds-copy-end-2 c = c.requires.fact_2.times
 
 pub slice_bounds-copy-end-3 : goal.slice_bounds-copy-end-3
-slice_bounds-copy-end-3 c = sym (length-take-le _ _ c.requires.1.times)
+slice_bounds-copy-end-3 c = sym (length-take-le _ _ c.requires.fact_2.times)
 
 pub copy-requires : goal.copy-requires
 copy-requires c = let p = c.requires in length-take-le _ _ p.1.times ∙ sym (length-take-le _ _ p.0.times)
 
 pub slice_bounds-copy-end-4 : goal.slice_bounds-copy-end-4
-slice_bounds-copy-end-4 c = sym (length-take-le _ _ c.requires.0.values)
+slice_bounds-copy-end-4 c = sym (length-take-le _ _ c.requires.fact_1.values)
 
 pub slice_bounds-copy-end-5 : goal.slice_bounds-copy-end-5
-slice_bounds-copy-end-5 c = c.requires.1.values
+slice_bounds-copy-end-5 c = c.requires.fact_2.values
 
 pub slice_bounds-copy-end-6 : goal.slice_bounds-copy-end-6
-slice_bounds-copy-end-6 c = sym (length-take-le _ _ c.requires.1.values)
+slice_bounds-copy-end-6 c = sym (length-take-le _ _ c.requires.fact_2.values)
 
 pub copy-requires-2 : goal.copy-requires-2
 copy-requires-2 c = let p = c.requires in length-take-le _ _ p.1.values ∙ sym (length-take-le _ _ p.0.values)
 
 pub slice_bounds-copy_marks-end : goal.slice_bounds-copy_marks-end
-slice_bounds-copy_marks-end c = sym (length-take-le _ _ c.requires.0.marks)
+slice_bounds-copy_marks-end c = sym (length-take-le _ _ c.requires.fact_1.marks)
 
 pub slice_bounds-copy_marks-end-2 : goal.slice_bounds-copy_marks-end-2
-slice_bounds-copy_marks-end-2 c = c.requires.1.marks
+slice_bounds-copy_marks-end-2 c = c.requires.fact_2.marks
 
 pub slice_bounds-copy_marks-end-3 : goal.slice_bounds-copy_marks-end-3
-slice_bounds-copy_marks-end-3 c = sym (length-take-le _ _ c.requires.1.marks)
+slice_bounds-copy_marks-end-3 c = sym (length-take-le _ _ c.requires.fact_2.marks)
 
 pub copy_marks-requires : goal.copy_marks-requires
 copy_marks-requires c = let p = c.requires in length-take-le _ _ p.1.marks ∙ sym (length-take-le _ _ p.0.marks)
 
 pub returns : goal.returns
 returns c =
-    let s = c.before.before.before.before.before.before.before.before.before.before.before.before.before.before.before.before.before.before.before in
+    let s = c in
     copied_is s.args.n (outputs s.args.pagetimes.now s.args.pagevalues.now s.args.pagemarks.now) (outputs s.args.outtimes.now s.args.outvalues.now s.args.outmarks.now) _ _ _
     c.copy.ensures c.copy-2.ensures c.copy_marks.ensures

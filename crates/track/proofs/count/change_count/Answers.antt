@@ -6,7 +6,7 @@ use borrow.Author.Rules.{rules}
 use Rattle.track.proofs.count.change_count.Goals as goal
 
 pub count_from_least-requires : goal.count_from_least-requires
-count_from_least-requires c = let s = c.before.before.before.before.before.before.before.before.before.before.before in (s.requires, no-latest _ _)
+count_from_least-requires c = let s = c in record { accepted_lists = s.requires; latest_of = no-latest _ _ }
 
 pub latest_inverses-latest-requires : goal.latest_inverses-latest-requires
-latest_inverses-latest-requires c = let a = c.before.before.before.before.before.before.before.before.before.before in (a.requires.knots-paired, (few-knots a.requires, (ready-readable a.requires).segments))
+latest_inverses-latest-requires c = let a = c in record { fact_1 = a.requires.knots-paired; fact_2 = few-knots a.requires; fact_3 = (ready-readable a.requires).segments }

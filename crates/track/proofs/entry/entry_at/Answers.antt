@@ -14,8 +14,8 @@ use Rattle.track.proofs.entry.entry_at.Goals as goal
 
 pub value_in_set-requires : goal.value_in_set-requires
 value_in_set-requires c =
-    let a = c.before.before.before.before.before.before.before.before.before.before in
-    (a.requires.0, subst (λ (t : Float). T (finite t)) (sym c.of_key-t.ensures) (of_key-finite a.args.k a.requires.1.0 a.requires.1.1))
+    let a = c in
+    record { fact_1 = a.requires.accepted_lists; fact_2 = subst (λ (t : Float). T (finite t)) (sym c.of_key-t.ensures) (of_key-finite a.args.k a.requires.le_k.0 a.requires.le_k.1) }
 
 pub returns : goal.returns
 returns c =

@@ -7,7 +7,7 @@ use Rattle.track.proofs.fill.least_cursor.Goals as goal
 
 pub returns : goal.returns
 returns c =
-    let a = c.before.before.before.before.before.before.before.before.before.before.before in (
+    let a = c in (
       record { keys = record { low = lit≤ tt; order = lit≤ tt; high = lit≤ tt }; last = c.entry_at-last.ensures; place = no-place-is a.requires c.no_place-place.result c.no_place-place.ensures },
       refl,
     )

@@ -10,49 +10,46 @@ use Rattle.value.specs.Answers.{answer_in, Answerable}
 use Rattle.cell.specs.CellAndEnd.{CellAsks, CellIn}
 use Rattle.track.specs.span.Steps.{ReadsAt}
 use borrow.Author.Rules.{rules}
-use Rattle.track.proofs.span.cell_step.Goals.{After-cell_at-piece, Start as At-start}
+use Rattle.track.proofs.span.cell_step.Goals.{After-cell_at-piece}
 use Rattle.track.proofs.span.cell_step.Goals as goal
 
-abbrev entry : After-cell_at-piece → At-start
-entry c = c.before.before.before.before.before.before.before.before.before.before
-
 -- the cell of k
-found : (c : After-cell_at-piece) → CellIn (entry c).args.starts.now (entry c).args.xs.now (entry c).args.ys.now (entry c).args.times.now (entry c).args.at.window (of_key (entry c).args.k) c.Cell-at.result.cell c.Cell-at.result.end
-found c = let a = (entry c).args in subst (λ (t : Float). CellIn a.starts.now a.xs.now a.ys.now a.times.now a.at.window t c.Cell-at.result.cell c.Cell-at.result.end) c.of_key.ensures c.Cell-at.ensures
+found : (c : After-cell_at-piece) → CellIn c.args.starts.now c.args.xs.now c.args.ys.now c.args.times.now c.args.at.window (of_key c.args.k) c.Cell-at.result.cell c.Cell-at.result.end
+found c = let a = c.args in subst (λ (t : Float). CellIn a.starts.now a.xs.now a.ys.now a.times.now a.at.window t c.Cell-at.result.cell c.Cell-at.result.end) c.of_key.ensures c.Cell-at.ensures
 
-reads : (c : After-cell_at-piece) → ReadsAt (entry c).args.times.now (entry c).args.values.now (entry c).args.marks.now (entry c).args.ends.now c.Cell-at.result.cell c.Cell-at.result.end (entry c).args.k
-reads c = (entry c).requires.reads c.Cell-at.result.cell c.Cell-at.result.end (found c)
+reads : (c : After-cell_at-piece) → ReadsAt c.args.times.now c.args.values.now c.args.marks.now c.args.ends.now c.Cell-at.result.cell c.Cell-at.result.end c.args.k
+reads c = c.requires.reads c.Cell-at.result.cell c.Cell-at.result.end (found c)
 
 pub cell_at-piece-requires : goal.cell_at-piece-requires
 cell_at-piece-requires c =
-    let a = c.before.before.before.before.before.before.before.before.before in
+    let a = c in
     subst (CellAsks a.args.starts.now a.args.xs.now a.args.ys.now a.args.times.now a.args.latest.now a.args.at.window) (sym c.of_key.ensures) a.requires.search
 
 pub end_key-e-requires : goal.end_key-e-requires
 end_key-e-requires c = (reads c).number
 
 pub overflow_sub-e : goal.overflow_sub-e
-overflow_sub-e c = omega (arith, (reads c.before).later, c.end_key-e.ensures)
+overflow_sub-e c = omega (arith, (reads (goal.at.overflow_sub-e c).After-cell_at-piece).later, c.end_key-e.ensures)
 
 pub read_on-source-requires : goal.read_on-source-requires
-read_on-source-requires c = let A = reads c.before.before in (A.point, A.read)
+read_on-source-requires c = let A = reads (goal.at.read_on-source-requires c).After-cell_at-piece in record { keys = A.point; readable = A.read }
 
 pub answer_of-requires : goal.answer_of-requires
 answer_of-requires c =
-    let q = c.before.before.before in
-    let a = (entry q).args in
-    (subst (Answerable (length a.values.now) a.ends.now) (sym c.read_on-source.ensures) (reads q).said, (reads q).flagged)
+    let q = c in
+    let a = q.args in
+    record { fact_1 = subst (Answerable (length a.values.now) a.ends.now) (sym c.read_on-source.ensures) (reads (goal.at.answer_of-requires q).After-cell_at-piece).said; fact_2 = (reads (goal.at.answer_of-requires q).After-cell_at-piece).flagged }
 
 pub returns : goal.returns
 returns c =
-    let x = c.before in
-    let l = x.before.before.before in
-    let q = l.before.before in
-    let a = (entry q).args in
+    let x = c in
+    let l = x in
+    let q = l in
+    let a = q.args in
     record {
       cell = q.Cell-at.result.cell;
       end = q.Cell-at.result.end;
-      found = found q;
+      found = found (goal.at.returns q).After-cell_at-piece;
       step = record {
         way = refl;
         here = x.entry_of-here.ensures ∙ ap written_entry (x.answer_of.ensures ∙ ap (answer_in a.m a.values.now a.marks.now a.ends.now) x.read_on-source.ensures);

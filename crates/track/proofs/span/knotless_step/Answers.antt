@@ -11,36 +11,33 @@ use Rattle.track.specs.declared.span.ReadBy.TheVariants.{ByCell}
 use Rattle.track.specs.span.Runs.{read_on}
 use Rattle.track.specs.span.Steps.{ReadsAt}
 use borrow.Author.Rules.{rules}
-use Rattle.track.proofs.span.knotless_step.Goals.{After-knotless_cell-cell, Start as At-start}
+use Rattle.track.proofs.span.knotless_step.Goals.{After-knotless_cell-cell}
 use Rattle.track.proofs.span.knotless_step.Goals as goal
 
-abbrev entry : After-knotless_cell-cell → At-start
-entry c = c.before.before.before.before.before.before
-
 -- the cell that was handed out can be read
-asks : (c : After-knotless_cell-cell) → ReadsAt (entry c).args.times.now (entry c).args.values.now (entry c).args.marks.now (entry c).args.ends.now c.knotless_cell-cell.result (At (entry c).args.at.window.max) (entry c).args.k
-asks c = let a = (entry c).args in subst (λ (d : Cell). ReadsAt a.times.now a.values.now a.marks.now a.ends.now d (At a.at.window.max) a.k) (sym c.knotless_cell-cell.ensures) (entry c).requires
+asks : (c : After-knotless_cell-cell) → ReadsAt c.args.times.now c.args.values.now c.args.marks.now c.args.ends.now c.knotless_cell-cell.result (At c.args.at.window.max) c.args.k
+asks c = let a = c.args in subst (λ (d : Cell). ReadsAt a.times.now a.values.now a.marks.now a.ends.now d (At a.at.window.max) a.k) (sym c.knotless_cell-cell.ensures) c.requires
 
 pub key-next-requires : goal.key-next-requires
-key-next-requires c = (entry c).requires.number
+key-next-requires c = c.requires.number
 
 pub overflow_sub-next : goal.overflow_sub-next
-overflow_sub-next c = omega (arith, c.key-next.ensures, (entry c.before).requires.later)
+overflow_sub-next c = omega (arith, c.key-next.ensures, c.requires.later)
 
 pub read_on-read-requires : goal.read_on-read-requires
-read_on-read-requires c = let A = asks c.before.before in (A.point, A.read)
+read_on-read-requires c = let A = asks (goal.at.read_on-read-requires c).After-knotless_cell-cell in record { keys = A.point; readable = A.read }
 
 pub answer_of-requires : goal.answer_of-requires
 answer_of-requires c =
-    let q = c.before.before.before in
-    let a = (entry q).args in
-    (subst (Answerable (length a.values.now) a.ends.now) (sym c.read_on-read.ensures) (asks q).said, (asks q).flagged)
+    let q = c in
+    let a = q.args in
+    record { fact_1 = subst (Answerable (length a.values.now) a.ends.now) (sym c.read_on-read.ensures) (asks (goal.at.answer_of-requires q).After-knotless_cell-cell).said; fact_2 = (asks (goal.at.answer_of-requires q).After-knotless_cell-cell).flagged }
 
 pub returns : goal.returns
 returns c =
-    let l = c.before.before.before in
-    let q = l.before.before in
-    let a = (entry q).args in
+    let l = c in
+    let q = l in
+    let a = q.args in
     record {
       way = ap ByCell q.knotless_cell-cell.ensures;
       here =

@@ -12,34 +12,31 @@ use Rattle.cell.specs.declared.Cell.{Cell}
 use Rattle.track.specs.span.Runs.{part, read_on}
 use Rattle.track.specs.span.Steps.{ReadPart, Readable}
 use borrow.Author.Rules.{rules}
-use Rattle.track.proofs.span.read_on.Goals.{After-clip_end-b, In-Reading, Start as At-start}
+use Rattle.track.proofs.span.read_on.Goals.{After-clip_end-b, In-Reading}
 use Rattle.track.proofs.span.read_on.Goals as goal
 
-abbrev entry : In-Reading → At-start
-entry c = c.before.before.before.before.before
-
 -- the clip's part can be read
-read : (c : In-Reading) → ReadPart (entry c).args.times.now (entry c).args.ends.now c.in-Reading.clip
-read c = let a = entry c in subst (Readable a.args.times.now a.args.ends.now) c.in-Reading.is a.pre.1
+read : (c : In-Reading) → ReadPart c.args.times.now c.args.ends.now c.in-Reading.clip
+read c = let a = c in subst (Readable a.args.times.now a.args.ends.now) c.in-Reading.is a.requires.readable
 
-part-inside : (c : After-clip_end-b) → (c.clip_begin-a.result ≤ c.clip_end-b.result) × (c.clip_end-b.result ≤ length (entry c.before.before).args.times.now)
+part-inside : (c : After-clip_end-b) → (c.clip_begin-a.result ≤ c.clip_end-b.result) × (c.clip_end-b.result ≤ length c.args.times.now)
 part-inside c =
-    let R = read c.before.before in
+    let R = read (goal.at.After-clip_end-b c).In-Reading in
     let b = c.clip_begin-a.ensures in
     let e = c.clip_end-b.ensures in
     (omega (arith, R.from), omega (arith, R.inside))
 
-part-is : (c : After-clip_end-b) → take (c.clip_end-b.result - c.clip_begin-a.result) (drop c.clip_begin-a.result (entry c.before.before).args.times.now) ≡ part (entry c.before.before).args.times.now (entry c.before.before).args.ends.now c.in-Reading.clip
-part-is c = ap₂ (λ (e b : ℕ). take (e - b) (drop b (entry c.before.before).args.times.now)) c.clip_end-b.ensures c.clip_begin-a.ensures
+part-is : (c : After-clip_end-b) → take (c.clip_end-b.result - c.clip_begin-a.result) (drop c.clip_begin-a.result c.args.times.now) ≡ part c.args.times.now c.args.ends.now c.in-Reading.clip
+part-is c = ap₂ (λ (e b : ℕ). take (e - b) (drop b c.args.times.now)) c.clip_end-b.ensures c.clip_begin-a.ensures
 
 pub clip_begin-a-requires : goal.clip_begin-a-requires
 clip_begin-a-requires c = (read c).clip
 
 pub clip_end-b-requires : goal.clip_end-b-requires
-clip_end-b-requires c = (read c.before).clip
+clip_end-b-requires c = (read (goal.at.clip_end-b-requires c).In-Reading).clip
 
 pub offset_bounds-times-a : goal.offset_bounds-times-a
-offset_bounds-times-a c = let h = part-inside c in omega (arith, (entry c.before.before).well-formed)
+offset_bounds-times-a c = let h = part-inside c in omega (arith, c.well_formed)
 
 pub slice_bounds-place_on-count : goal.slice_bounds-place_on-count
 slice_bounds-place_on-count c = (part-inside c).0
@@ -52,14 +49,14 @@ slice_bounds-place_on-end c = let h = part-inside c in search rules
 
 pub place_on-requires : goal.place_on-requires
 place_on-requires c =
-    let a = entry c.before.before.before in
-    let K = a.pre.0 in
-    (subst Ascending (sym (part-is c.before)) (read c.before.before.before).rising, (K.low, K.high))
+    let a = c in
+    let K = a.requires.keys in
+    record { ascending = subst Ascending (sym (part-is (goal.at.place_on-requires c).After-clip_end-b)) (read (goal.at.place_on-requires c).In-Reading).rising; le_k = (K.low, K.high) }
 
 pub returns-in-Reading : goal.returns-in-Reading
 returns-in-Reading c =
-    let t = c.before.before.before.before in
-    let a = (entry t).args in
+    let t = c in
+    let a = t.args in
     let g = t.cell-in-Reading-1.given in
-    ap (Sample g.0.0) (c.place_on.ensures ∙ ap (λ (l : List Float). place_on l g.0.1.0 a.k) (part-is c.before.before))
+    ap (Sample g.0.0) (c.place_on.ensures ∙ ap (λ (l : List Float). place_on l g.0.1.0 a.k) (part-is (goal.at.returns-in-Reading c).After-clip_end-b))
     ∙ sym (ap (λ (d : Cell). read_on a.times.now a.ends.now d a.k) g.1)

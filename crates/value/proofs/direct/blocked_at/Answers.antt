@@ -9,11 +9,9 @@ use lib.ListN.{length, get_or, drop}
 use lib.Ieee.{Float, nan, eq}
 use Rattle.definitions.specs.Lists.{any}
 use Rattle.lists.proofs.Fronts.{any_found, at_most_one, counted-all}
+use Rattle.value.proofs.direct.blocked_at.Invariants.{same}
 use Rattle.value.proofs.direct.blocked_at.Goals.{After-equal_found-found}
 use Rattle.value.proofs.direct.blocked_at.Goals as goal
-
-abbrev same : Float → Float → Bool
-same start b = eq b start
 
 -- what is counted of one block
 one_more : (c : After-equal_found-found) → c.equal_found-found.result ≤ 1

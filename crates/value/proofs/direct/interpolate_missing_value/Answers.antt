@@ -7,57 +7,49 @@ use Rattle.value.specs.direct.Reads.{reading_is}
 use Rattle.value.proofs.direct.Sources.{stands-default, stands-off, stands-before, stands_after, stands-none}
 use Rattle.value.proofs.direct.ReadsLaws.{first-is, search-asks}
 use borrow.Author.Rules.{rules}
-use Rattle.value.proofs.direct.interpolate_missing_value.Goals.{After-default-1, Else-not-m, Start as At-start}
 use Rattle.value.proofs.direct.interpolate_missing_value.Goals as goal
 
-abbrev entry : After-default-1 → At-start
-entry k = k.before.before.before.before.before.before.before.before.before.before
-
--- where both searches begin
-abbrev searching : Else-not-m → After-default-1
-searching k = k.before.before.before.before
-
 pub returns-then-default-eq0 : goal.returns-then-default-eq0
-returns-then-default-eq0 c = let s = entry c.before.before in stands-default s.pre.0 s.args.p c.if-default-eq0.true
+returns-then-default-eq0 c = let s = c in stands-default s.requires.fact_1 s.args.p c.if-default-eq0.true
 
 pub returns-then-not-m : goal.returns-then-not-m
 returns-then-not-m c =
-    let k = c.before.before in
-    let s = entry k.before.before in
-    stands-off s.pre.0 s.args.p k.if-default-eq0.false (not-true s.args.m.interpolate c.if-not-m.true)
+    let k = c in
+    let s = k in
+    stands-off s.requires.fact_1 s.args.p k.if-default-eq0.false c.if-not-m.true
 
 pub nearest_before-back-requires : goal.nearest_before-back-requires
 nearest_before-back-requires c =
-    let s = entry (searching c) in
-    (search-asks s.pre.0, omega arith)
+    let s = entry (goal.at.nearest_before-back-requires c).After-default-1 in
+    record { fact_1 = search-asks s.pre.0; fact_2 = omega arith }
 
 pub returns-in-Of : goal.returns-in-Of
 returns-in-Of c =
-    let k = c.before.before in
-    let s = entry (searching k) in
+    let k = c in
+    let s = entry (goal.at.returns-in-Of k).After-default-1 in
     let g = c.back-1.given in
-    stands-before s.pre.0 s.args.p k.if-default-eq0.false (not-false s.args.m.interpolate k.if-not-m.false) (sample g.0.0 g.0.1.0) (sym (ap reading_is g.1) ∙ c.nearest_before-back.ensures ∙ first-is s.pre.0 _)
+    stands-before s.pre.0 s.args.p k.if-default-eq0.false k.if-not-m.false (sample g.0.0 g.0.1.0) (sym (ap reading_is g.1) ∙ c.nearest_before-back.ensures ∙ first-is s.pre.0 _)
 
 pub nearest_from-on-requires : goal.nearest_from-on-requires
 nearest_from-on-requires c =
-    let s = entry (searching c.before.before) in
-    (search-asks s.pre.0, omega arith)
+    let s = entry (goal.at.nearest_from-on-requires c).After-default-1 in
+    record { fact_1 = search-asks s.pre.0; fact_2 = omega arith }
 
 pub returns-in-Of-on : goal.returns-in-Of-on
 returns-in-Of-on c =
-    let n = c.before in
-    let b = n.before in
-    let k = b.before.before in
-    let s = entry (searching k) in
+    let n = c in
+    let b = n in
+    let k = b in
+    let s = entry (goal.at.returns-in-Of-on k).After-default-1 in
     let g = c.on-1.given in
-    stands_after s.pre.0 s.args.p k.if-default-eq0.false (not-false s.args.m.interpolate k.if-not-m.false) (sample g.0.0 g.0.1.0)
+    stands_after s.pre.0 s.args.p k.if-default-eq0.false k.if-not-m.false (sample g.0.0 g.0.1.0)
     (sym (ap reading_is b.in_default.is) ∙ b.nearest_before-back.ensures ∙ first-is s.pre.0 _) (sym (ap reading_is g.1) ∙ n.nearest_from-on.ensures ∙ first-is s.pre.0 _)
 
 pub returns : goal.returns
 returns c =
-    let n = c.before in
-    let b = n.before in
-    let k = b.before.before in
-    let s = entry (searching k) in
-    stands-none s.pre.0 s.args.p k.if-default-eq0.false (not-false s.args.m.interpolate k.if-not-m.false)
+    let n = c in
+    let b = n in
+    let k = b in
+    let s = entry (goal.at.returns k).After-default-1 in
+    stands-none s.pre.0 s.args.p k.if-default-eq0.false k.if-not-m.false
     (sym (ap reading_is b.in_default.is) ∙ b.nearest_before-back.ensures ∙ first-is s.pre.0 _) (sym (ap reading_is c.in_default-on.is) ∙ n.nearest_from-on.ensures ∙ first-is s.pre.0 _)

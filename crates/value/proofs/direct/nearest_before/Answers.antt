@@ -9,11 +9,7 @@ use Rattle.laws.specs.cell.Lent.{active_of}
 use Rattle.value.specs.direct.Reads.{reading_is, first_read}
 use Rattle.value.proofs.direct.ReadsLaws.{back_found, back_on, back_end}
 use borrow.Author.Rules.{rules}
-use Rattle.value.proofs.direct.nearest_before.Goals.{At-loop-left, Start as At-start}
 use Rattle.value.proofs.direct.nearest_before.Goals as goal
-
-abbrev entry : At-loop-left → At-start
-entry k = k.before.before.before.before.before.before.before.before.before.before
 
 pub loop-left-init : goal.loop-left-init
 loop-left-init c = (omega arith, refl)
@@ -22,23 +18,23 @@ pub overflow_sub-left : goal.overflow_sub-left
 overflow_sub-left c = omega arith
 
 pub read_start-found-requires : goal.read_start-found-requires
-read_start-found-requires c = ((entry c.before).pre.0, omega arith)
+read_start-found-requires c = record { fact_1 = c.requires.fact_1; fact_2 = omega arith }
 
 pub returns-in-Of : goal.returns-in-Of
 returns-in-Of c =
     let g = c.found-1.given in
-    let k = c.before.before.before in
-    sym (k.loop-left.invariant.1 ∙ let a = (entry k).args in back_found a.blocks.now a.xs.now a.ys.now a.times.now a.ends.now a.starts.now a.clips.now (entry k).requires.0.paired k.loop-left.left (omega arith) (omega arith) (sample g.0.0 g.0.1.0) (sym (ap reading_is g.1) ∙ c.read_start-found.ensures))
+    let k = c in
+    sym (k.loop-left.invariant.1 ∙ let a = k.args in back_found a.blocks.now a.xs.now a.ys.now a.times.now a.ends.now a.starts.now a.clips.now k.requires.fact_1.paired k.loop-left.left (omega arith) (omega arith) (sample g.0.0 g.0.1.0) (sym (ap reading_is g.1) ∙ c.read_start-found.ensures))
 
 pub loop-left-smaller : goal.loop-left-smaller
 loop-left-smaller c = omega arith
 
 pub loop-left-preserved : goal.loop-left-preserved
 loop-left-preserved c =
-    let k = c.before.before.before in
-    (omega arith, k.loop-left.invariant.1 ∙ let a = (entry k).args in back_on a.blocks.now a.xs.now a.ys.now a.times.now a.ends.now a.starts.now a.clips.now (entry k).requires.0.paired k.loop-left.left (omega arith) (omega arith) (sym (ap reading_is c.in_default.is) ∙ c.read_start-found.ensures))
+    let k = c in
+    (omega arith, k.loop-left.invariant.1 ∙ let a = k.args in back_on a.blocks.now a.xs.now a.ys.now a.times.now a.ends.now a.starts.now a.clips.now k.requires.fact_1.paired k.loop-left.left (omega arith) (omega arith) (sym (ap reading_is c.in_default.is) ∙ c.read_start-found.ensures))
 
 pub returns : goal.returns
 returns c =
-    let k = c.before in
-    sym (k.loop-left.invariant.1 ∙ let a = (entry k).args in back_end a.blocks.now a.xs.now a.ys.now a.times.now a.ends.now a.starts.now a.clips.now (entry k).requires.0.paired k.loop-left.left (omega arith))
+    let k = c in
+    sym (k.loop-left.invariant.1 ∙ let a = k.args in back_end a.blocks.now a.xs.now a.ys.now a.times.now a.ends.now a.starts.now a.clips.now k.requires.fact_1.paired k.loop-left.left (omega arith))

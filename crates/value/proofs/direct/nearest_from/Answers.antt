@@ -8,23 +8,19 @@ use Rattle.laws.specs.cell.Lent.{active_of}
 use Rattle.value.specs.direct.Reads.{reading_is, first_read}
 use Rattle.value.proofs.direct.ReadsLaws.{from_found, from_on, from_end}
 use borrow.Author.Rules.{rules}
-use Rattle.value.proofs.direct.nearest_from.Goals.{At-loop-i, Start as At-start}
 use Rattle.value.proofs.direct.nearest_from.Goals as goal
-
-abbrev entry : At-loop-i → At-start
-entry k = k.before.before.before.before.before.before.before.before.before.before
 
 pub loop-i-init : goal.loop-i-init
 loop-i-init c = (omega arith, refl)
 
 pub read_start-found-requires : goal.read_start-found-requires
-read_start-found-requires c = ((entry c.before).pre.0, omega arith)
+read_start-found-requires c = record { fact_1 = c.requires.fact_1; fact_2 = omega arith }
 
 pub returns-in-Of : goal.returns-in-Of
 returns-in-Of c =
     let g = c.found-1.given in
-    let k = c.before.before.before in
-    sym (k.loop-i.invariant.1 ∙ let a = (entry k).args in from_found a.blocks.now a.xs.now a.ys.now a.times.now a.ends.now a.starts.now a.clips.now (entry k).requires.0.paired k.loop-i.i (omega arith) (sample g.0.0 g.0.1.0) (sym (ap reading_is g.1) ∙ c.read_start-found.ensures))
+    let k = c in
+    sym (k.loop-i.invariant.1 ∙ let a = k.args in from_found a.blocks.now a.xs.now a.ys.now a.times.now a.ends.now a.starts.now a.clips.now k.requires.fact_1.paired k.loop-i.i (omega arith) (sample g.0.0 g.0.1.0) (sym (ap reading_is g.1) ∙ c.read_start-found.ensures))
 
 pub overflow_add-i : goal.overflow_add-i
 overflow_add-i c = omega arith
@@ -34,10 +30,10 @@ loop-i-smaller c = omega arith
 
 pub loop-i-preserved : goal.loop-i-preserved
 loop-i-preserved c =
-    let k = c.before.before.before in
-    (omega arith, k.loop-i.invariant.1 ∙ let a = (entry k).args in from_on a.blocks.now a.xs.now a.ys.now a.times.now a.ends.now a.starts.now a.clips.now (entry k).requires.0.paired k.loop-i.i (omega arith) (sym (ap reading_is c.in_default.is) ∙ c.read_start-found.ensures))
+    let k = c in
+    (omega arith, k.loop-i.invariant.1 ∙ let a = k.args in from_on a.blocks.now a.xs.now a.ys.now a.times.now a.ends.now a.starts.now a.clips.now k.requires.fact_1.paired k.loop-i.i (omega arith) (sym (ap reading_is c.in_default.is) ∙ c.read_start-found.ensures))
 
 pub returns : goal.returns
 returns c =
-    let k = c.before in
-    sym (k.loop-i.invariant.1 ∙ let a = (entry k).args in from_end a.blocks.now a.xs.now a.ys.now a.times.now a.ends.now a.starts.now a.clips.now (entry k).requires.0.paired k.loop-i.i (omega arith))
+    let k = c in
+    sym (k.loop-i.invariant.1 ∙ let a = k.args in from_end a.blocks.now a.xs.now a.ys.now a.times.now a.ends.now a.starts.now a.clips.now k.requires.fact_1.paired k.loop-i.i (omega arith))

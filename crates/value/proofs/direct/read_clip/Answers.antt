@@ -7,31 +7,27 @@ use Rattle.sdf.specs.look.Reads.{held_reading}
 use Rattle.sdf.proofs.look.ReadsLaws.{held_none}
 use Rattle.value.proofs.direct.ReadsLaws.{part-looked}
 use borrow.Author.Rules.{rules}
-use Rattle.value.proofs.direct.read_clip.Goals.{After-clip_end-end, Start as At-start}
 use Rattle.value.proofs.direct.read_clip.Goals as goal
-
-abbrev entry : After-clip_end-end → At-start
-entry c = c.before.before.before.before.before.before.before.before
 
 pub returns-then-begin-end : goal.returns-then-begin-end
 returns-then-begin-end c =
-    let k = c.before in
-    let a = (entry k).args in
+    let k = c in
+    let a = k.args in
     held_none a.times.now a.values.now a.marks.now _ _ _ (sym k.clip_begin-begin.ensures ∙ c.if-begin-end.true ∙ k.clip_end-end.ensures)
 
 pub read_clip-requires : goal.read_clip-requires
 read_clip-requires c =
-    let k = c.before.before in
-    let s = entry k in
+    let k = c in
+    let s = k in
     let a = s.args in
-    let p = s.pre in
+    let p = s.requires in
     part-looked a.xs.now a.ys.now a.times.now a.values.now a.marks.now a.ends.now a.clip a.t p.0 p.1.0 p.1.1.0 p.1.1.1 _ _
     k.clip_begin-begin.ensures k.clip_end-end.ensures
 
 pub returns : goal.returns
 returns c =
-    let k = c.before.before.before in
-    let a = (entry k).args in
+    let k = c in
+    let a = k.args in
     c.read_clip.ensures
     ∙ ap (held_reading a.times.now a.values.now a.marks.now k.clip_begin-begin.result k.clip_end-end.result) c.map_time-c.ensures
     ∙ ap₂ (λ (b e : ℕ). held_reading a.times.now a.values.now a.marks.now b e (map_stage_to_clip (knots_of a.xs.now a.ys.now) a.t)) k.clip_begin-begin.ensures k.clip_end-end.ensures

@@ -7,43 +7,40 @@ use Rattle.definitions.specs.Samples.{clip_begin}
 use Rattle.value.specs.Answers.{Answerable}
 use Rattle.value.proofs.Answers.{says-sample, says-default, says-blocked, says-absent}
 use borrow.Author.Rules.{rules}
-use Rattle.value.proofs.value.answer_of.Goals.{After-shared_slice_known-4-1, In-Sample-2, Start as At-start}
+use Rattle.value.proofs.value.answer_of.Goals.{In-Sample-2}
 use Rattle.value.proofs.value.answer_of.Goals as goal
 
-abbrev entry : After-shared_slice_known-4-1 → At-start
-entry k = k.before.before.before.before
-
 -- a sample's place
-inside : (k : In-Sample-2) → let s = entry k.before in (k.in-Sample.clip < length s.args.ends.now) × (clip_begin s.args.ends.now k.in-Sample.clip + k.in-Sample.place < length s.args.values.now)
-inside k = let s = entry k.before in subst (Answerable (length s.args.values.now) s.args.ends.now) k.in-Sample.is s.pre.0
+inside : (k : In-Sample-2) → let s = k in (k.in-Sample.clip < length s.args.ends.now) × (clip_begin s.args.ends.now k.in-Sample.clip + k.in-Sample.place < length s.args.values.now)
+inside k = let s = k in subst (Answerable (length s.args.values.now) s.args.ends.now) k.in-Sample.is s.requires.fact_1
 
 pub clip_begin-begin-requires : goal.clip_begin-begin-requires
-clip_begin-begin-requires c = (inside c.before).0
+clip_begin-begin-requires c = (inside (goal.at.clip_begin-begin-requires c).In-Sample-2).0
 
 pub clip_end-end-requires : goal.clip_end-end-requires
-clip_end-end-requires c = (inside c.before.before).0
+clip_end-end-requires c = (inside (goal.at.clip_end-end-requires c).In-Sample-2).0
 
 pub answer_in-requires : goal.answer_in-requires
 answer_in-requires c =
-    let b = c.before in
+    let b = c in
     let k = b in
-    let s = entry k.before.before in
-    let h = (inside k).1 in
-    record { value = omega (arith, b.clip_begin-begin.ensures); mark = omega (arith, b.clip_begin-begin.ensures, s.pre.1) }
+    let s = k in
+    let h = (inside (goal.at.answer_in-requires k).In-Sample-2).1 in
+    record { value = omega (arith, b.clip_begin-begin.ensures); mark = omega (arith, b.clip_begin-begin.ensures, s.requires.fact_2) }
 
 pub returns-in-Sample : goal.returns-in-Sample
 returns-in-Sample c =
-    let b = c.before.before in
+    let b = c in
     let k = b in
     let g = k.source-1.given in
-    let a = (entry k.before.before).args in
+    let a = k.args in
     c.answer_in.ensures ∙ says-sample a.m a.values.now a.marks.now a.ends.now a.source g.0.0 g.0.1.0 b.clip_begin-begin.result g.1 b.clip_begin-begin.ensures
 
 pub returns-in-Default : goal.returns-in-Default
-returns-in-Default c = let s = entry c.before.before in says-default s.args.m s.args.values.now s.args.marks.now s.args.ends.now s.args.source c.in-Default.is
+returns-in-Default c = let s = c in says-default s.args.m s.args.values.now s.args.marks.now s.args.ends.now s.args.source c.in-Default.is
 
 pub returns-in-Blocked : goal.returns-in-Blocked
-returns-in-Blocked c = let s = entry c.before in says-blocked s.args.m s.args.values.now s.args.marks.now s.args.ends.now s.args.source c.in-Blocked.is
+returns-in-Blocked c = let s = c in says-blocked s.args.m s.args.values.now s.args.marks.now s.args.ends.now s.args.source c.in-Blocked.is
 
 pub returns-in-Absent : goal.returns-in-Absent
-returns-in-Absent c = let s = entry c.before in says-absent s.args.m s.args.values.now s.args.marks.now s.args.ends.now s.args.source c.in-Absent.is
+returns-in-Absent c = let s = c in says-absent s.args.m s.args.values.now s.args.marks.now s.args.ends.now s.args.source c.in-Absent.is

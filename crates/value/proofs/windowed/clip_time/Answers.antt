@@ -19,15 +19,15 @@ on : (o : Then-is_between) → OnSegment o.args.xs.now o.args.t.0 o.args.knot
 on o = on-between _ _ _ (sym o.is_between.ensures ∙ o.if-is_between.true)
 
 pub segment_at-requires : goal.segment_at-requires
-segment_at-requires c = (c.requires.1, (on c).place)
+segment_at-requires c = record { fact_1 = c.requires.fact_2; fact_2 = (on c).place }
 
 pub returns-then-is_between : goal.returns-then-is_between
 unfolding map_stage_to_clip
 returns-then-is_between c =
-    let o = c.before.before in
-    let s = o.before.before.before.before in
+    let o = c in
+    let s = o in
     let a = s.args in
     ap clip
     (c.clip_time.ensures
     ∙ ap (λ (q : Segment). on_segment q.a q.b a.t.0) c.segment_at.ensures
-    ∙ on-segment a.xs.now a.ys.now s.requires.0 s.requires.1 a.t.0 (held s) a.knot (on o))
+    ∙ on-segment a.xs.now a.ys.now s.requires.fact_1 s.requires.fact_2 a.t.0 (held (goal.at.returns-then-is_between s).Start) a.knot (on (goal.at.returns-then-is_between o).Then-is_between))

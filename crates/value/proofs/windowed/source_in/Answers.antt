@@ -11,7 +11,7 @@ use Rattle.value.proofs.windowed.source_in.Goals as goal
 pub returns-then-begin-end : goal.returns-then-begin-end
 unfolding window_source map_stage_to_clip
 returns-then-begin-end c =
-    let s = c.before.before.before.before.before.before.before in
+    let s = c in
     let a = s.args in
     rw (lt-ltb _ _ c.if-begin-end.true) (ap (sample a.w.clip) (c.last_at_most_near-place.ensures ∙ ap (λ (x : ClipTime). last_at_most (samples_in a.times.now a.w) x.0) c.clip_time-c.ensures))
 

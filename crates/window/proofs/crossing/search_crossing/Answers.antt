@@ -27,7 +27,7 @@ loop-lo-smaller-then-is_beyond c = omega arith
 
 pub loop-lo-preserved-then-is_beyond : goal.loop-lo-preserved-then-is_beyond
 loop-lo-preserved-then-is_beyond c =
-    let l = c.before.before.before.before in
+    let l = c in
     (omega arith, omega arith, l.loop-lo.invariant.2, λ h. sym c.is_beyond.ensures ∙ c.if-is_beyond.true)
 
 pub overflow_add-lo : goal.overflow_add-lo
@@ -38,13 +38,13 @@ loop-lo-smaller c = omega arith
 
 pub loop-lo-preserved : goal.loop-lo-preserved
 loop-lo-preserved c =
-    let l = c.before.before.before.before in
+    let l = c in
     let a = l.args in
     let mid = l.loop-lo.lo + (l.loop-lo.hi - l.loop-lo.lo) / 2 in
     (omega arith, omega arith, λ i e. let z : mid ≡ i = omega arith in subst (λ (j : ℕ). is_beyond a.t (knot a.sa a.ca, knot a.sb a.cb) (get_or a.cs.now j nan) ≡ false) z (sym c.is_beyond.ensures ∙ c.if-is_beyond.false), l.loop-lo.invariant.3)
 
 pub returns : goal.returns
 returns c =
-    let l = c.before in
+    let l = c in
     let e : l.loop-lo.lo ≡ l.loop-lo.hi = omega arith in
     record { upto = omega arith; before = l.loop-lo.invariant.2; here = λ h. rw e (l.loop-lo.invariant.3 (omega arith)) }

@@ -13,13 +13,13 @@ use Rattle.window.proofs.nearest.near_times.Goals as goal
 
 pub overflow_add-i : goal.overflow_add-i
 overflow_add-i c =
-    let s = c.before.before in
-    omega (arith, s.requires.1.1.1, last-small s.args.xs.now s.requires.0 s.args.t s.requires.1.0.fitting)
+    let s = c in
+    omega (arith, s.requires.fact_4, last-small s.args.xs.now s.requires.fact_1 s.args.t s.requires.fact_2.fitting)
 
 pub returns : goal.returns
 returns c =
-    let s = c.before.before.before in
+    let s = c in
     let a = s.args in
     subst (λ (n : Neighbours). Searched a.t (keep (inside a.w) a.xs.now) a.known n)
     (sym (c.near_place.ensures ∙ ap (λ (h : Neighbours). with_place a.w a.t a.xs.now h (a.i + 1)) c.near_place-here.ensures))
-    (beside-searched a.t a.w a.xs.now s.requires.1.1.0 s.requires.1.0 s.requires.0 a.i s.requires.1.1.1 a.known)
+    (beside-searched a.t a.w a.xs.now s.requires.fact_3 s.requires.fact_2 s.requires.fact_1 a.i s.requires.fact_4 a.known)

@@ -9,24 +9,20 @@ use Rattle.window.specs.nearest.Nearest.{Searched}
 use Rattle.window.specs.search.Windowed.{bounds_of}
 use Rattle.window.proofs.search.LatestLaws.{segment-here}
 use borrow.Author.Rules.{rules}
-use Rattle.window.proofs.search.near_segment.Goals.{After-segment_at-s, Start as At-start}
 use Rattle.window.proofs.search.near_segment.Goals as goal
 
-abbrev entry : After-segment_at-s → At-start
-entry c = c.before.before.before.before
-
 pub segment_at-s-requires : goal.segment_at-s-requires
-segment_at-s-requires c = let s = c.before.before.before in (s.requires.0.paired, s.requires.1)
+segment_at-s-requires c = let s = c in record { fact_1 = s.requires.fact_1.paired; fact_2 = s.requires.fact_2 }
 
 pub near_crossing-found-requires : goal.near_crossing-found-requires
 near_crossing-found-requires c =
-    let m = c.before in
-    let s = entry m in
-    let R = s.pre.0 in
-    (subst (λ (q : Segment). SoundSegment (q.a, q.b)) (sym m.segment_at-s.ensures) (segment-here s.args.xs.now s.args.ys.now R.paired R.segments s.args.j s.pre.1), (R.samples, (R.faces, c.crossing-n.ensures)))
+    let m = c in
+    let s = m in
+    let R = s.requires.fact_1 in
+    record { fact_1 = subst (λ (q : Segment). SoundSegment (q.a, q.b)) (sym m.segment_at-s.ensures) (segment-here s.args.xs.now s.args.ys.now R.paired R.segments s.args.j s.requires.fact_2); fact_2 = R.samples; fact_3 = R.faces; fact_4 = c.crossing-n.ensures }
 
 pub returns : goal.returns
 returns c =
-    let m = c.before.before in
-    let a = (entry m).args in
+    let m = c in
+    let a = m.args in
     subst (λ (q : Segment). Searched a.t (keep (inside a.w) (on_segment a.cs.now (q.a, q.b))) (bounds_of a.known) c.near_crossing-found.result) m.segment_at-s.ensures c.near_crossing-found.ensures

@@ -16,41 +16,38 @@ use Rattle.cell.specs.declared.Cell.{Cell}
 use Rattle.track.specs.span.Runs.{Run, Runs, entry_on}
 use Rattle.track.proofs.span.Cuts.{uncut, cut-reads, cut-turns, cut_inside}
 use borrow.Author.Rules.{rules}
-use Rattle.track.proofs.span.fill.fill_cell.Goals.{After-clip_end-b, In-Reading, Start as At-start}
+use Rattle.track.proofs.span.fill.fill_cell.Goals.{After-clip_end-b, In-Reading}
 use Rattle.track.proofs.span.fill.fill_cell.Goals as goal
 
-abbrev entry : In-Reading → At-start
-entry c = c.before.before.before.before.before.before.before.before.before.before
-
 -- the clip's part can be read
-run : (c : In-Reading) → Run (entry c).args.times.now (entry c).args.values.now (entry c).args.marks.now (entry c).args.ends.now c.in-Reading.clip c.in-Reading.line (entry c).args.k (entry c).args.hi
+run : (c : In-Reading) → Run c.args.times.now c.args.values.now c.args.marks.now c.args.ends.now c.in-Reading.clip c.in-Reading.line c.args.k c.args.hi
 run c =
-    let a = (entry c).args in
-    subst (λ (d : Cell). Runs a.times.now a.values.now a.marks.now a.ends.now d a.k a.hi) c.in-Reading.is (entry c).requires.1.0
+    let a = c.args in
+    subst (λ (d : Cell). Runs a.times.now a.values.now a.marks.now a.ends.now d a.k a.hi) c.in-Reading.is c.requires.runs
 
-inside : (c : After-clip_end-b) → (c.clip_begin-a.result ≤ c.clip_end-b.result) × (c.clip_end-b.result ≤ length (entry c.before.before).args.times.now) × (c.clip_end-b.result ≤ length (entry c.before.before).args.values.now) × (c.clip_end-b.result ≤ length (entry c.before.before).args.marks.now)
+inside : (c : After-clip_end-b) → (c.clip_begin-a.result ≤ c.clip_end-b.result) × (c.clip_end-b.result ≤ length c.args.times.now) × (c.clip_end-b.result ≤ length c.args.values.now) × (c.clip_end-b.result ≤ length c.args.marks.now)
 inside c =
-    let t = c.before.before in
-    let a = (entry t).args in
-    cut_inside a.times.now a.values.now a.marks.now a.ends.now t.in-Reading.clip c.clip_begin-a.result c.clip_end-b.result c.clip_begin-a.ensures c.clip_end-b.ensures t.in-Reading.line a.k a.hi (run t)
+    let t = c in
+    let a = t.args in
+    cut_inside a.times.now a.values.now a.marks.now a.ends.now t.in-Reading.clip c.clip_begin-a.result c.clip_end-b.result c.clip_begin-a.ensures c.clip_end-b.ensures t.in-Reading.line a.k a.hi (run (goal.at.After-clip_end-b t).In-Reading)
 
 pub returns-in_default : goal.returns-in_default
 returns-in_default c =
-    let b = c.before.before.before.before.before.before.before.before in
+    let b = c in
     let a = b.args in
     let o = outputs a.outtimes.now a.outvalues.now a.outmarks.now in
     let w : ℕ → Entry = λ j. entry_is a.here in
     subst (λ (d : Cell). Walked (entry_on a.times.now a.values.now a.marks.now a.ends.now d (entry_is a.here)) a.k a.hi a.room a.n o o (record { key = a.hi; last = a.here; count = a.n; done = true }))
-    (sym c.in_default.is) (walked_all (stands-level w a.k a.room a.n o b.requires.1.1 (stands-first w a.k a.room a.n o b.requires.1.1 (entry_is a.here) refl) b.requires.0.order (λ j x y. refl)) refl)
+    (sym c.in_default.is) (walked_all (stands-level w a.k a.room a.n o b.requires.room (stands-first w a.k a.room a.n o b.requires.room (entry_is a.here) refl) b.requires.keys.order (λ j x y. refl)) refl)
 
 pub clip_begin-a-requires : goal.clip_begin-a-requires
 clip_begin-a-requires c = (run c).clip
 
 pub clip_end-b-requires : goal.clip_end-b-requires
-clip_end-b-requires c = (run c.before).clip
+clip_end-b-requires c = (run (goal.at.clip_end-b-requires c).In-Reading).clip
 
 pub offset_bounds-times-a : goal.offset_bounds-times-a
-offset_bounds-times-a c = let h = inside c in omega (arith, (entry c.before.before).well-formed)
+offset_bounds-times-a c = let h = inside c in omega (arith, c.well_formed)
 
 pub slice_bounds-fill_changes-count : goal.slice_bounds-fill_changes-count
 slice_bounds-fill_changes-count c = (inside c).0
@@ -62,48 +59,39 @@ pub slice_bounds-fill_changes-end : goal.slice_bounds-fill_changes-end
 slice_bounds-fill_changes-end c = let h = inside c in search rules
 
 pub offset_bounds-values-a : goal.offset_bounds-values-a
-offset_bounds-values-a c = let h = inside c.before in omega (arith, (entry c.before.before.before).well-formed)
+offset_bounds-values-a c = let h = inside (goal.at.offset_bounds-values-a c).After-clip_end-b in omega (arith, c.well_formed)
 
 pub slice_bounds-fill_changes-count-2 : goal.slice_bounds-fill_changes-count-2
-slice_bounds-fill_changes-count-2 c = (inside c.before).0
+slice_bounds-fill_changes-count-2 c = (inside (goal.at.slice_bounds-fill_changes-count-2 c).After-clip_end-b).0
 
 pub slice_bounds-fill_changes-start-2 : goal.slice_bounds-fill_changes-start-2
-slice_bounds-fill_changes-start-2 c = (inside c.before).0
+slice_bounds-fill_changes-start-2 c = (inside (goal.at.slice_bounds-fill_changes-start-2 c).After-clip_end-b).0
 
 pub slice_bounds-fill_changes-end-2 : goal.slice_bounds-fill_changes-end-2
-slice_bounds-fill_changes-end-2 c = let h = inside c.before in search rules
+slice_bounds-fill_changes-end-2 c = let h = inside (goal.at.slice_bounds-fill_changes-end-2 c).After-clip_end-b in search rules
 
 pub slice_bounds-fill_changes-count-3 : goal.slice_bounds-fill_changes-count-3
-slice_bounds-fill_changes-count-3 c = (inside c.before.before).0
+slice_bounds-fill_changes-count-3 c = (inside (goal.at.slice_bounds-fill_changes-count-3 c).After-clip_end-b).0
 
 pub slice_bounds-fill_changes-start-3 : goal.slice_bounds-fill_changes-start-3
-slice_bounds-fill_changes-start-3 c = (inside c.before.before).0
+slice_bounds-fill_changes-start-3 c = (inside (goal.at.slice_bounds-fill_changes-start-3 c).After-clip_end-b).0
 
 pub slice_bounds-fill_changes-end-3 : goal.slice_bounds-fill_changes-end-3
-slice_bounds-fill_changes-end-3 c = let h = inside c.before.before in search rules
+slice_bounds-fill_changes-end-3 c = let h = inside (goal.at.slice_bounds-fill_changes-end-3 c).After-clip_end-b in search rules
 
 pub fill_changes-requires : goal.fill_changes-requires
 fill_changes-requires c =
-    let e = c.before.before.before.before.before.before in
-    let t = e.before.before in
-    let a = (entry t).args in
-    let g = t.cell-1.given in (
-      cut-reads a.times.now a.values.now a.marks.now a.ends.now g.0.0 e.clip_begin-a.result e.clip_end-b.result e.clip_begin-a.ensures e.clip_end-b.ensures g.0.1.0 a.k a.hi (run t),
-      (
-        (entry t).requires.0,
-        (
-          cut-turns a.times.now a.values.now a.marks.now a.ends.now g.0.0 e.clip_begin-a.result e.clip_end-b.result e.clip_begin-a.ensures e.clip_end-b.ensures g.0.1.0 a.k a.hi (run t),
-          (entry t).requires.1.1,
-        ),
-      ),
-    )
+    let e = c in
+    let t = e in
+    let a = t.args in
+    let g = t.cell-1.given in record { reads = cut-reads a.times.now a.values.now a.marks.now a.ends.now g.0.0 e.clip_begin-a.result e.clip_end-b.result e.clip_begin-a.ensures e.clip_end-b.ensures g.0.1.0 a.k a.hi (run (goal.at.fill_changes-requires t).In-Reading); keys = t.requires.keys; left_once = cut-turns a.times.now a.values.now a.marks.now a.ends.now g.0.0 e.clip_begin-a.result e.clip_end-b.result e.clip_begin-a.ensures e.clip_end-b.ensures g.0.1.0 a.k a.hi (run (goal.at.fill_changes-requires t).In-Reading); room = t.requires.room }
 
 pub returns : goal.returns
 returns c =
-    let f = c.before.before.before.before.before.before in
-    let e = f.before.before.before.before.before.before.before in
-    let t = e.before.before in
-    let a = (entry t).args in
+    let f = c in
+    let e = f in
+    let t = e in
+    let a = t.args in
     let g = t.cell-1.given in
     let r = f.fill_changes.result in
     let o = f.fill_changes.new.1.1.1.1.1.1.1.1 in

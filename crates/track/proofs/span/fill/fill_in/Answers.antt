@@ -14,11 +14,8 @@ use Rattle.track.specs.declared.span.ReadBy.{ReadBy}
 use Rattle.track.specs.span.Runs.{PastRun, SpanIs, entry_by}
 use Rattle.track.proofs.span.Cuts.{cut, uncut, recut}
 use borrow.Author.Rules.{rules}
-use Rattle.track.proofs.span.fill.fill_in.Goals.{After-clip_end-b, In-ByRun, Start as At-start}
+use Rattle.track.proofs.span.fill.fill_in.Goals.{After-clip_end-b, In-ByRun}
 use Rattle.track.proofs.span.fill.fill_in.Goals as goal
-
-abbrev entry : In-ByRun → At-start
-entry c = c.before.before.before.before.before.before.before.before.before.before.before
 
 -- the segment, the lower neighbour
 abbrev clip : (c : In-ByRun) → ℕ
@@ -30,14 +27,14 @@ floor c = c.in-ByRun.field-1
 abbrev pair : (c : In-ByRun) → Knot × Knot
 pair c = let g = c.in-ByRun.segment in (g.a, g.b)
 
-run : (c : In-ByRun) → PastRun (entry c).args.times.now (entry c).args.values.now (entry c).args.marks.now (entry c).args.ends.now (clip c) (pair c) (floor c) (entry_is (entry c).args.s.here) (entry c).args.k (entry c).args.s.hi
+run : (c : In-ByRun) → PastRun c.args.times.now c.args.values.now c.args.marks.now c.args.ends.now (clip c) (pair c) (floor c) (entry_is c.args.s.here) c.args.k c.args.s.hi
 run c =
-    let a = (entry c).args in
-    subst (λ (d : ReadBy). SpanIs a.times.now a.values.now a.marks.now a.ends.now d (entry_is a.s.here) a.k a.s.hi) c.in-ByRun.is (entry c).requires.1.0
+    let a = c.args in
+    subst (λ (d : ReadBy). SpanIs a.times.now a.values.now a.marks.now a.ends.now d (entry_is a.s.here) a.k a.s.hi) c.in-ByRun.is c.requires.span_is
 
-inside : (c : After-clip_end-b) → (c.clip_begin-a.result ≤ c.clip_end-b.result) × (c.clip_end-b.result ≤ length (entry c.before.before).args.times.now) × (c.clip_end-b.result ≤ length (entry c.before.before).args.values.now) × (c.clip_end-b.result ≤ length (entry c.before.before).args.marks.now)
+inside : (c : After-clip_end-b) → (c.clip_begin-a.result ≤ c.clip_end-b.result) × (c.clip_end-b.result ≤ length c.args.times.now) × (c.clip_end-b.result ≤ length c.args.values.now) × (c.clip_end-b.result ≤ length c.args.marks.now)
 inside c =
-    let R = run c.before.before in
+    let R = run (goal.at.After-clip_end-b c).In-ByRun in
     let b = c.clip_begin-a.ensures in
     let e = c.clip_end-b.ensures in
     let f = R.from in
@@ -47,29 +44,29 @@ inside c =
     (omega arith, omega arith, omega arith, omega arith)
 
 -- in the slices that were cut out
-passing : (e : After-clip_end-b) → Passing (cut (entry e.before.before).args.times.now e.clip_begin-a.result e.clip_end-b.result) (cut (entry e.before.before).args.values.now e.clip_begin-a.result e.clip_end-b.result) (cut (entry e.before.before).args.marks.now e.clip_begin-a.result e.clip_end-b.result) (pair e.before.before) (floor e.before.before) (entry_is (entry e.before.before).args.s.here) (entry e.before.before).args.k (entry e.before.before).args.s.hi
+passing : (e : After-clip_end-b) → Passing (cut e.args.times.now e.clip_begin-a.result e.clip_end-b.result) (cut e.args.values.now e.clip_begin-a.result e.clip_end-b.result) (cut e.args.marks.now e.clip_begin-a.result e.clip_end-b.result) (pair (goal.at.After-clip_end-b e).In-ByRun) (floor (goal.at.After-clip_end-b e).In-ByRun) (entry_is e.args.s.here) e.args.k e.args.s.hi
 passing e =
-    let t = e.before.before in
-    let a = (entry t).args in
-    recut a.times.now a.values.now a.marks.now a.ends.now (clip t) e.clip_begin-a.result e.clip_end-b.result e.clip_begin-a.ensures e.clip_end-b.ensures
-    (λ (ts vs : List Float) (ms : List ℕ). Passing ts vs ms (pair t) (floor t) (entry_is a.s.here) a.k a.s.hi) (run t).passing
+    let t = e in
+    let a = t.args in
+    recut a.times.now a.values.now a.marks.now a.ends.now (clip (goal.at.After-clip_end-b t).In-ByRun) e.clip_begin-a.result e.clip_end-b.result e.clip_begin-a.ensures e.clip_end-b.ensures
+    (λ (ts vs : List Float) (ms : List ℕ). Passing ts vs ms (pair (goal.at.After-clip_end-b t).In-ByRun) (floor (goal.at.After-clip_end-b t).In-ByRun) (entry_is a.s.here) a.k a.s.hi) (run (goal.at.After-clip_end-b t).In-ByRun).passing
 
 pub fill_cell-requires : goal.fill_cell-requires
 fill_cell-requires c =
-    let t = c.before.before.before in
-    let s = t.before.before.before.before.before.before.before.before.before in
+    let t = c in
+    let s = t in
     let a = s.args in
     let g = t.way-1.given in
-    (s.requires.0, (subst (λ (d : ReadBy). SpanIs a.times.now a.values.now a.marks.now a.ends.now d (entry_is a.s.here) a.k a.s.hi) g.1 s.requires.1.0, s.requires.1.1))
+    record { keys = s.requires.keys; runs = subst (λ (d : ReadBy). SpanIs a.times.now a.values.now a.marks.now a.ends.now d (entry_is a.s.here) a.k a.s.hi) g.1 s.requires.span_is; room = s.requires.room }
 
 pub clip_begin-a-requires : goal.clip_begin-a-requires
 clip_begin-a-requires c = (run c).clip
 
 pub clip_end-b-requires : goal.clip_end-b-requires
-clip_end-b-requires c = (run c.before).clip
+clip_end-b-requires c = (run (goal.at.clip_end-b-requires c).In-ByRun).clip
 
 pub offset_bounds-times-a : goal.offset_bounds-times-a
-offset_bounds-times-a c = let h = inside c in omega (arith, (entry c.before.before).well-formed)
+offset_bounds-times-a c = let h = inside c in omega (arith, c.well_formed)
 
 pub slice_bounds-fill_run-count : goal.slice_bounds-fill_run-count
 slice_bounds-fill_run-count c = (inside c).0
@@ -81,39 +78,36 @@ pub slice_bounds-fill_run-end : goal.slice_bounds-fill_run-end
 slice_bounds-fill_run-end c = let h = inside c in search rules
 
 pub offset_bounds-values-a : goal.offset_bounds-values-a
-offset_bounds-values-a c = let h = inside c.before in omega (arith, (entry c.before.before.before).well-formed)
+offset_bounds-values-a c = let h = inside (goal.at.offset_bounds-values-a c).After-clip_end-b in omega (arith, c.well_formed)
 
 pub slice_bounds-fill_run-count-in-ByRun : goal.slice_bounds-fill_run-count-in-ByRun
-slice_bounds-fill_run-count-in-ByRun c = (inside c.before).0
+slice_bounds-fill_run-count-in-ByRun c = (inside (goal.at.slice_bounds-fill_run-count-in-ByRun c).After-clip_end-b).0
 
 pub slice_bounds-fill_run-start-in-ByRun : goal.slice_bounds-fill_run-start-in-ByRun
-slice_bounds-fill_run-start-in-ByRun c = (inside c.before).0
+slice_bounds-fill_run-start-in-ByRun c = (inside (goal.at.slice_bounds-fill_run-start-in-ByRun c).After-clip_end-b).0
 
 pub slice_bounds-fill_run-end-in-ByRun : goal.slice_bounds-fill_run-end-in-ByRun
-slice_bounds-fill_run-end-in-ByRun c = let h = inside c.before in search rules
+slice_bounds-fill_run-end-in-ByRun c = let h = inside (goal.at.slice_bounds-fill_run-end-in-ByRun c).After-clip_end-b in search rules
 
 pub slice_bounds-fill_run-count-in-ByRun-2 : goal.slice_bounds-fill_run-count-in-ByRun-2
-slice_bounds-fill_run-count-in-ByRun-2 c = (inside c.before.before).0
+slice_bounds-fill_run-count-in-ByRun-2 c = (inside (goal.at.slice_bounds-fill_run-count-in-ByRun-2 c).After-clip_end-b).0
 
 pub slice_bounds-fill_run-start-in-ByRun-2 : goal.slice_bounds-fill_run-start-in-ByRun-2
-slice_bounds-fill_run-start-in-ByRun-2 c = (inside c.before.before).0
+slice_bounds-fill_run-start-in-ByRun-2 c = (inside (goal.at.slice_bounds-fill_run-start-in-ByRun-2 c).After-clip_end-b).0
 
 pub slice_bounds-fill_run-end-in-ByRun-2 : goal.slice_bounds-fill_run-end-in-ByRun-2
-slice_bounds-fill_run-end-in-ByRun-2 c = let h = inside c.before.before in search rules
+slice_bounds-fill_run-end-in-ByRun-2 c = let h = inside (goal.at.slice_bounds-fill_run-end-in-ByRun-2 c).After-clip_end-b in search rules
 
 pub fill_run-requires : goal.fill_run-requires
 fill_run-requires c =
-    let e = c.before.before.before.before.before.before in
-    let t = e.before.before in
-    let a = (entry t).args in (
-      record { floor = floor t; passing = passing e },
-      (entry t).requires.1.1,
-    )
+    let e = c in
+    let t = e in
+    let a = t.args in record { passing_on = record { floor = floor (goal.at.fill_run-requires t).In-ByRun; passing = passing (goal.at.fill_run-requires e).After-clip_end-b }; room = t.requires.room }
 
 pub returns-in-ByCell : goal.returns-in-ByCell
 returns-in-ByCell c =
-    let f = c.before.before.before.before.before.before in
-    let t = f.before.before.before.before in
+    let f = c in
+    let t = f in
     let a = t.args in
     let o = f.fill_cell.new.1.1.1.1.1.1.1.1.1.1 in
     subst (λ (d : ReadBy). Walked (entry_by a.times.now a.values.now a.marks.now a.ends.now d (entry_is a.s.here)) a.k a.s.hi a.room a.n (outputs a.outtimes.now a.outvalues.now a.outmarks.now) (outputs o.0 o.1.0 o.1.1.0) f.fill_cell.result)
@@ -121,16 +115,16 @@ returns-in-ByCell c =
 
 pub returns-in-ByRun : goal.returns-in-ByRun
 returns-in-ByRun c =
-    let f = c.before.before.before.before.before.before in
-    let e = f.before.before.before.before.before.before.before in
-    let t = e.before.before in
-    let a = (entry t).args in
+    let f = c in
+    let e = f in
+    let t = e in
+    let a = t.args in
     let r = f.fill_run.result in
     let o = f.fill_run.new.1.1.1.1.1.1.1.1.1.1 in
     let p = outputs a.outtimes.now a.outvalues.now a.outmarks.now in
     let q = outputs o.0 o.1.0 o.1.1.0 in
     subst (λ (d : ReadBy). Walked (entry_by a.times.now a.values.now a.marks.now a.ends.now d (entry_is a.s.here)) a.k a.s.hi a.room a.n p q r)
     (sym t.in-ByRun.is)
-    (uncut a.times.now a.values.now a.marks.now a.ends.now (clip t) e.clip_begin-a.result e.clip_end-b.result e.clip_begin-a.ensures e.clip_end-b.ensures
-    (λ (ts vs : List Float) (ms : List ℕ). Walked (passing_at ts vs ms (pair t) (floor t)) a.k a.s.hi a.room a.n p q r)
-    (f.fill_run.ensures (floor t) (passing e)))
+    (uncut a.times.now a.values.now a.marks.now a.ends.now (clip (goal.at.returns-in-ByRun t).In-ByRun) e.clip_begin-a.result e.clip_end-b.result e.clip_begin-a.ensures e.clip_end-b.ensures
+    (λ (ts vs : List Float) (ms : List ℕ). Walked (passing_at ts vs ms (pair (goal.at.returns-in-ByRun t).In-ByRun) (floor (goal.at.returns-in-ByRun t).In-ByRun)) a.k a.s.hi a.room a.n p q r)
+    (f.fill_run.ensures (floor (goal.at.returns-in-ByRun t).In-ByRun) (passing (goal.at.returns-in-ByRun e).After-clip_end-b)))

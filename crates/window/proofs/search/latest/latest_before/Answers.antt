@@ -10,7 +10,7 @@ use Rattle.window.proofs.search.latest.latest_before.Goals as goal
 
 pub returns-then-last-latest : goal.returns-then-last-latest
 returns-then-last-latest c =
-    let s = c.before.before.before.before.before in
+    let s = c in
     let a = s.args in
-    let e : a.i - 1 + 1 ≡ a.i = omega (arith, s.requires.1.1.1.1) in
-    subst (λ (n : ℕ). LatestBefore a.xs.now a.ys.now n (get_or a.latest.now (a.i - 1) nan)) e (s.requires.1.1.0.above (a.i - 1) (omega arith) (omega (arith, s.requires.1.1.1)))
+    let e : a.i - 1 + 1 ≡ a.i = omega (arith, s.requires.fact_5) in
+    subst (λ (n : ℕ). LatestBefore a.xs.now a.ys.now n (get_or a.latest.now (a.i - 1) nan)) e (s.requires.fact_3.above (a.i - 1) (omega arith) (omega (arith, s.requires.?)))
