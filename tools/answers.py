@@ -214,8 +214,8 @@ def flat(names, at, n, fields):
         p = at
     if f in ("requires", "pre"):
         return ["requires"] + clause(names.callee, "requires", rest)
-    if f in ("args", "well-formed"):
-        return [fields[0].replace("-", "_")] + rest
+    if f in ("args", "well-formed", "good"):
+        return ["args" if f == "args" else "well_formed"] + rest
     chain = list(names.chain(at))
     for q in chain:
         arm = names.arms[q]
@@ -227,7 +227,7 @@ def flat(names, at, n, fields):
     own = names.places[p][2]
     if norm(own[0]) == f:
         return [own[1]] + argument(names, p, rest)
-    for g in (f, re.sub(r"-lem$", "", re.sub(r"^[A-Z]\w*-", "", f))):
+    for g in (f, f.lower(), re.sub("^is", "", f.lower()), re.sub(r"-lem$", "", re.sub(r"^[A-Z]\w*-", "", f))):
         for q in list(names.chain(p)) + chain:
             own = names.places[q][2]
             if norm(own[0]) == g:

@@ -12,7 +12,7 @@ pub line_of-requires : goal.line_of-requires
 line_of-requires c = let a = c in record { xs_len = a.requires.ascending_2; ascending = a.requires.ascending_1; t = finite-no-nan a.args.t a.requires.finite_double.finitely }
 
 pub returns-then-w : goal.returns-then-w
-returns-then-w c = rw (ne_eqb _ 0 c.if-starts-eq0.false, lt-ltb _ _ c.if-w.true) (ap (Cells.reading c.args.w.clip) c.Line-of.ensures)
+returns-then-w c = rw (ne_eqb _ 0 c.if-starts-eq0.false, lt-ltb _ _ c.if-w.true) (ap (Cells.reading c.args.w.clip) c.line_of.ensures)
 
 pub returns : goal.returns
 returns c = rw (ne_eqb _ 0 c.if-starts-eq0.false, le-ltb _ _ c.if-w.false)

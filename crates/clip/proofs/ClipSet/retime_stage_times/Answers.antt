@@ -47,13 +47,16 @@ slice_bounds-retime_lists-end-5 c = simp length-take (omega arith)
 
 pub retime_lists-requires : goal.retime_lists-requires
 retime_lists-requires c =
-    let h = c.requires.held in record { fact_1 = h; fact_2 = record {
+    let h = c.requires.held in record {
+      fact_1 = h;
+      fact_2 = record {
         times = length-take-le _ _ h.active.few;
         numbers = length-take-le _ _ h.active.few;
         xs = length-take-le _ _ h.knots.few;
         ys = length-take-le _ _ h.knots.few;
         blocks = length-take-le _ _ h.blocks.few;
-      } }
+      };
+    }
 
 pub returns : goal.returns
 returns c =

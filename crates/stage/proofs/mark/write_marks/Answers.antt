@@ -28,7 +28,7 @@ room : (c : In-loop-i) → c.loop-i.i < length c.loop-i.out
 room c = omega (arith, c.loop-i.invariant.1.long, c.requires.fact_2, c.loop-i-test.true)
 
 pub offset_bounds-at-i : goal.offset_bounds-at-i
-offset_bounds-at-i c = omega (arith, c.loop-i-test.true, c.before.good.1.1.1.1.1.1.1.1.1.0)
+offset_bounds-at-i c = omega (arith, c.loop-i-test.true, c.well_formed.1.1.1.1.1.1.1.1.1.0)
 
 pub bounds-at-i : goal.bounds-at-i
 bounds-at-i c = c.loop-i-test.true
@@ -40,7 +40,7 @@ pub bounds-out-i : goal.bounds-out-i
 bounds-out-i c = room (goal.at.bounds-out-i c).In-loop-i
 
 pub overflow_add-i : goal.overflow_add-i
-overflow_add-i c = omega (arith, c.loop-i-test.true, c.before.before.before.good.1.1.1.1.1.1.1.1.1.0)
+overflow_add-i c = omega (arith, c.loop-i-test.true, c.well_formed.1.1.1.1.1.1.1.1.1.0)
 
 pub loop-i-smaller : goal.loop-i-smaller
 loop-i-smaller c = omega (arith, c.loop-i-test.true)

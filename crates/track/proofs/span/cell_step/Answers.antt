@@ -14,11 +14,11 @@ use Rattle.track.proofs.span.cell_step.Goals.{After-cell_at-piece}
 use Rattle.track.proofs.span.cell_step.Goals as goal
 
 -- the cell of k
-found : (c : After-cell_at-piece) → CellIn c.args.starts.now c.args.xs.now c.args.ys.now c.args.times.now c.args.at.window (of_key c.args.k) c.Cell-at.result.cell c.Cell-at.result.end
-found c = let a = c.args in subst (λ (t : Float). CellIn a.starts.now a.xs.now a.ys.now a.times.now a.at.window t c.Cell-at.result.cell c.Cell-at.result.end) c.of_key.ensures c.Cell-at.ensures
+found : (c : After-cell_at-piece) → CellIn c.args.starts.now c.args.xs.now c.args.ys.now c.args.times.now c.args.at.window (of_key c.args.k) c.cell_at-piece.result.cell c.cell_at-piece.result.end
+found c = let a = c.args in subst (λ (t : Float). CellIn a.starts.now a.xs.now a.ys.now a.times.now a.at.window t c.cell_at-piece.result.cell c.cell_at-piece.result.end) c.of_key.ensures c.cell_at-piece.ensures
 
-reads : (c : After-cell_at-piece) → ReadsAt c.args.times.now c.args.values.now c.args.marks.now c.args.ends.now c.Cell-at.result.cell c.Cell-at.result.end c.args.k
-reads c = c.requires.reads c.Cell-at.result.cell c.Cell-at.result.end (found c)
+reads : (c : After-cell_at-piece) → ReadsAt c.args.times.now c.args.values.now c.args.marks.now c.args.ends.now c.cell_at-piece.result.cell c.cell_at-piece.result.end c.args.k
+reads c = c.requires.reads c.cell_at-piece.result.cell c.cell_at-piece.result.end (found c)
 
 pub cell_at-piece-requires : goal.cell_at-piece-requires
 cell_at-piece-requires c =
@@ -47,8 +47,8 @@ returns c =
     let q = l in
     let a = q.args in
     record {
-      cell = q.Cell-at.result.cell;
-      end = q.Cell-at.result.end;
+      cell = q.cell_at-piece.result.cell;
+      end = q.cell_at-piece.result.end;
       found = found (goal.at.returns q).After-cell_at-piece;
       step = record {
         way = refl;

@@ -10,4 +10,4 @@ returns c =
     let R = s.requires.fact_1 in
     let n = c.next_place-to in
     around-all a.t a.w a.xs.now a.ys.now a.cs.now R.faces R.time R.knots R.paired R.segments a.i s.requires.fact_4 s.requires.fact_3 n.result n.ensures.0 n.ensures.1 n.ensures.2
-    c.IsNear-before.ensures
+    c.near_before.ensures

@@ -17,7 +17,7 @@ use Rattle.cell.proofs.step.line.line_of.Goals as goal
 next : (c : After-last_at_most-lo) → c.last_at_most-lo.result + 1 < length c.args.xs.now
 next c =
     let a = c in
-    let h = next-knot a.args.xs.now a.args.ys.now a.requires.xs_len a.args.t a.requires.ascending (subst T (sym a.good.1.1.0.1) tt) a.requires.t (omega arith) c.if-t-xs.false c.if-xs-last.false in
+    let h = next-knot a.args.xs.now a.args.ys.now a.requires.xs_len a.args.t a.requires.ascending (subst T (sym a.well_formed.1.1.0.1) tt) a.requires.t (omega arith) c.if-t-xs.false c.if-xs-last.false in
     let e = c.last_at_most-lo.ensures in
     omega arith
 
