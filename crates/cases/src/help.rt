@@ -1,9 +1,8 @@
 // The program's arguments: `--help` alone is known.
-use libc::{STDERR_FILENO, STDOUT_FILENO};
+use std::env::{Env, FillError};
 
-fn calls() {
-    io::write_all(
-        STDOUT_FILENO,
+fn calls(rt: &impl Print) {
+    let _ = rt.write_all(
         b"usage: cases < CALLS
 
 Answers the case text of standard input on standard output: one line a call, one line a reply.
@@ -29,9 +28,8 @@ Answers the case text of standard input on standard output: one line a call, one
     );
 }
 
-fn dispatcher() {
-    io::write_all(
-        STDOUT_FILENO,
+fn dispatcher(rt: &impl Print) {
+    let _ = rt.write_all(
         b"
 The dispatcher, with up to 16 sets under names:
 
@@ -46,9 +44,8 @@ The dispatcher, with up to 16 sets under names:
     );
 }
 
-fn words() {
-    io::write_all(
-        STDOUT_FILENO,
+fn words(rt: &impl Print) {
+    let _ = rt.write_all(
         b"
 A double (VALUE, START, T, ..) is its bits, 16 hex digits (3ff0000000000000 is 1), or a decimal of at most 15 digits (-2.5).
 BITS are a double too, a NaN with the sign and the payload that are written.
@@ -68,20 +65,36 @@ fn is_help(word: &[u8]) -> bool {
     crate::text::after(word, 0, b"--help") == 6
 }
 
-// Answers the arguments behind the program's name.
-pub(crate) fn answer() {
+// Whether the program has an argument at this place; its name stands at 0.
+pub(crate) fn has_argument(rt: &impl Env, i: usize) -> bool {
     let mut word = [0u8; 64];
-    let n = os::arg(1, &mut word);
-    if os::arg_count() == 2 {
-        if is_help(&word[..n]) {
-            calls();
-            dispatcher();
-            words();
+    match rt.arg(i, &mut word) {
+        Ok(_) => true,
+        Err(FillError::TooLong) => true,
+        Err(FillError::NotPresent) => false,
+    }
+}
+
+// The first argument is `--help`.
+fn asks_help(rt: &impl Env) -> bool {
+    let mut word = [0u8; 64];
+    match rt.arg(1, &mut word) {
+        Ok(n) => is_help(&word[..n]),
+        Err(_) => false,
+    }
+}
+
+// Answers the arguments behind the program's name. A write that fails is passed over.
+pub(crate) fn answer(rt: &(impl Env + Print + Eprint)) {
+    if asks_help(rt) {
+        if !has_argument(rt, 2) {
+            calls(rt);
+            dispatcher(rt);
+            words(rt);
             return;
         }
     }
-    io::write_all(
-        STDERR_FILENO,
-        b"cases: it takes no argument but --help, and reads calls from standard input\n",
+    let _ = rt.eprintln(
+        "cases: it takes no argument but --help, and reads calls from standard input",
     );
 }

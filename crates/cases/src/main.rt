@@ -27,8 +27,9 @@ use crate::lines::lent::{Lending, Lent};
 use crate::lines::limits::LINE;
 use crate::lines::{calls, input, lent, named_calls, order, parted, reply, told};
 use crate::prepared::Slots;
-use crate::text::NOWHERE;
+use crate::text::{NOWHERE, Replies};
 use resolver::Resolver;
+use std::io::Stdin;
 
 // What a line leaves for the next one: how much of the output buffer is in use, how many lines there were, whether the last
 // one began a case, the samples that are lent, and what stands.
@@ -95,11 +96,12 @@ fn counted(session: Session) -> Session
     }
 }
 
-// Answers line by line until the input ends. Nothing says that it does, so the turns are counted down from a number that no
-// run uses up.
+// Answers line by line until the input ends. Nothing says that it does, so the turns are bounded by a number that no run uses
+// up.
 fn serve(
+    from: Stdin,
     input: &mut [u8],
-    out: &mut [u8],
+    out: &mut Replies,
     ends: &mut [u64],
     times: &mut [f64],
     values: &mut [f64],
@@ -116,10 +118,8 @@ fn serve(
     let mut session = begin(0, 0);
     let mut slots = prepared::none();
     let mut buffer = input::empty();
-    let mut turns = u64::MAX;
     named::renew(starts, numbers, xs, ys, blocks, defaults, counts, bytes);
-    while turns > 0 {
-        turns -= 1;
+    for _ in 0..u64::MAX {
         let to = input::line_end(input, buffer);
         if to < buffer.end {
             let line = input::line(input, buffer, to);
@@ -150,14 +150,14 @@ fn serve(
             if buffer.ended {
                 return;
             }
-            let more = input::refill(input, buffer);
+            let more = input::refill(from, input, buffer);
             session = refilled(session, buffer, more, out);
             buffer = more;
         }
     }
 }
 
-fn flushed(session: Session, out: &mut [u8]) -> Session
+fn flushed(session: Session, out: &mut Replies) -> Session
     requires { Made session.resolver }
     ensures { Stays session result }
 {
@@ -166,7 +166,7 @@ fn flushed(session: Session, out: &mut [u8]) -> Session
 }
 
 // A line that was found to be longer than the buffer is not readable.
-fn refilled(session: Session, before: Buffer, after: Buffer, out: &mut [u8]) -> Session
+fn refilled(session: Session, before: Buffer, after: Buffer, out: &mut Replies) -> Session
     requires { Made session.resolver }
     ensures { Stays session result }
 {
@@ -176,7 +176,7 @@ fn refilled(session: Session, before: Buffer, after: Buffer, out: &mut [u8]) -> 
     if !after.skips {
         return session;
     }
-    told::too_long(std::num::wrapping_add_u64(session.lines, 1));
+    told::too_long(out.told, std::num::wrapping_add_u64(session.lines, 1));
     let n = reply::unreadable(out, session.full);
     written(session, n)
 }
@@ -189,7 +189,7 @@ fn run(
     times: &mut [f64],
     values: &mut [f64],
     marks: &mut [u8],
-    out: &mut [u8],
+    out: &mut Replies,
 ) -> Session
     requires { Made session.resolver }
     ensures { Made result.resolver }
@@ -217,17 +217,17 @@ fn run(
 }
 
 // The line could not be read: it changes nothing, and is told.
-fn unreadable(line: &[u8], session: Session, out: &mut [u8]) -> Session
+fn unreadable(line: &[u8], session: Session, out: &mut Replies) -> Session
     requires { Made session.resolver }
     ensures { Stays session result }
 {
-    told::unreadable(session.lines, line);
+    told::unreadable(out.told, session.lines, line);
     let n = reply::unreadable(out, session.full);
     written(session, n)
 }
 
 // A case begins anew.
-fn case(line: &[u8], at: usize, session: Session, out: &mut [u8]) -> Session
+fn case(line: &[u8], at: usize, session: Session, out: &mut Replies) -> Session
     ensures { Made result.resolver }
 {
     let n = reply::case_named(crate::text::word(line, at), out, session.full);
@@ -235,7 +235,7 @@ fn case(line: &[u8], at: usize, session: Session, out: &mut [u8]) -> Session
 }
 
 // What a line lends from now on.
-fn lend(read: Lending, line: &[u8], session: Session, out: &mut [u8]) -> Session
+fn lend(read: Lending, line: &[u8], session: Session, out: &mut Replies) -> Session
     requires { Made session.resolver }
     ensures { Made result.resolver }
 {
@@ -262,7 +262,7 @@ fn ask(
     times: &[f64],
     values: &[f64],
     marks: &[u8],
-    out: &mut [u8],
+    out: &mut Replies,
 ) -> Session
     requires { Made session.resolver }
     ensures { Stays session result }
@@ -286,7 +286,7 @@ fn ask(
     written(session, n)
 }
 
-fn change(kind: Change, line: &[u8], at: usize, session: Session, out: &mut [u8]) -> Session
+fn change(kind: Change, line: &[u8], at: usize, session: Session, out: &mut Replies) -> Session
     requires { Made session.resolver }
     ensures { Made result.resolver }
 {
@@ -308,7 +308,7 @@ fn change(kind: Change, line: &[u8], at: usize, session: Session, out: &mut [u8]
 }
 
 // Answers a line with a slot.
-fn with_slot(line: &[u8], session: Session, slots: Slots, out: &mut [u8]) -> Held
+fn with_slot(line: &[u8], session: Session, slots: Slots, out: &mut Replies) -> Held
     requires { (Made session.resolver) × (MadeSlots slots) }
     ensures { (Made result.session.resolver) × (MadeSlots result.slots) }
 {
@@ -322,7 +322,7 @@ fn with_slot(line: &[u8], session: Session, slots: Slots, out: &mut [u8]) -> Hel
 }
 
 // The prepared set is put in the slot, unless it is refused; then the slot is as it was.
-fn examine(line: &[u8], at: usize, session: Session, slots: Slots, out: &mut [u8]) -> Held
+fn examine(line: &[u8], at: usize, session: Session, slots: Slots, out: &mut Replies) -> Held
     requires { (Made session.resolver) × (MadeSlots slots) }
     ensures { Looking session result }
 {
@@ -342,7 +342,7 @@ fn examine(line: &[u8], at: usize, session: Session, slots: Slots, out: &mut [u8
 }
 
 // The set of a slot.
-fn tell(line: &[u8], at: usize, session: Session, slots: Slots, out: &mut [u8]) -> Held
+fn tell(line: &[u8], at: usize, session: Session, slots: Slots, out: &mut Replies) -> Held
     requires fact_1 { Made session.resolver }
     requires fact_2 { MadeSlots slots }
     ensures { Looking session result }
@@ -365,7 +365,7 @@ fn tell(line: &[u8], at: usize, session: Session, slots: Slots, out: &mut [u8]) 
 }
 
 // The set of a slot takes the place of the standing one; where the slot has none, no call is made.
-fn install(line: &[u8], at: usize, session: Session, slots: Slots, out: &mut [u8]) -> Held
+fn install(line: &[u8], at: usize, session: Session, slots: Slots, out: &mut Replies) -> Held
     requires fact_1 { Made session.resolver }
     requires fact_2 { MadeSlots slots }
     ensures { Installing session slots result }
@@ -402,13 +402,13 @@ fn input_buffer() -> [u8; LINE]
     [0; LINE]
 }
 
-fn main() {
-    if os::arg_count() > 1 {
-        help::answer();
+fn main(rt: HostRuntime) {
+    if help::has_argument(&rt, 1) {
+        help::answer(&rt);
         return;
     }
     let mut input = input_buffer();
-    let mut out = [0u8; 65536];
+    let mut out = crate::text::no_replies(rt.stdout(), rt.stderr());
     let mut ends = [0u64; ALL_ENDS];
     let mut times = [0.0f64; ALL_SAMPLES];
     let mut values = [0.0f64; ALL_SAMPLES];
@@ -422,6 +422,7 @@ fn main() {
     let mut counts = [0u64; SHAPES];
     let mut bytes = [0u8; NAMES];
     serve(
+        rt.stdin(),
         &mut input,
         &mut out,
         &mut ends,

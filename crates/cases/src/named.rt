@@ -10,7 +10,7 @@ use crate::changes::named::Said;
 use crate::lines::held::{DEFAULTS, ENTRIES, KNOT_ENTRIES, NAMES, SHAPES};
 use crate::lines::reply;
 use crate::prepared::Slots;
-use crate::text::NOWHERE;
+use crate::text::{NOWHERE, Replies};
 
 // No set stands under a name.
 pub(crate) fn renew(
@@ -41,7 +41,7 @@ pub(crate) fn change(
     defaults: &mut [f64; DEFAULTS],
     counts: &mut [u64; SHAPES],
     bytes: &mut [u8; NAMES],
-    out: &mut [u8],
+    out: &mut Replies,
 ) -> Session
     requires fact_1 { Made session.resolver }
     requires fact_2 { MadeSlots slots }
@@ -55,7 +55,7 @@ pub(crate) fn change(
     told(said, line, crate::counted(session), out)
 }
 
-fn told(said: Said, line: &[u8], session: Session, out: &mut [u8]) -> Session
+fn told(said: Said, line: &[u8], session: Session, out: &mut Replies) -> Session
     requires { Made session.resolver }
     ensures { Stays session result }
 {
@@ -88,7 +88,7 @@ pub(crate) fn ask<'a>(
     times: &[f64],
     values: &[f64],
     marks: &[u8],
-    out: &mut [u8],
+    out: &mut Replies,
 ) -> Session
     requires fact_1 { Made session.resolver }
     requires fact_2 { Pages.Made (pages starts.now numbers.now xs.now ys.now blocks.now defaults.now counts.now bytes.now) }

@@ -11,7 +11,7 @@ ghost use Rattle.resolver.specs.State.{Made};
 
 use crate::lines::calls::Question;
 use crate::lines::lent::Lent;
-use crate::text::{first_bytes, first_doubles, first_numbers};
+use crate::text::{Replies, first_bytes, first_doubles, first_numbers};
 use resolver::Resolver;
 
 // Answers a question about what stands and the first entries of the lists, which are lent.
@@ -25,7 +25,7 @@ pub(crate) fn ask(
     times: &[f64],
     values: &[f64],
     marks: &[u8],
-    out: &mut [u8],
+    out: &mut Replies,
     full: usize,
 ) -> usize
     requires { Made resolver }
@@ -53,7 +53,7 @@ fn answer(
     times: &[f64],
     values: &[f64],
     marks: &[u8],
-    out: &mut [u8],
+    out: &mut Replies,
     full: usize,
 ) -> usize
     requires { Made resolver }

@@ -2,7 +2,7 @@
 use crate::lines::limits::{BYTES, SAMPLES, SLOTS};
 use crate::lines::slots::{least, slots};
 use crate::lines::{reply, template_numbers, values, written};
-use crate::text::{first_bytes, first_doubles, first_numbers};
+use crate::text::{Replies, first_bytes, first_doubles, first_numbers};
 use definitions::{ClipTime, TemplateTimes};
 use gf::total_order::Order;
 use names::Named;
@@ -13,7 +13,7 @@ fn named(
     time: ClipTime,
     written: &mut [u8],
     count: usize,
-    out: &mut [u8],
+    out: &mut Replies,
     full: usize,
 ) -> usize {
     let k = least(count, written.len());
@@ -27,7 +27,7 @@ fn named(
     }
 }
 
-pub(crate) fn name(line: &[u8], at: usize, out: &mut [u8], full: usize) -> usize {
+pub(crate) fn name(line: &[u8], at: usize, out: &mut Replies, full: usize) -> usize {
     let mut template = [0u8; BYTES];
     let mut written = [0u8; BYTES];
     let b = crate::text::read_bytes(line, at, &mut template);
@@ -56,7 +56,7 @@ fn normalized_in(
     outtimes: &mut [f64],
     outvalues: &mut [f64],
     outmarks: &mut [u8],
-    out: &mut [u8],
+    out: &mut Replies,
     full: usize,
 ) -> usize {
     let k = least(
@@ -91,7 +91,7 @@ fn normalized(
     marks: &[u8],
     patterns: &[u64],
     count: usize,
-    out: &mut [u8],
+    out: &mut Replies,
     full: usize,
 ) -> usize {
     let mut outtimes = [0.0f64; SLOTS];
@@ -111,7 +111,7 @@ fn normalized(
     )
 }
 
-pub(crate) fn normalize(line: &[u8], at: usize, out: &mut [u8], full: usize) -> usize {
+pub(crate) fn normalize(line: &[u8], at: usize, out: &mut Replies, full: usize) -> usize {
     let mut times = [0.0f64; SAMPLES];
     let mut patterns = [0u64; SAMPLES];
     let mut marks = [0u8; SAMPLES];
@@ -144,7 +144,7 @@ fn clip_times_in(
     offset: bool,
     count: usize,
     outtimes: &mut [f64],
-    out: &mut [u8],
+    out: &mut Replies,
     full: usize,
 ) -> usize {
     let k = least(count, outtimes.len());
@@ -155,7 +155,7 @@ fn clip_times_in(
     written::times(b"cliptimes", counted.count, outtimes, out, full)
 }
 
-pub(crate) fn clip_times(line: &[u8], at: usize, out: &mut [u8], full: usize) -> usize {
+pub(crate) fn clip_times(line: &[u8], at: usize, out: &mut Replies, full: usize) -> usize {
     let mut outtimes = [0.0f64; SLOTS];
     let numbers = template_numbers::read(line, at);
     let s = slots(line, numbers.at, SLOTS, SLOTS);
@@ -167,7 +167,7 @@ pub(crate) fn clip_times(line: &[u8], at: usize, out: &mut [u8], full: usize) ->
 }
 
 // How the first of two bit patterns stands to the second. They are no doubles here, which would lose a NaN's sign and payload.
-pub(crate) fn compare_keys(line: &[u8], at: usize, out: &mut [u8], full: usize) -> usize {
+pub(crate) fn compare_keys(line: &[u8], at: usize, out: &mut Replies, full: usize) -> usize {
     let first = crate::text::read_pattern(line, at);
     let second = crate::text::read_pattern(line, first.at);
     if !crate::text::is_end(line, second.at) {

@@ -13,7 +13,9 @@ pub(crate) use lists::{
 pub(crate) use numbers::{
     Byte, Double, Number, bits_of, double_of, read_byte, read_decimal, read_double, read_pattern,
 };
-pub(crate) use output::{flush, put, put_bits, put_byte, put_bytes, put_decimal};
+pub(crate) use output::{
+    Replies, flush, no_replies, put, put_bits, put_byte, put_bytes, put_decimal,
+};
 pub(crate) use words::{
     NOWHERE, Stop, after, is_end, scan, skip_blanks, without_comment, word, word_end,
 };

@@ -9,6 +9,7 @@ ghost use Rattle.standing.specs.Standing.{Asked};
 ghost use Rattle.track.specs.Fills.{CursorIs, PageIs};
 
 use crate::lines::reply;
+use crate::text::Replies;
 use cell::place::no_place;
 use cell::step::entry::Entry;
 use definitions::Missing;
@@ -255,7 +256,7 @@ pub(crate) fn hash_of<'a>(
     )
 }
 
-pub(crate) fn put_hashed(h: Hashed, out: &mut [u8], full: usize) -> usize {
+pub(crate) fn put_hashed(h: Hashed, out: &mut Replies, full: usize) -> usize {
     let n = reply::head(b"trackhash", h.mark, h.value, out, full);
     let n = reply::decimal(h.count, out, n);
     let n = crate::text::put_byte(out, n, b' ');

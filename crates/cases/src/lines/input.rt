@@ -1,5 +1,8 @@
 // Standard input as lines, in one buffer: its bytes from `from` to `end` are still to be answered.
+ghost use Rattle.std.specs.Prelude.{◌≤◌, length};
+
 use crate::text::{Stop, first_bytes, scan};
+use std::io::{Read, Stdin};
 
 #[derive(Clone, Copy)]
 pub(crate) struct Buffer {
@@ -61,8 +64,19 @@ fn to_front(input: &mut [u8], from: usize, end: usize) -> usize {
     i
 }
 
+// Reads at most as much as there is room for, and says how much: nothing at the input's end, and where a read fails, which ends it.
+fn read(from: Stdin, room: &mut [u8]) -> usize
+    ensures { result ≤ length room.new }
+{
+    let mut from = from;
+    match from.read(room) {
+        Ok(n) => n,
+        Err(_) => 0,
+    }
+}
+
 // Reads more behind the first `kept` bytes. Where the input ends, its last line gets an end.
-fn read_behind(input: &mut [u8], kept: usize, skips: bool) -> Buffer {
+fn read_behind(from: Stdin, input: &mut [u8], kept: usize, skips: bool) -> Buffer {
     if kept >= input.len() {
         return Buffer {
             from: 0,
@@ -71,8 +85,7 @@ fn read_behind(input: &mut [u8], kept: usize, skips: bool) -> Buffer {
             ended: true,
         };
     }
-    let got = libc::read(0, &mut input[kept..]);
-    let n = io::count(got, &input[kept..]);
+    let n = read(from, &mut input[kept..]);
     if n == 0 {
         input[kept] = b'\n';
         return Buffer {
@@ -91,13 +104,13 @@ fn read_behind(input: &mut [u8], kept: usize, skips: bool) -> Buffer {
 }
 
 // No line end is left in the buffer: keeps the line that has begun, unless it fills the buffer, and reads more.
-pub(crate) fn refill(input: &mut [u8], buffer: Buffer) -> Buffer {
+pub(crate) fn refill(from: Stdin, input: &mut [u8], buffer: Buffer) -> Buffer {
     if buffer.skips {
-        return read_behind(input, 0, true);
+        return read_behind(from, input, 0, true);
     }
     let kept = to_front(input, buffer.from, buffer.end);
     if kept >= input.len() {
-        return read_behind(input, 0, true);
+        return read_behind(from, input, 0, true);
     }
-    read_behind(input, kept, false)
+    read_behind(from, input, kept, false)
 }

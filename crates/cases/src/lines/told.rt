@@ -2,14 +2,23 @@
 use crate::lines::fault;
 use crate::lines::limits::LINE;
 use crate::lines::slots::least;
-use libc::STDERR_FILENO;
+use std::io::Stderr;
 
 // How much of a word is shown.
 const SHOWN: usize = 60;
 
-fn begin(number: u64) {
-    io::write_all(STDERR_FILENO, b"cases: line ");
-    io::print_decimal(STDERR_FILENO, number);
+// A write that fails is passed over.
+fn put(to: Stderr, text: &[u8]) {
+    let _ = to.write_all(text);
+}
+
+fn put_decimal(to: Stderr, number: u64) {
+    let _ = to.print(number);
+}
+
+fn begin(to: Stderr, number: u64) {
+    put(to, b"cases: line ");
+    put_decimal(to, number);
 }
 
 // A byte of printable ASCII as it stands.
@@ -34,45 +43,45 @@ fn printables(word: &[u8], shown: &mut [u8]) -> usize {
     n
 }
 
-fn quoted(word: &[u8]) {
+fn quoted(to: Stderr, word: &[u8]) {
     let mut shown = [0u8; SHOWN];
     let n = printables(word, &mut shown);
-    io::write_all(STDERR_FILENO, crate::text::first_bytes(&shown, n));
+    put(to, crate::text::first_bytes(&shown, n));
     if word.len() > n {
-        io::write_all(STDERR_FILENO, b"..");
+        put(to, b"..");
     }
 }
 
-fn word_of(line: &[u8], at: usize) {
+fn word_of(to: Stderr, line: &[u8], at: usize) {
     let word = crate::text::word(line, at);
     if word.len() == 0 {
-        io::write_all(STDERR_FILENO, b": a word is missing\n");
+        put(to, b": a word is missing\n");
         return;
     }
-    io::write_all(STDERR_FILENO, b": cannot read '");
-    quoted(word);
-    io::write_all(STDERR_FILENO, b"'\n");
+    put(to, b": cannot read '");
+    quoted(to, word);
+    put(to, b"'\n");
 }
 
 // The line of this number could not be read: its first word that stands in the way. A walk that finds none is told too.
-pub(crate) fn unreadable(number: u64, line: &[u8]) {
-    begin(number);
+pub(crate) fn unreadable(to: Stderr, number: u64, line: &[u8]) {
+    begin(to, number);
     let walk = fault::walked(line);
     if walk.stuck {
-        word_of(line, walk.at);
+        word_of(to, line, walk.at);
         return;
     }
     if crate::text::is_end(line, walk.at) {
-        io::write_all(STDERR_FILENO, b": cannot be read\n");
+        put(to, b": cannot be read\n");
         return;
     }
-    word_of(line, walk.at);
+    word_of(to, line, walk.at);
 }
 
 // The line of this number is longer than the buffer.
-pub(crate) fn too_long(number: u64) {
-    begin(number);
-    io::write_all(STDERR_FILENO, b": longer than ");
-    io::print_decimal(STDERR_FILENO, (LINE - 1) as u64);
-    io::write_all(STDERR_FILENO, b" bytes\n");
+pub(crate) fn too_long(to: Stderr, number: u64) {
+    begin(to, number);
+    put(to, b": longer than ");
+    put_decimal(to, (LINE - 1) as u64);
+    put(to, b" bytes\n");
 }

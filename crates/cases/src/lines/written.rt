@@ -1,8 +1,9 @@
 // The lists that a question has written, as its reply shows them: a count, and that many entries.
 use crate::lines::slots::least;
 use crate::lines::{reply, values};
+use crate::text::Replies;
 
-fn begin(word: &[u8], count: usize, out: &mut [u8], full: usize) -> usize {
+fn begin(word: &[u8], count: usize, out: &mut Replies, full: usize) -> usize {
     let n = crate::text::put(out, full, word);
     reply::decimal(count as u64, out, n)
 }
@@ -12,7 +13,7 @@ pub(crate) fn times(
     word: &[u8],
     count: usize,
     times: &[f64],
-    out: &mut [u8],
+    out: &mut Replies,
     full: usize,
 ) -> usize {
     let shown = least(count, times.len());
@@ -25,7 +26,7 @@ pub(crate) fn times(
     crate::text::put_byte(out, n, b'\n')
 }
 
-fn marked_time(time: f64, mark: u8, out: &mut [u8], full: usize) -> usize {
+fn marked_time(time: f64, mark: u8, out: &mut Replies, full: usize) -> usize {
     let n = reply::double(time, out, full);
     reply::mark(mark, out, n)
 }
@@ -36,7 +37,7 @@ pub(crate) fn marked_times(
     count: usize,
     times: &[f64],
     marks: &[u8],
-    out: &mut [u8],
+    out: &mut Replies,
     full: usize,
 ) -> usize {
     let shown = least(count, least(times.len(), marks.len()));
@@ -49,7 +50,7 @@ pub(crate) fn marked_times(
     crate::text::put_byte(out, n, b'\n')
 }
 
-fn change(time: f64, value: f64, mark: u8, out: &mut [u8], full: usize) -> usize {
+fn change(time: f64, value: f64, mark: u8, out: &mut Replies, full: usize) -> usize {
     let n = marked_time(time, mark, out, full);
     reply::double(value, out, n)
 }
@@ -60,7 +61,7 @@ pub(crate) fn changes(
     times: &[f64],
     values: &[f64],
     marks: &[u8],
-    out: &mut [u8],
+    out: &mut Replies,
     full: usize,
 ) -> usize {
     let shown = least(count, least(times.len(), least(values.len(), marks.len())));
@@ -73,7 +74,7 @@ pub(crate) fn changes(
     crate::text::put_byte(out, n, b'\n')
 }
 
-fn sample(time: f64, pattern: u64, mark: u8, out: &mut [u8], full: usize) -> usize {
+fn sample(time: f64, pattern: u64, mark: u8, out: &mut Replies, full: usize) -> usize {
     let n = reply::double(time, out, full);
     let n = reply::bits(pattern, out, n);
     reply::mark(mark, out, n)
@@ -86,7 +87,7 @@ pub(crate) fn samples(
     values: &[f64],
     marks: &[u8],
     patterns: &[u64],
-    out: &mut [u8],
+    out: &mut Replies,
     full: usize,
 ) -> usize {
     let shown = least(count, least(times.len(), least(values.len(), marks.len())));

@@ -1,11 +1,11 @@
 // A set, entry by entry: the standing one, a prepared one, or one of the dispatcher's.
 use crate::lines::slots::least;
 use crate::lines::{reply, written};
-use crate::text::{first_doubles, first_numbers};
+use crate::text::{Replies, first_doubles, first_numbers};
 use resolver::Resolver;
 use standing::{Counts, StandingSet};
 
-fn starts(times: &[f64], numbers: &[u64], out: &mut [u8], full: usize) -> usize {
+fn starts(times: &[f64], numbers: &[u64], out: &mut Replies, full: usize) -> usize {
     let count = least(times.len(), numbers.len());
     let mut n = reply::decimal(count as u64, out, full);
     let mut i: usize = 0;
@@ -17,7 +17,7 @@ fn starts(times: &[f64], numbers: &[u64], out: &mut [u8], full: usize) -> usize 
     n
 }
 
-fn knots(xs: &[f64], ys: &[f64], out: &mut [u8], full: usize) -> usize {
+fn knots(xs: &[f64], ys: &[f64], out: &mut Replies, full: usize) -> usize {
     let count = least(xs.len(), ys.len());
     let mut n = reply::decimal(count as u64, out, full);
     let mut i: usize = 0;
@@ -29,14 +29,14 @@ fn knots(xs: &[f64], ys: &[f64], out: &mut [u8], full: usize) -> usize {
     n
 }
 
-fn put_starts(clips: u64, times: &[f64], numbers: &[u64], out: &mut [u8], full: usize) -> usize {
+fn put_starts(clips: u64, times: &[f64], numbers: &[u64], out: &mut Replies, full: usize) -> usize {
     let n = crate::text::put(out, full, b"set");
     let n = reply::decimal(clips, out, n);
     let n = crate::text::put(out, n, b" starts");
     starts(times, numbers, out, n)
 }
 
-fn put_knots(xs: &[f64], ys: &[f64], out: &mut [u8], full: usize) -> usize {
+fn put_knots(xs: &[f64], ys: &[f64], out: &mut Replies, full: usize) -> usize {
     let n = crate::text::put(out, full, b" knots");
     knots(xs, ys, out, n)
 }
@@ -49,7 +49,7 @@ pub(super) fn put_lists(
     xs: &[f64],
     ys: &[f64],
     blocks: &[f64],
-    out: &mut [u8],
+    out: &mut Replies,
     full: usize,
 ) -> usize {
     let n = put_starts(clips, times, numbers, out, full);
@@ -66,7 +66,7 @@ fn put_first<'a>(
     xs: &'a [f64],
     ys: &'a [f64],
     blocks: &'a [f64],
-    out: &mut [u8],
+    out: &mut Replies,
     full: usize,
 ) -> usize {
     put_lists(
@@ -81,7 +81,7 @@ fn put_first<'a>(
     )
 }
 
-pub(crate) fn put_set(set: StandingSet, out: &mut [u8], full: usize) -> usize {
+pub(crate) fn put_set(set: StandingSet, out: &mut Replies, full: usize) -> usize {
     put_first(
         set.clips,
         set.counts,
@@ -99,7 +99,7 @@ pub(super) fn dump(
     line: &[u8],
     at: usize,
     resolver: Resolver,
-    out: &mut [u8],
+    out: &mut Replies,
     full: usize,
 ) -> usize {
     if !crate::text::is_end(line, at) {

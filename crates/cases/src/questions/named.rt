@@ -7,7 +7,7 @@ use crate::lines::limits::{ENDS, SAMPLES};
 use crate::lines::named_calls;
 use crate::lines::named_calls::NamedQuestion;
 use crate::questions::{placed, sets};
-use crate::text::{NOWHERE, bytes_from, doubles_from, numbers_from};
+use crate::text::{NOWHERE, Replies, bytes_from, doubles_from, numbers_from};
 
 // Answers a question about the dispatcher's sets and what is lent with it, a part of each of the four lists.
 pub(crate) fn ask<'a>(
@@ -25,7 +25,7 @@ pub(crate) fn ask<'a>(
     times: &[f64],
     values: &[f64],
     marks: &[u8],
-    out: &mut [u8],
+    out: &mut Replies,
     full: usize,
 ) -> usize
     requires { Made (pages starts.now numbers.now xs.now ys.now blocks.now defaults.now counts.now bytes.now) }
@@ -71,7 +71,7 @@ fn answer<'a>(
     times: &[f64],
     values: &[f64],
     marks: &[u8],
-    out: &mut [u8],
+    out: &mut Replies,
     full: usize,
 ) -> usize
     requires { Made (pages starts.now numbers.now xs.now ys.now blocks.now defaults.now counts.now bytes.now) }

@@ -5,11 +5,12 @@ use crate::lines::limits::SLOTS;
 use crate::lines::slots::{least, slots};
 use crate::lines::{reply, written};
 use crate::questions::sampled;
+use crate::text::Replies;
 use definitions::StageTime;
 use set_questions::{PlacedRead, ValueReply};
 
 // The place, behind the word of the call.
-fn place(word: &[u8], placed: bool, set: u64, out: &mut [u8], full: usize) -> usize {
+fn place(word: &[u8], placed: bool, set: u64, out: &mut Replies, full: usize) -> usize {
     let n = crate::text::put(out, full, word);
     if placed {
         return reply::decimal(set, out, n);
@@ -18,7 +19,7 @@ fn place(word: &[u8], placed: bool, set: u64, out: &mut [u8], full: usize) -> us
 }
 
 // `dread` says the sample too, `dvalue` the answer alone.
-fn answered(r: PlacedRead, sample: bool, out: &mut [u8], full: usize) -> usize {
+fn answered(r: PlacedRead, sample: bool, out: &mut Replies, full: usize) -> usize {
     let read = r.read;
     let a = read.answer;
     if sample {
@@ -53,7 +54,7 @@ pub(super) fn value<'a>(
     times: &[f64],
     values: &[f64],
     marks: &[u8],
-    out: &mut [u8],
+    out: &mut Replies,
     full: usize,
 ) -> usize
     requires { Made (pages starts.now numbers.now xs.now ys.now blocks.now defaults.now counts.now bytes.now) }
@@ -109,7 +110,7 @@ fn track_in<'a>(
     outtimes: &mut [f64],
     outvalues: &mut [f64],
     outmarks: &mut [u8],
-    out: &mut [u8],
+    out: &mut Replies,
     full: usize,
 ) -> usize
     requires { Made (pages starts.now numbers.now xs.now ys.now blocks.now defaults.now counts.now bytes.now) }
@@ -167,7 +168,7 @@ pub(super) fn track<'a>(
     times: &[f64],
     values: &[f64],
     marks: &[u8],
-    out: &mut [u8],
+    out: &mut Replies,
     full: usize,
 ) -> usize
     requires { Made (pages starts.now numbers.now xs.now ys.now blocks.now defaults.now counts.now bytes.now) }

@@ -4,11 +4,12 @@ ghost use Rattle.resolver.specs.State.{Made};
 use crate::lines::limits::SLOTS;
 use crate::lines::slots::{least, slots};
 use crate::lines::{reply, written};
+use crate::text::Replies;
 use definitions::{Answer, SampleRead, StageTime, ValueRead, ValueState};
 use resolver::{Resolver, UntimedReply, ValueReply};
 
 // Mark and value, behind the word of the call.
-pub(super) fn answer(word: &[u8], a: Answer, out: &mut [u8], full: usize) -> usize {
+pub(super) fn answer(word: &[u8], a: Answer, out: &mut Replies, full: usize) -> usize {
     match a {
         Answer::Value(x) => reply::head(word, 0, x, out, full),
         Answer::Blocked => reply::head(word, 1, 0.0, out, full),
@@ -17,7 +18,7 @@ pub(super) fn answer(word: &[u8], a: Answer, out: &mut [u8], full: usize) -> usi
 }
 
 // Clip and place.
-pub(super) fn sample(s: SampleRead, out: &mut [u8], full: usize) -> usize {
+pub(super) fn sample(s: SampleRead, out: &mut Replies, full: usize) -> usize {
     match s {
         SampleRead::Of(clip, place) => {
             let n = reply::decimal(clip, out, full);
@@ -28,7 +29,7 @@ pub(super) fn sample(s: SampleRead, out: &mut [u8], full: usize) -> usize {
 }
 
 // `read` says the sample too, `value` the answer alone.
-fn answered(r: ValueRead, sampled: bool, out: &mut [u8], full: usize) -> usize {
+fn answered(r: ValueRead, sampled: bool, out: &mut Replies, full: usize) -> usize {
     let a = r.answer;
     if sampled {
         let s = r.sample;
@@ -49,7 +50,7 @@ pub(super) fn value(
     values: &[f64],
     marks: &[u8],
     sampled: bool,
-    out: &mut [u8],
+    out: &mut Replies,
     full: usize,
 ) -> usize
     requires { Made resolver }
@@ -64,7 +65,7 @@ pub(super) fn value(
     }
 }
 
-fn state(s: ValueState, out: &mut [u8], full: usize) -> usize {
+fn state(s: ValueState, out: &mut Replies, full: usize) -> usize {
     match s {
         ValueState::Present => crate::text::put(out, full, b"untimed present\n"),
         ValueState::Blocked => crate::text::put(out, full, b"untimed blocked\n"),
@@ -80,7 +81,7 @@ pub(super) fn untimed(
     times: &[f64],
     values: &[f64],
     marks: &[u8],
-    out: &mut [u8],
+    out: &mut Replies,
     full: usize,
 ) -> usize
     requires { Made resolver }
@@ -103,7 +104,7 @@ fn times_in(
     values: &[f64],
     marks: &[u8],
     outtimes: &mut [f64],
-    out: &mut [u8],
+    out: &mut Replies,
     full: usize,
 ) -> usize
     requires { Made resolver }
@@ -131,7 +132,7 @@ pub(super) fn stage_sample_times(
     times: &[f64],
     values: &[f64],
     marks: &[u8],
-    out: &mut [u8],
+    out: &mut Replies,
     full: usize,
 ) -> usize
     requires { Made resolver }
@@ -164,7 +165,7 @@ fn samples_in(
     marks: &[u8],
     outtimes: &mut [f64],
     outmarks: &mut [u8],
-    out: &mut [u8],
+    out: &mut Replies,
     full: usize,
 ) -> usize
     requires { Made resolver }
@@ -193,7 +194,7 @@ pub(super) fn stage_samples(
     times: &[f64],
     values: &[f64],
     marks: &[u8],
-    out: &mut [u8],
+    out: &mut Replies,
     full: usize,
 ) -> usize
     requires { Made resolver }
@@ -229,7 +230,7 @@ fn track_in(
     outtimes: &mut [f64],
     outvalues: &mut [f64],
     outmarks: &mut [u8],
-    out: &mut [u8],
+    out: &mut Replies,
     full: usize,
 ) -> usize
     requires { Made resolver }
@@ -263,7 +264,7 @@ pub(super) fn track(
     times: &[f64],
     values: &[f64],
     marks: &[u8],
-    out: &mut [u8],
+    out: &mut Replies,
     full: usize,
 ) -> usize
     requires { Made resolver }
@@ -299,7 +300,7 @@ pub(super) fn track_hash(
     times: &[f64],
     values: &[f64],
     marks: &[u8],
-    out: &mut [u8],
+    out: &mut Replies,
     full: usize,
 ) -> usize
     requires { Made resolver }

@@ -6,7 +6,7 @@ ghost use Rattle.pages.specs.Pages.{Sizes, Names};
 use crate::lines::limits::NAME;
 use crate::lines::reply;
 use crate::questions::dump::put_lists;
-use crate::text::{doubles_from, first_bytes, numbers_from, part};
+use crate::text::{Replies, doubles_from, first_bytes, numbers_from, part};
 use pages::{layout, storing};
 use set_names::{Found, PAGE};
 
@@ -17,7 +17,7 @@ fn wide(b: u8) -> usize
 }
 
 // The i-th set's name, and whether it declares.
-fn named(bytes: &[u8], i: usize, out: &mut [u8], full: usize) -> usize
+fn named(bytes: &[u8], i: usize, out: &mut Replies, full: usize) -> usize
     requires { (length bytes.now ≡ 4144) × (i < max_sets) }
 {
     let at = i * PAGE;
@@ -34,7 +34,7 @@ pub(super) fn sets(
     at: usize,
     counts: &[u64],
     bytes: &[u8],
-    out: &mut [u8],
+    out: &mut Replies,
     full: usize,
 ) -> usize
     requires fact_1 { length bytes.now ≡ 4144 }
@@ -65,7 +65,7 @@ fn dump_at(
     defaults: &[f64],
     counts: &[u64],
     bytes: &[u8],
-    out: &mut [u8],
+    out: &mut Replies,
     full: usize,
 ) -> usize
     requires { (Sizes defaults.now counts.now bytes.now) × (i < max_sets) }
@@ -95,7 +95,7 @@ pub(super) fn dump(
     defaults: &[f64],
     counts: &[u64],
     bytes: &[u8],
-    out: &mut [u8],
+    out: &mut Replies,
     full: usize,
 ) -> usize
     requires fact_1 { Sizes defaults.now counts.now bytes.now }

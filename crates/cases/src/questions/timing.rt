@@ -2,6 +2,7 @@
 ghost use Rattle.resolver.specs.State.{Made};
 
 use crate::lines::reply;
+use crate::text::Replies;
 use definitions::StageTime;
 use resolver::{ClipReply, Resolver, TimeReply};
 
@@ -9,7 +10,7 @@ pub(super) fn active(
     line: &[u8],
     at: usize,
     resolver: Resolver,
-    out: &mut [u8],
+    out: &mut Replies,
     full: usize,
 ) -> usize
     requires { Made resolver }
@@ -33,7 +34,7 @@ pub(super) fn clip_time(
     line: &[u8],
     at: usize,
     resolver: Resolver,
-    out: &mut [u8],
+    out: &mut Replies,
     full: usize,
 ) -> usize
     requires { Made resolver }

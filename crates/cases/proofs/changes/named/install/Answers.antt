@@ -1,0 +1,11 @@
+-- `cases::changes::named::install` hands on what the operation promises of a slot's set. Assumes nothing.
+use Rattle.cases.specs.Named.{install}
+use Rattle.cases.proofs.Dispatched.{called}
+use Rattle.std.proofs.Common.{rules}
+use Rattle.cases.proofs.changes.named.install.Goals as goal
+
+pub install-number-requires : goal.install-number-requires
+install-number-requires c = (c.requires.1, c.get-set.ensures.made)
+
+pub returns : goal.returns
+returns c = called (install _ _ _ c.install-number.ensures) c.install-number.ensures.made

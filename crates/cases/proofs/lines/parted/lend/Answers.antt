@@ -1,0 +1,13 @@
+-- `cases::lines::parted::lend` changes nothing where the line is not readable. Assumes nothing.
+use Rattle.std.proofs.Common.{true≢false, rules}
+use Rattle.cases.proofs.lines.parted.lend.Goals as goal
+
+pub returns : goal.returns
+returns c =
+    record {
+      still-lent = λ e. absurd (true≢false e);
+      same_ends = λ e. absurd (true≢false e);
+      same-times = λ e. absurd (true≢false e);
+      same-values = λ e. absurd (true≢false e);
+      same-marks = λ e. absurd (true≢false e);
+    }

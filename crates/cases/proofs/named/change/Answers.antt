@@ -1,0 +1,7 @@
+-- `cases::named::change` leaves the session as it was but for its output, and lists that an operation made. Assumes nothing.
+use Rattle.cases.proofs.Staying.{stays_on}
+use Rattle.std.proofs.Common.{rules}
+use Rattle.cases.proofs.named.change.Goals as goal
+
+pub returns : goal.returns
+returns c = (stays_on c.counted.ensures c.told.ensures, c.change-said.ensures.made)

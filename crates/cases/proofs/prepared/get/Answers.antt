@@ -1,0 +1,7 @@
+-- `cases::prepared::get` hands out a slot's set. Assumes nothing.
+use Rattle.std.proofs.Common.{rules}
+use Rattle.cases.proofs.Slotting.{gets}
+use Rattle.cases.proofs.prepared.get.Goals as goal
+
+pub returns : goal.returns
+returns c = let s = c.before in gets s.args.t1 s.args.slot _ s.requires.0 s.requires.1

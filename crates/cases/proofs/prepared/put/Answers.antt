@@ -1,0 +1,7 @@
+-- `cases::prepared::put` fills one slot. Assumes nothing.
+use Rattle.std.proofs.Common.{rules}
+use Rattle.cases.proofs.Slotting.{puts}
+use Rattle.cases.proofs.prepared.put.Goals as goal
+
+pub returns : goal.returns
+returns c = let s = c.before.before in puts s.args.slots s.args.slot s.args.set s.requires.0 s.requires.1.1

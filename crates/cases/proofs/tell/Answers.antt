@@ -1,0 +1,9 @@
+-- `cases::tell` touches no resolver and no slot. Assumes nothing.
+use Rattle.std.proofs.Common.{rules}
+use Rattle.cases.proofs.tell.Goals as goal
+
+pub written-session-requires-2 : goal.written-session-requires-2
+written-session-requires-2 c = c.requires.0
+
+pub returns : goal.returns
+returns c = record { stays = c.written-session-2.ensures; made = c.requires.1 }

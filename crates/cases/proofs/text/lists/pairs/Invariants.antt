@@ -1,0 +1,9 @@
+-- `cases::text::lists::pairs` is safe and ends: each turn fills a place of the lent list. Assumes nothing.
+use Rattle.std.proofs.Common.{◌≡◌, ◌-◌, length, rules}
+use Rattle.cases.proofs.text.lists.pairs.Given as goal
+
+abbrev pub invariant-loop-i : goal.invariant-loop-i
+invariant-loop-i l = length l.out ≡ length l.initial.out
+
+abbrev pub decreases-loop-i : goal.decreases-loop-i
+decreases-loop-i l = length l.initial.out - l.i
