@@ -22,6 +22,7 @@ def norm(s):
 
 
 CLAUSES = {}
+PARAMS = {}
 
 
 def read_clauses():
@@ -36,7 +37,15 @@ def read_clauses():
                 if rel[-1] in ("lib", "main"):
                     rel = rel[:-1]
                 scope, fn = "", None
-                for line in open(os.path.join(folder, n), encoding="utf-8"):
+                whole = open(os.path.join(folder, n), encoding="utf-8").read()
+                heads = {}
+                for m in re.finditer(r"\bfn (\w+)(?:<[^>]*>)?\(", whole):
+                    i, d = m.end(), 1
+                    while d:
+                        d += (whole[i] in "(") - (whole[i] in ")")
+                        i += 1
+                    heads.setdefault(m.group(1), []).append(re.findall(r"(?:^|[,(])\s*(?:&(?:'\w+ )?)?(?:mut )?(\w+)(?=\s*:|\s*[,)]|\s*$)", whole[m.end() - 1 : i]))
+                for line in whole.split("\n"):
                     m = re.match(r"^impl(?:<[^>]*>)? (?:\w+ for )?(\w+)", line)
                     if m:
                         scope = m.group(1)
@@ -45,6 +54,8 @@ def read_clauses():
                     m = re.match(r"^\s*(?:pub(?:\([^)]*\))? )?(?:extern \"C\" )?fn (\w+)", line)
                     if m:
                         fn = "::".join([crate] + rel + ([scope] if scope else []) + [m.group(1)])
+                        if heads.get(m.group(1)):
+                            PARAMS[fn] = heads[m.group(1)].pop(0)
                     m = re.match(r"^\s*(requires|ensures) (\w+) \{", line)
                     if m and fn:
                         CLAUSES.setdefault((fn, m.group(1)), []).append(m.group(2))
@@ -61,7 +72,7 @@ def clause(callee, kind, rest):
         rest.pop(0)
     if i < len(names) - 1:
         if not rest or rest[0] != "0":
-            return ["?"] + rest
+            return rest
         rest.pop(0)
     return [names[i]] + rest
 
@@ -79,7 +90,7 @@ def named(callee, kind, term):
         if d == 0:
             break
     before = t[:i].rstrip()
-    if before and not before.endswith("in"):
+    if before and not before.endswith("in") and not re.search(r"(^|\s)rw (\([^()]*\)|[^\s()]+)$", before):
         return term
 
     def split(u):
@@ -214,6 +225,10 @@ def flat(names, at, n, fields):
         p = at
     if f in ("requires", "pre"):
         return ["requires"] + clause(names.callee, "requires", rest)
+    if f == "args" and rest and re.match(r"^t\d+$", rest[0]):
+        own = PARAMS.get(names.callee, [])
+        if int(rest[0][1:]) <= len(own):
+            rest = [own[int(rest[0][1:]) - 1]] + rest[1:]
     if f in ("args", "well-formed", "good"):
         return ["args" if f == "args" else "well_formed"] + rest
     chain = list(names.chain(at))
@@ -240,13 +255,13 @@ def argument(names, q, rest):
     if rest and rest[0] == "ensures":
         return ["ensures"] + clause(names.places[q][3], "ensures", rest[1:])
     params = names.params.get(names.places[q][3])
-    if not params or not rest or rest[0] != "new":
+    if not params or not rest or rest[0] not in ("new", "auto", "last"):
         return rest
     n = 1
     while n < len(rest) and rest[n] == "1":
         n += 1
     if n < len(rest) and rest[n] == "0" and n - 1 < len(params):
-        return ["new", params[n - 1]] + rest[n + 1 :]
+        return ["new" if rest[0] == "last" else rest[0], params[n - 1]] + rest[n + 1 :]
     return rest
 
 
@@ -311,6 +326,12 @@ def turn_body(names, text, env, told, where, helpers, owner):
 
     def field(m):
         var, fields = m.group(1), m.group(2)[1:].split(".")
+        if var in steps and var not in env:
+            at, n, step = steps[var]
+            new, own = flat(names, at, n, [step] + fields), flat(names, at, n, [step])
+            if new and own and new[: len(own)] == own:
+                return ".".join([var] + new[len(own) :])
+            return m.group(0)
         if var not in env:
             return m.group(0)
         n = 0
@@ -334,6 +355,27 @@ def turn_body(names, text, env, told, where, helpers, owner):
         return f"let {var} = {src} in"
 
     text = re.sub(rf"\blet ({WORD}) = ({WORD})((?:\.before)*) in\b", bound, text)
+    # a name for part of a record whose parts have names now: written out
+    while True:
+        m = re.search(rf"\blet ({WORD}) = ({WORD}(?:\.before)*(?:\.{WORD})*\.(?:given|requires|pre|ensures|auto|new|last)(?:\.[01])*) in\s", text)
+        if not m:
+            break
+        var, path_of = m.group(1), m.group(2)
+        rest_of = text[m.end() :]
+        bare = re.search(rf"(?<![^\s(){{}}\[\],;]){re.escape(var)}(?=[\s(){{}}\[\],;]|$)", rest_of)
+        if bare or path_of.split(".")[0] not in env:
+            text = text[: m.start()] + "let\u0000" + text[m.start() + 4 :]
+            continue
+        rest_of = re.sub(rf"(?<![^\s(){{}}\[\],;]){re.escape(var)}\.", lambda k: path_of + ".", rest_of)
+        text = text[: m.start()] + rest_of
+    text = text.replace("\u0000", " ")
+
+    # a name that is bound to a step
+    steps = {}
+    for m in re.finditer(rf"\blet ({WORD}) = ({WORD})((?:\.before)*)\.({WORD}) in\s", text):
+        if m.group(2) in env and m.group(4) not in ("args", "requires", "pre"):
+            steps[m.group(1)] = (env[m.group(2)], m.group(3).count(".before"), m.group(4))
+
     text = PATH.sub(field, text)
     # a place that a lemma takes
     out, pos = "", 0
@@ -432,10 +474,13 @@ def turn(folder, module, d):
             gone.append(g)
             decls.remove(g)
     for g in decls:
-        text_of = "\n".join(g["lines"])
-        for x in gone:
-            text_of = re.sub(rf"\({re.escape(x['name'])} ({WORD}(?:\.before)*)\)", r"\1", text_of)
-            text_of = re.sub(rf"(?<= = ){re.escape(x['name'])} ({WORD}(?:\.before)*)(?= in\b)", r"\1", text_of)
+        text_of, before = "\n".join(g["lines"]), None
+        while before != text_of:
+            before = text_of
+            for x in gone:
+                word = re.escape(x["name"])
+                text_of = re.sub(rf"\({word} ({WORD}(?:\.before)*)\)", r"\1", text_of)
+                text_of = re.sub(rf"(?<= = ){word} ({WORD}(?:\.before)*)(?= in\b)", r"\1", text_of)
         g["lines"] = text_of.split("\n")
 
     answer_of = {}

@@ -23,7 +23,7 @@ pub loop-i-init : goal.loop-i-init
 loop-i-init c = unsearched _ _ _
 
 pub bounds-bytes-at : goal.bounds-bytes-at
-bounds-bytes-at c = omega (arith, ends c)
+bounds-bytes-at c = omega (arith, name-ends _ c.args.n c.loop-i.i c.requires.fact_1 c.loop-i-test.true)
 
 pub overflow_cast-end : goal.overflow_cast-end
 overflow_cast-end c = omega (arith, ends c)

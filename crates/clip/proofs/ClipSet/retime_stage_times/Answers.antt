@@ -14,7 +14,7 @@ use Rattle.clip.proofs.ClipSet.retime_stage_times.Goals.{Else-not-is_finite, Sta
 use Rattle.clip.proofs.ClipSet.retime_stage_times.Goals as goal
 
 both-finite : (c : Else-not-is_finite) → (finite c.args.o.offset && finite c.args.o.scale) ≡ true
-both-finite c = holding _ _ c.is_finite.ensures c.if-not-is_finite.false
+both-finite c = sym c.is_finite.ensures ∙ c.if-not-is_finite.false
 
 -- what owning an `f64` tells: the format holds it
 fitting : (c : At-start) → Fits c.args.o.scale
@@ -23,7 +23,7 @@ fitting c = subst T (sym c.well_formed.1.0.1.1.1.0.1) tt
 pub returns-then-not-is_finite : goal.returns-then-not-is_finite
 returns-then-not-is_finite c =
     let s = c in
-    retime-refuses s.args.self s.args.o s.requires.held s.requires.sound (untrue _ _ c.is_finite.ensures c.if-not-is_finite.true)
+    retime-refuses s.args.self s.args.o s.requires.held s.requires.sound (sym c.is_finite.ensures ∙ c.if-not-is_finite.true)
 
 pub returns-then-is_identity : goal.returns-then-is_identity
 returns-then-is_identity c =
@@ -47,16 +47,13 @@ slice_bounds-retime_lists-end-5 c = simp length-take (omega arith)
 
 pub retime_lists-requires : goal.retime_lists-requires
 retime_lists-requires c =
-    let h = c.requires.held in record {
-      fact_1 = h;
-      fact_2 = record {
+    let h = c.requires.held in record { fact_1 = h; fact_2 = record {
         times = length-take-le _ _ h.active.few;
         numbers = length-take-le _ _ h.active.few;
         xs = length-take-le _ _ h.knots.few;
         ys = length-take-le _ _ h.knots.few;
         blocks = length-take-le _ _ h.blocks.few;
-      };
-    }
+      } }
 
 pub returns : goal.returns
 returns c =

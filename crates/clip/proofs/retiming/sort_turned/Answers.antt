@@ -9,8 +9,8 @@ unfolding of_bits
 returns-then-scale c =
     let a = c in
     let k = c in
-    rw a.if-scale.true (a.sort_starts.ensures, k.sort_knots.ensures)
+    rw a.if-scale.true record { numbers_value = a.sort_starts.ensures; ys_value = k.sort_knots.ensures }
 
 pub returns-else-scale : goal.returns-else-scale
 unfolding of_bits
-returns-else-scale c = rw c.if-scale.false (refl, refl)
+returns-else-scale c = rw c.if-scale.false record { numbers_value = refl; ys_value = refl }

@@ -12,5 +12,5 @@ returns c =
     let t = c.move_times in
     let x = c.move_times-2 in
     let m = c.move_times-3 in
-    moved-is s.args.o s.args.set a.new.1.0 t.new.0 a.new.1.1.0 k.new.1.0 x.new.0 k.new.1.1.0 b.new.1.0 m.new.0
-    a.ensures.0 a.ensures.1 k.ensures.0 k.ensures.1 b.ensures t.ensures x.ensures m.ensures
+    moved-is s.args.o s.args.set a.new.times t.new.times a.new.clips k.new.xs x.new.times k.new.ys b.new.times m.new.times
+    a.ensures.times_value a.ensures.clips_value k.ensures.xs_value k.ensures.ys_value b.ensures t.ensures x.ensures m.ensures

@@ -5,7 +5,7 @@ use borrow.Author.Rules.{rules}
 use Rattle.window.proofs.search.is_past.Goals as goal
 
 pub returns-in-At : goal.returns-in-At
-returns-in-At c = let g = c.lower-1.given in let a = c.args in λ h. past_all a.lower g.0.0 a.top g.1 h
+returns-in-At c = let a = c.args in λ h. past_all a.lower c.in-At.l a.top c.in-At.is h
 
 pub returns : goal.returns
 returns c = λ h. absurd (false≢true h)

@@ -22,9 +22,7 @@ returns-then-is_past c =
     let k = u in
     let s = k in
     let a = s.args in
-    let R = s.requires.searchable_1 in
-    let i = s.requires.? in
-    reached-past a.t a.w a.xs.now a.ys.now a.cs.now R.faces R.time R.knots R.paired R.segments a.i i.1.0 i.0 a.to k.loop-j.j k.loop-j.invariant.0 i.1.1
+            reached-past a.t a.w a.xs.now a.ys.now a.cs.now s.requires.searchable_1.faces s.requires.searchable_1.time s.requires.searchable_1.knots s.requires.searchable_1.paired s.requires.searchable_1.segments a.i s.requires.searchable_4 s.requires.searchable_3 a.to k.loop-j.j k.loop-j.invariant.0 s.requires.to_in_bounds
     u.latest_before.result u.latest_before.ensures (c.is_past.ensures c.if-is_past.true) k.loop-j.invariant.1
 
 pub overflow_sub-j : goal.overflow_sub-j

@@ -18,8 +18,7 @@ pub near_crossing-found-requires : goal.near_crossing-found-requires
 near_crossing-found-requires c =
     let m = c in
     let s = m in
-    let R = s.requires.fact_1 in
-    record { fact_1 = subst (λ (q : Segment). SoundSegment (q.a, q.b)) (sym m.segment_at-s.ensures) (segment-here s.args.xs.now s.args.ys.now R.paired R.segments s.args.j s.requires.fact_2); fact_2 = R.samples; fact_3 = R.faces; fact_4 = c.crossing-n.ensures }
+        record { fact_1 = subst (λ (q : Segment). SoundSegment (q.a, q.b)) (sym m.segment_at-s.ensures) (segment-here s.args.xs.now s.args.ys.now s.requires.fact_1.paired s.requires.fact_1.segments s.args.j s.requires.fact_2); fact_2 = s.requires.fact_1.samples; fact_3 = s.requires.fact_1.faces; fact_4 = c.crossing-n.ensures }
 
 pub returns : goal.returns
 returns c =

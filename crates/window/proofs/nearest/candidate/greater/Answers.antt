@@ -4,10 +4,10 @@ use borrow.Author.Rules.{rules}
 use Rattle.window.proofs.nearest.candidate.greater.Goals as goal
 
 pub returns-then-x-y : goal.returns-then-x-y
-returns-then-x-y c = let g = c.known-1.given in let a = c.args in greater-keeps a.known a.x g.0.0 g.1 c.if-x-y.true
+returns-then-x-y c = let a = c.args in greater-keeps a.known a.x c.in-At.y c.in-At.is c.if-x-y.true
 
 pub returns-else-x-y : goal.returns-else-x-y
-returns-else-x-y c = let g = c.known-1.given in let a = c.args in greater-takes a.known a.x g.0.0 g.1 c.if-x-y.false
+returns-else-x-y c = let a = c.args in greater-takes a.known a.x c.in-At.y c.in-At.is c.if-x-y.false
 
 pub returns-in_default : goal.returns-in_default
 returns-in_default c = let a = c.args in greater-first a.known a.x c.in_default.is

@@ -13,4 +13,4 @@ returns-then-last-latest c =
     let s = c in
     let a = s.args in
     let e : a.i - 1 + 1 ≡ a.i = omega (arith, s.requires.fact_5) in
-    subst (λ (n : ℕ). LatestBefore a.xs.now a.ys.now n (get_or a.latest.now (a.i - 1) nan)) e (s.requires.fact_3.above (a.i - 1) (omega arith) (omega (arith, s.requires.?)))
+    subst (λ (n : ℕ). LatestBefore a.xs.now a.ys.now n (get_or a.latest.now (a.i - 1) nan)) e (s.requires.fact_3.above (a.i - 1) (omega arith) (omega (arith, s.requires)))
