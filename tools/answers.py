@@ -229,6 +229,8 @@ def flat(names, at, n, fields):
         own = PARAMS.get(names.callee, [])
         if int(rest[0][1:]) <= len(own):
             rest = [own[int(rest[0][1:]) - 1]] + rest[1:]
+    if f == "fits" and len(rest) > 1 and rest[1] == "fits":
+        return ["ranges", rest[0]] + rest[2:]
     if f in ("args", "well-formed", "good"):
         return ["args" if f == "args" else "well_formed"] + rest
     chain = list(names.chain(at))
@@ -250,8 +252,13 @@ def flat(names, at, n, fields):
     return None
 
 
+OLD = {"inv": "invariant", "kept": "auto", "taken": "true", "left": "false"}
+
+
 def argument(names, q, rest):
     """What a call left in an argument goes by the argument's name, and no longer by its position."""
+    if rest and rest[0] in OLD and (rest[0] in ("inv", "kept") or re.match(r"if\d|.*test", names.places[q][2][0])):
+        rest = [OLD[rest[0]]] + rest[1:]
     if rest and rest[0] == "ensures":
         return ["ensures"] + clause(names.places[q][3], "ensures", rest[1:])
     params = names.params.get(names.places[q][3])
@@ -467,21 +474,24 @@ def turn(folder, module, d):
 
     # a lemma that only names a place above another goes: its fields are those of the one below
     gone = []
+
+    def projected(text):
+        before = None
+        while before != text:
+            before = text
+            for word in map(re.escape, gone):
+                text = re.sub(rf"\({word} ({WORD}(?:\.before)*)\)", r"\1", text)
+                text = re.sub(rf"(?<= = ){word} ({WORD}(?:\.before)*)(?= in\b|$)", r"\1", text)
+        return text
+
     for g in list(decls):
-        t = re.sub(r"\s+", " ", " ".join(l for l in g["lines"] if not l.startswith("unfolding")))
-        m = re.match(rf"^(?:\w+ )*{re.escape(g['name'])} : (?:\((\w+) : (tie\.{WORD})[^()]*\)|(tie\.[^→]+)) → tie\.{WORD}[^=]* {re.escape(g['name'])} (\S+) = \(?({WORD}(?: {WORD})?\)?(?:\.before)*)$", t)
-        if m and re.match(rf"^(?:{'|'.join(map(re.escape, [x['name'] for x in gone] or ['-']))} )?\(?{re.escape(m.group(4))}\)?(\.before)*$", m.group(5)):
-            gone.append(g)
+        t = projected(re.sub(r"\s+", " ", " ".join(l for l in g["lines"] if not l.startswith("unfolding"))))
+        m = re.match(rf"^(?:\w+ )*{re.escape(g['name'])} : (?:\(\w+ : tie\.{WORD}[^()]*\)|tie\.[^→]+) → tie\.{WORD}[^=]* {re.escape(g['name'])} (\S+) = ({WORD})(?:\.before)*$", t)
+        if m and m.group(1) == m.group(2):
+            gone.append(g["name"])
             decls.remove(g)
     for g in decls:
-        text_of, before = "\n".join(g["lines"]), None
-        while before != text_of:
-            before = text_of
-            for x in gone:
-                word = re.escape(x["name"])
-                text_of = re.sub(rf"\({word} ({WORD}(?:\.before)*)\)", r"\1", text_of)
-                text_of = re.sub(rf"(?<= = ){word} ({WORD}(?:\.before)*)(?= in\b)", r"\1", text_of)
-        g["lines"] = text_of.split("\n")
+        g["lines"] = projected("\n".join(g["lines"])).split("\n")
 
     answer_of = {}
     for g in decls:
@@ -606,6 +616,7 @@ def turn(folder, module, d):
             if NOT:
                 term = re.sub(rf"\(not-(?:true|false) \S+ ({WORD}(?:\.{WORD})*\.if-not-{WORD}\.{WORD})\)", r"\1", term)
                 term = re.sub(rf"not-(?:true|false) \S+ ({WORD}(?:\.{WORD})*\.if-not-{WORD}\.{WORD})", r"\1", term)
+            term = re.sub(rf"\b(?:holding|untrue) _ _ ({WORD}(?:\.{WORD})+) ({WORD}(?:\.{WORD})*\.if-not-{WORD}\.{WORD})", r"sym \1 ∙ \2", term)
             asked = re.match(r"^(.*)-requires(-\d+)?$", next((norm(o) for o, n in names.needs if n == new), ""))
             if asked:
                 for callee in names.params:
@@ -636,6 +647,7 @@ def turn(folder, module, d):
         if NOT:
             body = re.sub(rf"\(not-(?:true|false) \S+ ({WORD}(?:\.{WORD})*\.if-not-{WORD}\.{WORD})\)", r"\1", body)
             body = re.sub(rf"not-(?:true|false) \S+ ({WORD}(?:\.{WORD})*\.if-not-{WORD}\.{WORD})", r"\1", body)
+        body = re.sub(rf"\b(?:holding|untrue) _ _ ({WORD}(?:\.{WORD})+) ({WORD}(?:\.{WORD})*\.if-not-{WORD}\.{WORD})", r"sym \1 ∙ \2", body)
         ans += g["note"] + [renamed(places(body)), ""]
     for new, at, a in extra:
         t = re.sub(r"\s+", " ", a)

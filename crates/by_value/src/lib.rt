@@ -3,7 +3,7 @@
 #![tactic(auto)]
 
 ghost use Rattle.definitions.specs.Moments.{outputs};
-ghost use Rattle.laws.specs.cell.Lent.{samples_were};
+ghost use Rattle.laws.specs.cell.Lent.{samples_of};
 ghost use Rattle.clip.specs.Holding.{manifest};
 ghost use Rattle.clip.specs.Preparing.{MadeSet};
 ghost use Rattle.explicit.specs.Parsing.{explicit_fields};
@@ -164,7 +164,7 @@ pub fn value(
     t: StageTime,
 ) -> ValueReply
     requires { Made resolver }
-    ensures { TellsValue resolver (samples_were times values marks ends) t result }
+    ensures { TellsValue resolver (samples_of times.now values.now marks.now ends.now) t result }
 {
     let counts = resolver.set.counts;
     let manifest = resolver.set.manifest;
@@ -198,7 +198,7 @@ pub fn untimed(
     ends: &[u64],
 ) -> UntimedReply
     requires { Made resolver }
-    ensures { TellsUntimed resolver (samples_were times values marks ends) result }
+    ensures { TellsUntimed resolver (samples_of times.now values.now marks.now ends.now) result }
 {
     let counts = resolver.set.counts;
     let manifest = resolver.set.manifest;
@@ -232,7 +232,7 @@ pub fn stage_sample_times(
     out: &mut [f64],
 ) -> Counted
     requires { Made resolver }
-    ensures { TellsTimes resolver (samples_were times values marks ends) out.old out.new result }
+    ensures { TellsTimes resolver (samples_of times.now values.now marks.now ends.now) out.old out.new result }
 {
     let counts = resolver.set.counts;
     let manifest = resolver.set.manifest;
@@ -268,7 +268,7 @@ pub fn stage_samples(
     outmarks: &mut [u8],
 ) -> Counted
     requires { Made resolver }
-    ensures { TellsSamples resolver (samples_were times values marks ends) outtimes.old outtimes.new outmarks.old outmarks.new result }
+    ensures { TellsSamples resolver (samples_of times.now values.now marks.now ends.now) outtimes.old outtimes.new outmarks.old outmarks.new result }
 {
     let counts = resolver.set.counts;
     let manifest = resolver.set.manifest;
@@ -303,7 +303,7 @@ pub fn stage_sample_count(
     ends: &[u64],
 ) -> Counted
     requires { Made resolver }
-    ensures { TellsSampleCount resolver (samples_were times values marks ends) result }
+    ensures { TellsSampleCount resolver (samples_of times.now values.now marks.now ends.now) result }
 {
     let counts = resolver.set.counts;
     let manifest = resolver.set.manifest;
@@ -336,7 +336,7 @@ pub fn change_count(
     ends: &[u64],
 ) -> Counted
     requires { Made resolver }
-    ensures { TellsChangeCount resolver (samples_were times values marks ends) result }
+    ensures { TellsChangeCount resolver (samples_of times.now values.now marks.now ends.now) result }
 {
     let counts = resolver.set.counts;
     let manifest = resolver.set.manifest;
@@ -372,7 +372,7 @@ pub fn bake(
     outmarks: &mut [u8],
 ) -> Baked
     requires { Made resolver }
-    ensures { BakesTrack resolver (samples_were times values marks ends) (outputs outtimes.old outvalues.old outmarks.old) result (outputs outtimes.new outvalues.new outmarks.new) }
+    ensures { BakesTrack resolver (samples_of times.now values.now marks.now ends.now) (outputs outtimes.old outvalues.old outmarks.old) result (outputs outtimes.new outvalues.new outmarks.new) }
 {
     let counts = resolver.set.counts;
     let manifest = resolver.set.manifest;

@@ -5,7 +5,7 @@
 ghost use Rattle.std.specs.Prelude.{◌≡◌};
 ghost use Rattle.definitions.specs.Moments.{outputs};
 ghost use Rattle.definitions.specs.Questions.{refused};
-ghost use Rattle.laws.specs.cell.Lent.{samples_were};
+ghost use Rattle.laws.specs.cell.Lent.{samples_of};
 ghost use Rattle.track.specs.Bakes.{bake_code};
 ghost use Rattle.resolver.specs.State.{Made, lent_state};
 ghost use Rattle.resolver.specs.Promises.{BakesTrack, TellsTimes, TellsSamples, TellsSampleCount, TellsChangeCount, TellsClip, TellsTime, TellsValue, TellsUntimed};
@@ -80,7 +80,7 @@ pub fn value<'a>(
     t: StageTime,
 ) -> ValueReply
     requires { Made (lent_state shape starts.now numbers.now xs.now ys.now blocks.now) }
-    ensures { TellsValue (lent_state shape starts.now numbers.now xs.now ys.now blocks.now) (samples_were times values marks ends) t result }
+    ensures { TellsValue (lent_state shape starts.now numbers.now xs.now ys.now blocks.now) (samples_of times.now values.now marks.now ends.now) t result }
 {
     if !shape.stands {
         return ValueReply::Refused(refusal::NO_SET);
@@ -122,7 +122,7 @@ pub fn untimed<'a>(
     ends: &[u64],
 ) -> UntimedReply
     requires { Made (lent_state shape starts.now numbers.now xs.now ys.now blocks.now) }
-    ensures { TellsUntimed (lent_state shape starts.now numbers.now xs.now ys.now blocks.now) (samples_were times values marks ends) result }
+    ensures { TellsUntimed (lent_state shape starts.now numbers.now xs.now ys.now blocks.now) (samples_of times.now values.now marks.now ends.now) result }
 {
     if !shape.stands {
         return UntimedReply::Refused(refusal::NO_SET);
@@ -149,7 +149,7 @@ pub fn stage_sample_times<'a>(
     out: &mut [f64],
 ) -> Counted
     requires { Made (lent_state shape starts.now numbers.now xs.now ys.now blocks.now) }
-    ensures { TellsTimes (lent_state shape starts.now numbers.now xs.now ys.now blocks.now) (samples_were times values marks ends) out.old out.new result }
+    ensures { TellsTimes (lent_state shape starts.now numbers.now xs.now ys.now blocks.now) (samples_of times.now values.now marks.now ends.now) out.old out.new result }
 {
     if !shape.stands {
         return refused_list(refusal::NO_SET);
@@ -177,7 +177,7 @@ pub fn stage_samples<'a>(
     outmarks: &mut [u8],
 ) -> Counted
     requires { Made (lent_state shape starts.now numbers.now xs.now ys.now blocks.now) }
-    ensures { TellsSamples (lent_state shape starts.now numbers.now xs.now ys.now blocks.now) (samples_were times values marks ends) outtimes.old outtimes.new outmarks.old outmarks.new result }
+    ensures { TellsSamples (lent_state shape starts.now numbers.now xs.now ys.now blocks.now) (samples_of times.now values.now marks.now ends.now) outtimes.old outtimes.new outmarks.old outmarks.new result }
 {
     if !shape.stands {
         return refused_list(refusal::NO_SET);
@@ -216,7 +216,7 @@ pub fn stage_sample_count<'a>(
     ends: &[u64],
 ) -> Counted
     requires { Made (lent_state shape starts.now numbers.now xs.now ys.now blocks.now) }
-    ensures { TellsSampleCount (lent_state shape starts.now numbers.now xs.now ys.now blocks.now) (samples_were times values marks ends) result }
+    ensures { TellsSampleCount (lent_state shape starts.now numbers.now xs.now ys.now blocks.now) (samples_of times.now values.now marks.now ends.now) result }
 {
     if !shape.stands {
         return refused_list(refusal::NO_SET);
@@ -246,7 +246,7 @@ pub fn change_count<'a>(
     ends: &[u64],
 ) -> Counted
     requires { Made (lent_state shape starts.now numbers.now xs.now ys.now blocks.now) }
-    ensures { TellsChangeCount (lent_state shape starts.now numbers.now xs.now ys.now blocks.now) (samples_were times values marks ends) result }
+    ensures { TellsChangeCount (lent_state shape starts.now numbers.now xs.now ys.now blocks.now) (samples_of times.now values.now marks.now ends.now) result }
 {
     if !shape.stands {
         return refused_list(refusal::NO_SET);
@@ -291,7 +291,7 @@ pub fn bake<'a>(
     outmarks: &mut [u8],
 ) -> Baked
     requires { Made (lent_state shape starts.now numbers.now xs.now ys.now blocks.now) }
-    ensures { BakesTrack (lent_state shape starts.now numbers.now xs.now ys.now blocks.now) (samples_were times values marks ends) (outputs outtimes.old outvalues.old outmarks.old) result (outputs outtimes.new outvalues.new outmarks.new) }
+    ensures { BakesTrack (lent_state shape starts.now numbers.now xs.now ys.now blocks.now) (samples_of times.now values.now marks.now ends.now) (outputs outtimes.old outvalues.old outmarks.old) result (outputs outtimes.new outvalues.new outmarks.new) }
 {
     if !shape.stands {
         return refused_bake(refusal::NO_SET);

@@ -11,7 +11,7 @@ ghost use Rattle.dispatch.specs.SetOrder.{order_number};
 ghost use Rattle.dispatch.specs.SetSamples.{samples_at, set_samples_number};
 ghost use Rattle.laws.specs.cell.Lent as lent;
 ghost use Rattle.standing.specs.Standing.{set_in};
-ghost use Rattle.set_samples.specs.Parting.{lent_samples, samples_were, OwnAt};
+ghost use Rattle.set_samples.specs.Parting.{lent_samples, OwnAt};
 ghost use Rattle.pages.specs.Pages.{pages, part, state_at, Made};
 ghost use Rattle.set_questions.specs.Asking.{order_of, ClipCounts, Sorted, AcceptedFor, AnswersOf, BakesSet, nobody_read, placed_bake, no_track, TellsValue, BakesTrack, bake_arguments};
 
@@ -58,7 +58,7 @@ fn question_number(
     marks: &[u8],
 ) -> u8
     requires { ClipCounts counts.now }
-    ensures { result ≡ (order_number (order_of given listed.now nameends.now) then set_samples_number (part 1 (get_or counts.now 0 0) counts.now) (samples_were lens ends times values marks)) }
+    ensures { result ≡ (order_number (order_of given listed.now nameends.now) then set_samples_number (part 1 (get_or counts.now 0 0) counts.now) (lent_samples lens.now ends.now times.now values.now marks.now)) }
 {
     if given {
         let number = set_order::order_number(listed, nameends);
@@ -117,7 +117,7 @@ fn read_at<'a>(
     requires fact_2 { k < get_or counts.now 0 0 }
     requires fact_3 { AcceptedFor (get_or counts.now (1 + k) 0) times.now values.now marks.now ends.now }
     requires fact_4 { T (finite t.0) }
-    ensures { result ≡ value_read (set_in (state_at (pages starts.now numbers.now xs.now ys.now blocks.now defaults.now counts.now bytes.now) k).set) (lent.samples_were times values marks ends) t }
+    ensures { result ≡ value_read (set_in (state_at (pages starts.now numbers.now xs.now ys.now blocks.now defaults.now counts.now bytes.now) k).set) (lent.samples_of times.now values.now marks.now ends.now) t }
 {
     let a = k * layout::PAGE;
     let b = k * layout::KNOT_PAGE;
@@ -162,7 +162,7 @@ fn bake_at<'a>(
     requires fact_1 { Made (pages starts.now numbers.now xs.now ys.now blocks.now defaults.now counts.now bytes.now) }
     requires fact_2 { k < get_or counts.now 0 0 }
     requires fact_3 { AcceptedFor (get_or counts.now (1 + k) 0) times.now values.now marks.now ends.now }
-    ensures { BakesSet (set_in (state_at (pages starts.now numbers.now xs.now ys.now blocks.now defaults.now counts.now bytes.now) k).set) (lent.samples_were times values marks ends) (outputs outtimes.old outvalues.old outmarks.old) result (outputs outtimes.new outvalues.new outmarks.new) }
+    ensures { BakesSet (set_in (state_at (pages starts.now numbers.now xs.now ys.now blocks.now defaults.now counts.now bytes.now) k).set) (lent.samples_of times.now values.now marks.now ends.now) (outputs outtimes.old outvalues.old outmarks.old) result (outputs outtimes.new outvalues.new outmarks.new) }
 {
     let a = k * layout::PAGE;
     let b = k * layout::KNOT_PAGE;
@@ -200,7 +200,7 @@ fn own_at(
     requires fact_1 { ClipCounts counts.now }
     requires fact_2 { k < get_or counts.now 0 0 }
     requires fact_3 { set_samples_number (part 1 (get_or counts.now 0 0) counts.now) (lent_samples lens.now ends.now times.now values.now marks.now) ≡ 0 }
-    ensures { OwnAt (part 1 (get_or counts.now 0 0) counts.now) (samples_were lens ends times values marks) k result }
+    ensures { OwnAt (part 1 (get_or counts.now 0 0) counts.now) (lent_samples lens.now ends.now times.now values.now marks.now) k result }
 {
     let n = CLIPS + counts[0] as usize;
     set_samples::own_of(&counts[CLIPS..n], lens, ends, times, values, marks, k)
@@ -228,7 +228,7 @@ fn read_own<'a>(
     requires fact_2 { k < get_or counts.now 0 0 }
     requires fact_3 { set_samples_number (part 1 (get_or counts.now 0 0) counts.now) (lent_samples lens.now ends.now times.now values.now marks.now) ≡ 0 }
     requires fact_4 { T (finite t.0) }
-    ensures { result ≡ value_read (set_in (state_at (pages starts.now numbers.now xs.now ys.now blocks.now defaults.now counts.now bytes.now) k).set) (samples_at (part 1 (get_or counts.now 0 0) counts.now) (samples_were lens ends times values marks) k) t }
+    ensures { result ≡ value_read (set_in (state_at (pages starts.now numbers.now xs.now ys.now blocks.now defaults.now counts.now bytes.now) k).set) (samples_at (part 1 (get_or counts.now 0 0) counts.now) (lent_samples lens.now ends.now times.now values.now marks.now) k) t }
 {
     let own = own_at(counts, k, lens, ends, times, values, marks);
     let begin = own.begin;
@@ -276,7 +276,7 @@ fn bake_own<'a>(
     requires fact_1 { Made (pages starts.now numbers.now xs.now ys.now blocks.now defaults.now counts.now bytes.now) }
     requires fact_2 { k < get_or counts.now 0 0 }
     requires fact_3 { set_samples_number (part 1 (get_or counts.now 0 0) counts.now) (lent_samples lens.now ends.now times.now values.now marks.now) ≡ 0 }
-    ensures { BakesSet (set_in (state_at (pages starts.now numbers.now xs.now ys.now blocks.now defaults.now counts.now bytes.now) k).set) (samples_at (part 1 (get_or counts.now 0 0) counts.now) (samples_were lens ends times values marks) k) (outputs outtimes.old outvalues.old outmarks.old) result (outputs outtimes.new outvalues.new outmarks.new) }
+    ensures { BakesSet (set_in (state_at (pages starts.now numbers.now xs.now ys.now blocks.now defaults.now counts.now bytes.now) k).set) (samples_at (part 1 (get_or counts.now 0 0) counts.now) (lent_samples lens.now ends.now times.now values.now marks.now) k) (outputs outtimes.old outvalues.old outmarks.old) result (outputs outtimes.new outvalues.new outmarks.new) }
 {
     let own = own_at(counts, k, lens, ends, times, values, marks);
     let begin = own.begin;
@@ -324,7 +324,7 @@ pub fn value<'a>(
     t: StageTime,
 ) -> ValueReply
     requires { Made (pages starts.now numbers.now xs.now ys.now blocks.now defaults.now counts.now bytes.now) }
-    ensures { TellsValue (pages starts.now numbers.now xs.now ys.now blocks.now defaults.now counts.now bytes.now) (order_of given listed.now nameends.now) (samples_were lens ends times values marks) t result }
+    ensures { TellsValue (pages starts.now numbers.now xs.now ys.now blocks.now defaults.now counts.now bytes.now) (order_of given listed.now nameends.now) (lent_samples lens.now ends.now times.now values.now marks.now) t result }
 {
     let number = question_number(
         counts, given, listed, nameends, lens, ends, times, values, marks,
@@ -389,7 +389,7 @@ pub fn bake<'a>(
     outmarks: &mut [u8],
 ) -> PlacedBake
     requires { Made (pages starts.now numbers.now xs.now ys.now blocks.now defaults.now counts.now bytes.now) }
-    ensures { BakesTrack (pages starts.now numbers.now xs.now ys.now blocks.now defaults.now counts.now bytes.now) (bake_arguments (order_of given listed.now nameends.now) (samples_were lens ends times values marks)) (outputs outtimes.old outvalues.old outmarks.old) result (outputs outtimes.new outvalues.new outmarks.new) }
+    ensures { BakesTrack (pages starts.now numbers.now xs.now ys.now blocks.now defaults.now counts.now bytes.now) (bake_arguments (order_of given listed.now nameends.now) (lent_samples lens.now ends.now times.now values.now marks.now)) (outputs outtimes.old outvalues.old outmarks.old) result (outputs outtimes.new outvalues.new outmarks.new) }
 {
     let number = question_number(
         counts, given, listed, nameends, lens, ends, times, values, marks,

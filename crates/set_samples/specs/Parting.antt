@@ -3,7 +3,6 @@ use Rattle.std.specs.Prelude.{ℕ, ◌-◌, ◌≤◌, ◌≡◌, Bool, true, fa
 use Rattle.definitions.specs.Lists.{any}
 use Rattle.definitions.specs.ClipSet.{ClipSet, max_clips, max_samples}
 use Rattle.definitions.specs.Samples.{Samples, samples_number}
-use Rattle.definitions.specs.Moments.{Read}
 use Rattle.laws.specs.list.Every.{Every}
 use Rattle.laws.specs.cell.Lent.{samples_of}
 use Rattle.dispatch.specs.NamedSets.{max_sets}
@@ -14,10 +13,6 @@ use Rattle.set_samples.specs.declared.Own.{Own}
 
 abbrev pub lent_samples : List ℕ → List ℕ → List Float → List Float → List ℕ → SetSamples
 lent_samples counts ends times values marks = record { counts = counts; ends = ends; times = times; values = values; marks = marks }
-
--- as they were lent
-abbrev pub samples_were : Read ℕ → Read ℕ → Read Float → Read Float → Read ℕ → SetSamples
-samples_were counts ends times values marks = lent_samples counts.now ends.now times.now values.now marks.now
 
 -- how many clips each set has, as a dispatcher holds it
 pub record FewClips (clips : List ℕ) : Type 0 where

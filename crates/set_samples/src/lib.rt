@@ -5,7 +5,7 @@
 ghost use Rattle.std.specs.Prelude.{◌≡◌, ◌≤◌, ◌<◌, eqb, length};
 ghost use Rattle.dispatch.specs.NamedSets.{max_sets};
 ghost use Rattle.dispatch.specs.SetSamples.{sum, set_samples_number};
-ghost use Rattle.set_samples.specs.Parting.{lent_samples, samples_were, earlier, Parted, Totals, FewClips, OwnAt};
+ghost use Rattle.set_samples.specs.Parting.{lent_samples, earlier, Parted, Totals, FewClips, OwnAt};
 
 use definitions::limits::SAMPLES;
 use definitions::refusal;
@@ -56,7 +56,7 @@ fn parts_number(
 ) -> u8
     requires fact_1 { FewClips clips.now }
     requires fact_2 { Parted clips.now (lent_samples counts.now ends.now times.now values.now marks.now) }
-    ensures { result ≡ set_samples_number clips.now (samples_were counts ends times values marks) }
+    ensures { result ≡ set_samples_number clips.now (lent_samples counts.now ends.now times.now values.now marks.now) }
 {
     let mut i: usize = 0;
     let mut a: usize = 0;
@@ -120,7 +120,7 @@ pub fn samples_number(
     marks: &[u8],
 ) -> u8
     requires { FewClips clips.now }
-    ensures { result ≡ set_samples_number clips.now (samples_were counts ends times values marks) }
+    ensures { result ≡ set_samples_number clips.now (lent_samples counts.now ends.now times.now values.now marks.now) }
 {
     if values.len() != times.len() {
         return refusal::MISSHAPEN;
@@ -157,7 +157,7 @@ pub fn own_of(
     requires fact_1 { FewClips clips.now }
     requires fact_2 { k < length clips.now }
     requires fact_3 { set_samples_number clips.now (lent_samples counts.now ends.now times.now values.now marks.now) ≡ 0 }
-    ensures { OwnAt clips.now (samples_were counts ends times values marks) k result }
+    ensures { OwnAt clips.now (lent_samples counts.now ends.now times.now values.now marks.now) k result }
 {
     let mut i: usize = 0;
     let mut a: usize = 0;

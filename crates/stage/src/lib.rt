@@ -9,7 +9,7 @@ pub mod zero;
 
 ghost use Rattle.std.specs.Prelude.{◌≡◌, [], min, length};
 ghost use Rattle.definitions.specs.StageSamples.{stage_samples};
-ghost use Rattle.laws.specs.cell.Lent.{AcceptedLists, samples_were};
+ghost use Rattle.laws.specs.cell.Lent.{AcceptedLists, samples_of};
 ghost use Rattle.stage.specs.Promises.{TimesWritten, SamplesWritten};
 ghost use Rattle.stage.specs.Times.{times_of, AcceptedTimes};
 ghost use Rattle.stage.specs.Marks.{unblocked};
@@ -92,7 +92,7 @@ pub fn stage_samples(
     outmarks: &mut [u8],
 ) -> Written
     requires { AcceptedLists starts.now clips.now xs.now ys.now [] m times.now values.now marks.now ends.now }
-    ensures { SamplesWritten (stage_samples (unblocked starts.now clips.now xs.now ys.now m ends.now) (samples_were times values marks ends)) outtimes.old outtimes.new outmarks.old outmarks.new result }
+    ensures { SamplesWritten (stage_samples (unblocked starts.now clips.now xs.now ys.now m ends.now) (samples_of times.now values.now marks.now ends.now)) outtimes.old outtimes.new outmarks.old outmarks.new result }
 {
     let reach = latest_inverses(xs, ys);
     let room = shorter(outtimes.len(), outmarks.len());

@@ -4,7 +4,7 @@ ghost use Rattle.std.specs.Prelude.{◌≡◌, [], ◌≤◌, length};
 ghost use Rattle.definitions.specs.Lists.{written_over};
 ghost use Rattle.definitions.specs.StageSamples.{supplied_at};
 ghost use Rattle.definitions.specs.Track.{mark_of};
-ghost use Rattle.laws.specs.cell.Lent.{AcceptedLists, samples_were};
+ghost use Rattle.laws.specs.cell.Lent.{AcceptedLists, samples_of};
 ghost use Rattle.stage.specs.Marks.{gap_mark_of, unblocked, marks_at};
 
 use definitions::{Answer, Missing, StageTime};
@@ -47,7 +47,7 @@ fn supplied_at(
     t: StageTime,
 ) -> u8
     requires { AcceptedLists starts.now clips.now xs.now ys.now [] m times.now values.now marks.now ends.now }
-    ensures { result ≡ supplied_at (unblocked starts.now clips.now xs.now ys.now m ends.now) (samples_were times values marks ends) t }
+    ensures { result ≡ supplied_at (unblocked starts.now clips.now xs.now ys.now m ends.now) (samples_of times.now values.now marks.now ends.now) t }
 {
     if starts.len() == 0 {
         return gap_mark(m);
@@ -76,7 +76,7 @@ pub fn write_marks(
 )
     requires fact_1 { AcceptedLists starts.now clips.now xs.now ys.now [] m times.now values.now marks.now ends.now }
     requires fact_2 { length at.now ≤ length out.old }
-    ensures { out.new ≡ written_over (marks_at (unblocked starts.now clips.now xs.now ys.now m ends.now) (samples_were times values marks ends) at.now) out.old }
+    ensures { out.new ≡ written_over (marks_at (unblocked starts.now clips.now xs.now ys.now m ends.now) (samples_of times.now values.now marks.now ends.now) at.now) out.old }
 {
     let mut i: usize = 0;
     while i < at.len() {

@@ -1,4 +1,3 @@
 -- The standing set as plain arrays, and what its questions promise.
 pub mod Standing
 pub mod Lists
-pub mod Moments

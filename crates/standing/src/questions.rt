@@ -8,13 +8,13 @@ ghost use Rattle.definitions.specs.Value.{value_read};
 ghost use Rattle.definitions.specs.Moments.{outputs};
 ghost use Rattle.laws.specs.list.Every.{Every};
 ghost use Rattle.laws.specs.list.Places.{Ascending};
-ghost use Rattle.laws.specs.cell.Lent.{active_of, knots_of, samples_were};
+ghost use Rattle.laws.specs.cell.Lent.{active_of, knots_of, samples_of};
 ghost use Rattle.clip.specs.Holding.{Room};
 ghost use Rattle.value.specs.Untimed.{untimed_of};
 ghost use Rattle.track.specs.Bakes.{track_of, BakeIs};
 ghost use Rattle.standing.specs.Lists.{count_of, ListsTimes, ListsSamples};
 ghost use Rattle.standing.specs.Standing.{Asked, TimesAsked, lent_times, SamplesAsked, answered};
-ghost use Rattle.standing.specs.Moments.{set_was, open_was};
+ghost use Rattle.standing.specs.Standing.{lent_set, lent_unblocked};
 
 use crate::Counts;
 use definitions::{ClipTime, Missing, StageTime, ValueRead, ValueState, refusal};
@@ -69,7 +69,7 @@ pub fn value<'a>(
 ) -> ValueRead
     requires fact_1 { Asked counts starts.now numbers.now xs.now ys.now blocks.now m times.now values.now marks.now ends.now }
     requires fact_2 { T (finite t.0) }
-    ensures { result ≡ value_read (set_was counts starts numbers xs ys blocks m ends) (samples_were times values marks ends) t }
+    ensures { result ≡ value_read (lent_set (length ends.now) counts starts.now numbers.now xs.now ys.now blocks.now m) (samples_of times.now values.now marks.now ends.now) t }
 {
     let n = counts.starts;
     let k = counts.knots;
@@ -116,7 +116,7 @@ pub fn bake<'a>(
     outmarks: &mut [u8],
 ) -> Baked
     requires { Asked counts starts.now numbers.now xs.now ys.now blocks.now m times.now values.now marks.now ends.now }
-    ensures { BakeIs (set_was counts starts numbers xs ys blocks m ends) (samples_were times values marks ends) (outputs outtimes.old outvalues.old outmarks.old) (outputs outtimes.new outvalues.new outmarks.new) result }
+    ensures { BakeIs (lent_set (length ends.now) counts starts.now numbers.now xs.now ys.now blocks.now m) (samples_of times.now values.now marks.now ends.now) (outputs outtimes.old outvalues.old outmarks.old) (outputs outtimes.new outvalues.new outmarks.new) result }
 {
     let n = counts.starts;
     let k = counts.knots;
@@ -153,7 +153,7 @@ pub fn change_count<'a>(
     ends: &[u64],
 ) -> usize
     requires { Asked counts starts.now numbers.now xs.now ys.now blocks.now m times.now values.now marks.now ends.now }
-    ensures { result ≡ length (track_of (set_was counts starts numbers xs ys blocks m ends) (samples_were times values marks ends)).changes }
+    ensures { result ≡ length (track_of (lent_set (length ends.now) counts starts.now numbers.now xs.now ys.now blocks.now m) (samples_of times.now values.now marks.now ends.now)).changes }
 {
     let n = counts.starts;
     let k = counts.knots;
@@ -234,7 +234,7 @@ pub fn stage_samples<'a>(
     outmarks: &mut [u8],
 ) -> Counted
     requires { SamplesAsked counts starts.now numbers.now xs.now ys.now m times.now values.now marks.now ends.now }
-    ensures { ListsSamples (stage_samples (open_was counts starts numbers xs ys m ends) (samples_were times values marks ends)) outtimes.old outtimes.new outmarks.old outmarks.new result }
+    ensures { ListsSamples (stage_samples (lent_unblocked counts starts.now numbers.now xs.now ys.now m ends.now) (samples_of times.now values.now marks.now ends.now)) outtimes.old outtimes.new outmarks.old outmarks.new result }
 {
     let n = counts.starts;
     let k = counts.knots;

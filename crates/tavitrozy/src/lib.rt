@@ -10,7 +10,7 @@ ghost use Rattle.gf.specs.TotalOrder.{key_of, PlacedBy};
 ghost use Rattle.definitions.specs.Examining.{explicitly, by_template};
 ghost use Rattle.definitions.specs.Reading.{track_of_lists, read_by_halves};
 ghost use Rattle.definitions.specs.Moments.{outputs};
-ghost use Rattle.laws.specs.cell.Lent.{samples_were};
+ghost use Rattle.laws.specs.cell.Lent.{samples_of};
 ghost use Rattle.clip.specs.Holding.{manifest};
 ghost use Rattle.clip.specs.Preparing.{MadeSet, Examines};
 ghost use Rattle.explicit.specs.Parsing.{explicit_fields};
@@ -190,7 +190,7 @@ pub extern "C" fn tavitrozy_lent_value<'a>(
     time: StageTime,
 ) -> ValueCode
     requires { Made (lent_state shape starts.now numbers.now xs.now ys.now blocks.now) }
-    ensures { TellsValue (lent_state shape starts.now numbers.now xs.now ys.now blocks.now) (samples_were times values marks ends) time result }
+    ensures { TellsValue (lent_state shape starts.now numbers.now xs.now ys.now blocks.now) (samples_of times.now values.now marks.now ends.now) time result }
 {
     let r = lent_questions::value(
         shape, starts, numbers, xs, ys, blocks, times, values, marks, ends, time,
@@ -212,7 +212,7 @@ pub extern "C" fn tavitrozy_lent_untimed<'a>(
     ends: &[u64],
 ) -> UntimedCode
     requires { Made (lent_state shape starts.now numbers.now xs.now ys.now blocks.now) }
-    ensures { TellsUntimed (lent_state shape starts.now numbers.now xs.now ys.now blocks.now) (samples_were times values marks ends) result }
+    ensures { TellsUntimed (lent_state shape starts.now numbers.now xs.now ys.now blocks.now) (samples_of times.now values.now marks.now ends.now) result }
 {
     let r = lent_questions::untimed(
         shape, starts, numbers, xs, ys, blocks, times, values, marks, ends,
@@ -235,7 +235,7 @@ pub extern "C" fn tavitrozy_lent_stage_sample_times<'a>(
     ts: &mut [f64],
 ) -> Counted
     requires { Made (lent_state shape starts.now numbers.now xs.now ys.now blocks.now) }
-    ensures { TellsTimes (lent_state shape starts.now numbers.now xs.now ys.now blocks.now) (samples_were times values marks ends) ts.old ts.new result }
+    ensures { TellsTimes (lent_state shape starts.now numbers.now xs.now ys.now blocks.now) (samples_of times.now values.now marks.now ends.now) ts.old ts.new result }
 {
     lent_questions::stage_sample_times(
         shape, starts, numbers, xs, ys, blocks, times, values, marks, ends, ts,
@@ -258,7 +258,7 @@ pub extern "C" fn tavitrozy_lent_stage_samples<'a>(
     ms: &mut [u8],
 ) -> Counted
     requires { Made (lent_state shape starts.now numbers.now xs.now ys.now blocks.now) }
-    ensures { TellsSamples (lent_state shape starts.now numbers.now xs.now ys.now blocks.now) (samples_were times values marks ends) ts.old ts.new ms.old ms.new result }
+    ensures { TellsSamples (lent_state shape starts.now numbers.now xs.now ys.now blocks.now) (samples_of times.now values.now marks.now ends.now) ts.old ts.new ms.old ms.new result }
 {
     lent_questions::stage_samples(
         shape, starts, numbers, xs, ys, blocks, times, values, marks, ends, ts, ms,
@@ -279,7 +279,7 @@ pub extern "C" fn tavitrozy_lent_stage_sample_count<'a>(
     ends: &[u64],
 ) -> Counted
     requires { Made (lent_state shape starts.now numbers.now xs.now ys.now blocks.now) }
-    ensures { TellsSampleCount (lent_state shape starts.now numbers.now xs.now ys.now blocks.now) (samples_were times values marks ends) result }
+    ensures { TellsSampleCount (lent_state shape starts.now numbers.now xs.now ys.now blocks.now) (samples_of times.now values.now marks.now ends.now) result }
 {
     lent_questions::stage_sample_count(
         shape, starts, numbers, xs, ys, blocks, times, values, marks, ends,
@@ -300,7 +300,7 @@ pub extern "C" fn tavitrozy_lent_change_count<'a>(
     ends: &[u64],
 ) -> Counted
     requires { Made (lent_state shape starts.now numbers.now xs.now ys.now blocks.now) }
-    ensures { TellsChangeCount (lent_state shape starts.now numbers.now xs.now ys.now blocks.now) (samples_were times values marks ends) result }
+    ensures { TellsChangeCount (lent_state shape starts.now numbers.now xs.now ys.now blocks.now) (samples_of times.now values.now marks.now ends.now) result }
 {
     lent_questions::change_count(
         shape, starts, numbers, xs, ys, blocks, times, values, marks, ends,
@@ -324,7 +324,7 @@ pub extern "C" fn tavitrozy_lent_bake<'a>(
     outmarks: &mut [u8],
 ) -> Baked
     requires { Made (lent_state shape starts.now numbers.now xs.now ys.now blocks.now) }
-    ensures { BakesTrack (lent_state shape starts.now numbers.now xs.now ys.now blocks.now) (samples_were times values marks ends) (outputs outtimes.old outvalues.old outmarks.old) result (outputs outtimes.new outvalues.new outmarks.new) }
+    ensures { BakesTrack (lent_state shape starts.now numbers.now xs.now ys.now blocks.now) (samples_of times.now values.now marks.now ends.now) (outputs outtimes.old outvalues.old outmarks.old) result (outputs outtimes.new outvalues.new outmarks.new) }
 {
     lent_questions::bake(
         shape, starts, numbers, xs, ys, blocks, times, values, marks, ends, outtimes, outvalues,

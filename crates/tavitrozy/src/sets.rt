@@ -4,7 +4,7 @@ ghost use Rattle.clip.specs.Holding.{manifest};
 ghost use Rattle.clip.specs.Preparing.{MadeSet};
 ghost use Rattle.explicit.specs.Parsing.{explicit_fields};
 ghost use Rattle.template.specs.Expanding.{template_fields};
-ghost use Rattle.set_samples.specs.Parting.{samples_were};
+ghost use Rattle.set_samples.specs.Parting.{lent_samples};
 ghost use Rattle.pages.specs.Pages.{pages, Made};
 ghost use Rattle.pages.specs.Placing.{Begins};
 ghost use Rattle.set_changes.specs.Promises.{Accepts, Expands, Installs, Retimes};
@@ -186,7 +186,7 @@ pub extern "C" fn tavitrozy_sets_value<'a>(
     time: StageTime,
 ) -> PlacedCode
     requires { Made (pages starts.now numbers.now xs.now ys.now blocks.now defaults.now counts.now bytes.now) }
-    ensures { TellsPlaced (pages starts.now numbers.now xs.now ys.now blocks.now defaults.now counts.now bytes.now) (order_of given listed.now nameends.now) (samples_were lens ends times values marks) time result }
+    ensures { TellsPlaced (pages starts.now numbers.now xs.now ys.now blocks.now defaults.now counts.now bytes.now) (order_of given listed.now nameends.now) (lent_samples lens.now ends.now times.now values.now marks.now) time result }
 {
     let r = set_questions::value(
         starts, numbers, xs, ys, blocks, defaults, counts, bytes, given, listed, nameends, lens,
@@ -218,7 +218,7 @@ pub extern "C" fn tavitrozy_sets_bake<'a>(
     outmarks: &mut [u8],
 ) -> PlacedBake
     requires { Made (pages starts.now numbers.now xs.now ys.now blocks.now defaults.now counts.now bytes.now) }
-    ensures { BakesTrack (pages starts.now numbers.now xs.now ys.now blocks.now defaults.now counts.now bytes.now) (bake_arguments (order_of given listed.now nameends.now) (samples_were lens ends times values marks)) (outputs outtimes.old outvalues.old outmarks.old) result (outputs outtimes.new outvalues.new outmarks.new) }
+    ensures { BakesTrack (pages starts.now numbers.now xs.now ys.now blocks.now defaults.now counts.now bytes.now) (bake_arguments (order_of given listed.now nameends.now) (lent_samples lens.now ends.now times.now values.now marks.now)) (outputs outtimes.old outvalues.old outmarks.old) result (outputs outtimes.new outvalues.new outmarks.new) }
 {
     set_questions::bake(
         starts, numbers, xs, ys, blocks, defaults, counts, bytes, given, listed, nameends, lens,

@@ -2,7 +2,6 @@
 use Rattle.std.specs.Prelude.{◌≡◌, true, false, List, ◌++◌, ℕ, ◌+◌, ◌≤◌, ◌<◌, length, take, drop, Float}
 use Rattle.definitions.specs.declared.Missing.{Missing}
 use Rattle.definitions.specs.Track.{Outputs, slots}
-use Rattle.definitions.specs.Moments.{Read}
 use Rattle.laws.specs.cell.Keys.{Keys, entry_at_key}
 use Rattle.laws.specs.cell.Lent.{set_of, samples_of}
 use Rattle.cell.specs.step.Entries.{entry_is}
@@ -32,11 +31,6 @@ pub record FillIs (starts : List Float) (clips : List ℕ) (xs ys blocks : List 
   pub writes : after ≡ written 0 (changes_of (set_of (length ends) starts clips xs ys blocks m) (samples_of times values marks ends) from r.cursor.key) before
   pub fits : r.count ≤ slots before
   pub full : r.done ≡ false → r.count ≡ slots before
-
--- the same of what a call was lent
-abbrev pub Fills : Read Float → Read ℕ → Read Float → Read Float → Read Float → Missing → Read Float → Read Float → Read ℕ → Read ℕ → Cursor → ℕ → Outputs → Outputs → Filled → Type 0
-Fills starts clips xs ys blocks m times values marks ends from top before after r =
-    FillIs starts.now clips.now xs.now ys.now blocks.now m times.now values.now marks.now ends.now from.key top before after r
 
 -- of a page that is dropped
 pub record PageIs (starts : List Float) (clips : List ℕ) (xs ys blocks : List Float) (m : Missing) (times values : List Float) (marks ends : List ℕ) (from top : ℕ) (r : Filled) : Type 0 where

@@ -4,7 +4,7 @@ ghost use Rattle.gf.specs.Doubles.{0·0};
 ghost use Rattle.gf.specs.Doubles as Key;
 ghost use Rattle.definitions.specs.Track.{slots};
 ghost use Rattle.definitions.specs.Moments.{outputs};
-ghost use Rattle.laws.specs.cell.Lent.{AcceptedLists, set_was, samples_were};
+ghost use Rattle.laws.specs.cell.Lent.{AcceptedLists, set_of, samples_of};
 ghost use Rattle.window.specs.search.Latest.{LatestOf};
 ghost use Rattle.run.specs.Walks.{Room};
 ghost use Rattle.track.specs.Bakes.{BakeIs};
@@ -88,7 +88,7 @@ fn bake_by_pages(
     requires cursor_is_1 { CursorIs starts.now clips.now xs.now ys.now blocks.now m times.now values.now marks.now ends.now Key.most from }
     requires cursor_is_2 { from.key ≡ Key.least }
     requires nonzero { 0 < slots (outputs pagetimes.old pagevalues.old pagemarks.old) }
-    ensures { BakeIs (set_was starts clips xs ys blocks m ends) (samples_were times values marks ends) (outputs outtimes.old outvalues.old outmarks.old) (outputs outtimes.new outvalues.new outmarks.new) result }
+    ensures { BakeIs (set_of (length ends.now) starts.now clips.now xs.now ys.now blocks.now m) (samples_of times.now values.now marks.now ends.now) (outputs outtimes.old outvalues.old outmarks.old) (outputs outtimes.new outvalues.new outmarks.new) result }
 {
     let room = shortest(outtimes.len(), outvalues.len(), outmarks.len());
     let head = from.last;
@@ -165,7 +165,7 @@ fn bake_from_least(
 ) -> Baked
     requires accepted_lists { AcceptedLists starts.now clips.now xs.now ys.now blocks.now m times.now values.now marks.now ends.now }
     requires latest_of { LatestOf xs.now ys.now latest.now }
-    ensures { BakeIs (set_was starts clips xs ys blocks m ends) (samples_were times values marks ends) (outputs outtimes.old outvalues.old outmarks.old) (outputs outtimes.new outvalues.new outmarks.new) result }
+    ensures { BakeIs (set_of (length ends.now) starts.now clips.now xs.now ys.now blocks.now m) (samples_of times.now values.now marks.now ends.now) (outputs outtimes.old outvalues.old outmarks.old) (outputs outtimes.new outvalues.new outmarks.new) result }
 {
     let from = least_cursor(starts, clips, xs, ys, blocks, m, times, values, marks, ends);
     let mut pagetimes: [f64; PAGE] = [0.0; PAGE];
@@ -211,7 +211,7 @@ pub fn bake(
     outmarks: &mut [u8],
 ) -> Baked
     requires { AcceptedLists starts.now clips.now xs.now ys.now blocks.now m times.now values.now marks.now ends.now }
-    ensures { BakeIs (set_was starts clips xs ys blocks m ends) (samples_were times values marks ends) (outputs outtimes.old outvalues.old outmarks.old) (outputs outtimes.new outvalues.new outmarks.new) result }
+    ensures { BakeIs (set_of (length ends.now) starts.now clips.now xs.now ys.now blocks.now m) (samples_of times.now values.now marks.now ends.now) (outputs outtimes.old outvalues.old outmarks.old) (outputs outtimes.new outvalues.new outmarks.new) result }
 {
     // without segments there are no inverse times, and no list of them is made
     if xs.len() < 2 {

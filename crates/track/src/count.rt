@@ -2,7 +2,7 @@
 ghost use Rattle.std.specs.Prelude.{◌≡◌, ◌+◌, ◌<◌, min, length};
 ghost use Rattle.definitions.specs.Track.{slots};
 ghost use Rattle.definitions.specs.Moments.{outputs};
-ghost use Rattle.laws.specs.cell.Lent.{AcceptedLists, set_was, samples_were};
+ghost use Rattle.laws.specs.cell.Lent.{AcceptedLists, set_of, samples_of};
 ghost use Rattle.window.specs.search.Latest.{LatestOf};
 ghost use Rattle.track.specs.span.Changes.{changes_of};
 ghost use Rattle.track.specs.Bakes.{track_of};
@@ -42,7 +42,7 @@ pub fn count_within(
     requires latest_of { LatestOf xs.now ys.now latest.now }
     requires cursor_is { CursorIs starts.now clips.now xs.now ys.now blocks.now m times.now values.now marks.now ends.now top from }
     requires nonzero { 0 < slots (outputs pagetimes.old pagevalues.old pagemarks.old) }
-    ensures { min result (room + 1) ≡ min (length (changes_of (set_was starts clips xs ys blocks m ends) (samples_were times values marks ends) from.key top)) (room + 1) }
+    ensures { min result (room + 1) ≡ min (length (changes_of (set_of (length ends.now) starts.now clips.now xs.now ys.now blocks.now m) (samples_of times.now values.now marks.now ends.now) from.key top)) (room + 1) }
 {
     let mut at = from;
     let mut count: usize = 0;
@@ -78,7 +78,7 @@ fn count_from_least(
 ) -> usize
     requires accepted_lists { AcceptedLists starts.now clips.now xs.now ys.now blocks.now m times.now values.now marks.now ends.now }
     requires latest_of { LatestOf xs.now ys.now latest.now }
-    ensures { result ≡ length (track_of (set_was starts clips xs ys blocks m ends) (samples_were times values marks ends)).changes }
+    ensures { result ≡ length (track_of (set_of (length ends.now) starts.now clips.now xs.now ys.now blocks.now m) (samples_of times.now values.now marks.now ends.now)).changes }
 {
     let from = least_cursor(starts, clips, xs, ys, blocks, m, times, values, marks, ends);
     let mut pagetimes: [f64; PAGE] = [0.0; PAGE];
@@ -119,7 +119,7 @@ pub fn change_count(
     ends: &[u64],
 ) -> usize
     requires { AcceptedLists starts.now clips.now xs.now ys.now blocks.now m times.now values.now marks.now ends.now }
-    ensures { result ≡ length (track_of (set_was starts clips xs ys blocks m ends) (samples_were times values marks ends)).changes }
+    ensures { result ≡ length (track_of (set_of (length ends.now) starts.now clips.now xs.now ys.now blocks.now m) (samples_of times.now values.now marks.now ends.now)).changes }
 {
     // without segments there are no inverse times, as in a bake
     if xs.len() < 2 {

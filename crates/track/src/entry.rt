@@ -2,7 +2,7 @@
 ghost use Rattle.std.specs.Prelude.{◌≡◌, ◌≤◌};
 ghost use Rattle.gf.specs.Doubles as Key;
 ghost use Rattle.laws.specs.cell.Keys.{entry_at_key};
-ghost use Rattle.laws.specs.cell.Lent.{AcceptedLists, set_was, samples_were};
+ghost use Rattle.laws.specs.cell.Lent.{AcceptedLists, set_of, samples_of};
 ghost use Rattle.cell.specs.step.Entries.{entry_is};
 
 use cell::step::entry::{Entry, entry_of};
@@ -24,7 +24,7 @@ pub fn entry_at(
 ) -> Entry
     requires accepted_lists { AcceptedLists starts.now clips.now xs.now ys.now blocks.now m times.now values.now marks.now ends.now }
     requires le_k { (Key.least ≤ k) × (k ≤ Key.most) }
-    ensures { entry_is result ≡ entry_at_key (set_was starts clips xs ys blocks m ends) (samples_were times values marks ends) k }
+    ensures { entry_is result ≡ entry_at_key (set_of (length ends.now) starts.now clips.now xs.now ys.now blocks.now m) (samples_of times.now values.now marks.now ends.now) k }
 {
     let t = gf::of_key(k);
     entry_of(value::value::value_in_set(

@@ -4,7 +4,7 @@ ghost use Rattle.gf.specs.Doubles as Key;
 ghost use Rattle.definitions.specs.Moments.{outputs};
 ghost use Rattle.laws.specs.cell.Lent.{AcceptedLists};
 ghost use Rattle.window.specs.search.Latest.{LatestOf};
-ghost use Rattle.track.specs.Fills.{CursorIs, Fills};
+ghost use Rattle.track.specs.Fills.{CursorIs, FillIs};
 
 use crate::entry::entry_at;
 use crate::span::fill::fill_in;
@@ -96,7 +96,7 @@ pub fn fill(
     requires accepted_lists { AcceptedLists starts.now clips.now xs.now ys.now blocks.now m times.now values.now marks.now ends.now }
     requires latest_of { LatestOf xs.now ys.now latest.now }
     requires cursor_is { CursorIs starts.now clips.now xs.now ys.now blocks.now m times.now values.now marks.now ends.now top from }
-    ensures { Fills starts clips xs ys blocks m times values marks ends from top (outputs outtimes.old outvalues.old outmarks.old) (outputs outtimes.new outvalues.new outmarks.new) result }
+    ensures { FillIs starts.now clips.now xs.now ys.now blocks.now m times.now values.now marks.now ends.now from.key top (outputs outtimes.old outvalues.old outmarks.old) (outputs outtimes.new outvalues.new outmarks.new) result }
 {
     let room = shortest(outtimes.len(), outvalues.len(), outmarks.len());
     let mut at = from.key;

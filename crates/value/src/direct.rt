@@ -4,7 +4,7 @@ ghost use Rattle.std.specs.Prelude.{◌≡◌, not, ◌&&◌, cond, reverse, ◌
 ghost use Rattle.std.specs.Float.{nan};
 ghost use Rattle.std.specs.Float.Ieee.{eq};
 ghost use Rattle.definitions.specs.Lists.{any};
-ghost use Rattle.laws.specs.cell.Lent.{start, active_of, AcceptedLists, set_was, samples_were};
+ghost use Rattle.laws.specs.cell.Lent.{start, active_of, AcceptedLists, set_of, samples_of};
 ghost use Rattle.window.specs.Parts.{Readable};
 ghost use Rattle.sdf.specs.look.Reads.{held_is};
 ghost use Rattle.value.specs.direct.Reads.{reading_is, held_part, read_start, first_read, SearchAsks};
@@ -184,7 +184,7 @@ pub fn interpolate_missing_value(
 ) -> Source
     requires fact_1 { AcceptedLists starts.now clips.now xs.now ys.now blocks.now m times.now values.now marks.now ends.now }
     requires fact_2 { p < length starts.now }
-    ensures { result ≡ stand_in (set_was starts clips xs ys blocks m ends) (samples_were times values marks ends) p }
+    ensures { result ≡ stand_in (set_of (length ends.now) starts.now clips.now xs.now ys.now blocks.now m) (samples_of times.now values.now marks.now ends.now) p }
 {
     let default = m.default;
     if default.mark == 0 {

@@ -3,7 +3,7 @@
 ghost use Rattle.std.specs.Prelude.{◌≡◌, T, length};
 ghost use Rattle.std.specs.Float.Ieee.Scale.{finite};
 ghost use Rattle.definitions.specs.Value.{value_source, value_in_set, sample_read, value_read};
-ghost use Rattle.laws.specs.cell.Lent.{AcceptedLists, set_was, samples_were};
+ghost use Rattle.laws.specs.cell.Lent.{AcceptedLists, set_of, samples_of};
 ghost use Rattle.value.specs.Answers.{answer_in, Answerable};
 ghost use Rattle.value.specs.Values.{Valued, ValueIn};
 
@@ -55,7 +55,7 @@ pub fn value_source(
 ) -> Source
     requires fact_1 { AcceptedLists starts.now clips.now xs.now ys.now blocks.now m times.now values.now marks.now ends.now }
     requires fact_2 { T (finite t.0) }
-    ensures { result ≡ value_source (set_was starts clips xs ys blocks m ends) (samples_were times values marks ends) t }
+    ensures { result ≡ value_source (set_of (length ends.now) starts.now clips.now xs.now ys.now blocks.now m) (samples_of times.now values.now marks.now ends.now) t }
 {
     if starts.len() == 0 {
         return Source::Absent;
@@ -130,7 +130,7 @@ pub fn value_read(
 ) -> ValueRead
     requires fact_1 { AcceptedLists starts.now clips.now xs.now ys.now blocks.now m times.now values.now marks.now ends.now }
     requires fact_2 { T (finite t.0) }
-    ensures { result ≡ value_read (set_was starts clips xs ys blocks m ends) (samples_were times values marks ends) t }
+    ensures { result ≡ value_read (set_of (length ends.now) starts.now clips.now xs.now ys.now blocks.now m) (samples_of times.now values.now marks.now ends.now) t }
 {
     let source = value_source(
         starts, clips, xs, ys, blocks, m, times, values, marks, ends, t,
@@ -156,7 +156,7 @@ pub fn value_in_set(
 ) -> Answer
     requires fact_1 { AcceptedLists starts.now clips.now xs.now ys.now blocks.now m times.now values.now marks.now ends.now }
     requires fact_2 { T (finite t.0) }
-    ensures { result ≡ value_in_set (set_was starts clips xs ys blocks m ends) (samples_were times values marks ends) t }
+    ensures { result ≡ value_in_set (set_of (length ends.now) starts.now clips.now xs.now ys.now blocks.now m) (samples_of times.now values.now marks.now ends.now) t }
 {
     let read = value_read(
         starts, clips, xs, ys, blocks, m, times, values, marks, ends, t,

@@ -5,8 +5,7 @@ use Rattle.by_value.proofs.accept.Goals as goal
 
 pub settle-requires : goal.settle-requires
 settle-requires c =
-    let e = c.parse_set-prepared.ensures in
-    record { made = c.requires; made_set = e.made }
+        record { made = c.requires; made_set = c.parse_set-prepared.ensures.made }
 
 pub returns : goal.returns
 returns c = accepts _ _ _ _ c.parse_set-prepared.ensures c.settle.ensures

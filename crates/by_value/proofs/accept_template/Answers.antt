@@ -5,8 +5,7 @@ use Rattle.by_value.proofs.accept_template.Goals as goal
 
 pub settle-requires : goal.settle-requires
 settle-requires c =
-    let e = c.expand_template-prepared.ensures in
-    record { made = c.requires; made_set = e.made }
+        record { made = c.requires; made_set = c.expand_template-prepared.ensures.made }
 
 pub returns : goal.returns
 returns c = expands _ _ _ _ c.expand_template-prepared.ensures c.settle.ensures

@@ -6,7 +6,7 @@ use Rattle.resolver.proofs.Laws.{retimes-20, retimes, stands-sound}
 use Rattle.by_value.proofs.retime.Goals as goal
 
 pub returns-then-not-resolver : goal.returns-then-not-resolver
-returns-then-not-resolver c = let s = c in retimes-20 s.args.t1 s.args.o s.requires c.if-not-resolver.true
+returns-then-not-resolver c = let s = c in retimes-20 s.args.resolver s.args.o s.requires c.if-not-resolver.true
 
 pub packed-set-requires : goal.packed-set-requires
 packed-set-requires c = c.requires.whole
@@ -15,17 +15,15 @@ pub retime_stage_times-moved-requires : goal.retime_stage_times-moved-requires
 retime_stage_times-moved-requires c =
     let p = c in
     let s = p in
-    let k = c.packed-set.ensures in
-    record { held = k.held; sound = subst Sound (sym k.is) (stands-sound s.args.t1 s.requires p.if-not-resolver.left) }
+        record { held = c.packed-set.ensures.held; sound = subst Sound (sym c.packed-set.ensures.is) (stands-sound s.args.resolver s.requires p.if-not-resolver.false) }
 
 pub settle-requires : goal.settle-requires
 settle-requires c =
-    let e = c.retime_stage_times-moved.ensures in
-    record { made = c.requires; made_set = record { held = e.reply.held; sound = e.sound } }
+        record { made = c.requires; made_set = record { held = c.retime_stage_times-moved.ensures.reply.held; sound = c.retime_stage_times-moved.ensures.sound } }
 
 pub returns : goal.returns
 returns c =
     let k = c in
     let p = k in
     let s = p in
-    retimes s.args.t1 s.args.o _ _ _ p.if-not-resolver.left k.packed-set.ensures c.retime_stage_times-moved.ensures c.settle.ensures
+    retimes s.args.resolver s.args.o _ _ _ p.if-not-resolver.false k.packed-set.ensures c.retime_stage_times-moved.ensures c.settle.ensures

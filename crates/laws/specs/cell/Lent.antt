@@ -7,7 +7,6 @@ use Rattle.definitions.specs.Lists.{zip_with}
 use Rattle.definitions.specs.Explicit.{knot}
 use Rattle.definitions.specs.ClipSet.{ClipSet}
 use Rattle.definitions.specs.Samples.{Samples}
-use Rattle.definitions.specs.Moments.{Read}
 use Rattle.laws.specs.list.Every.{Every}
 use Rattle.laws.specs.list.Places.{Fits}
 use Rattle.laws.specs.set.Sound.{Sound}
@@ -36,14 +35,6 @@ set_of n starts clips xs ys blocks m = record {
 
 abbrev pub samples_of : List Float → List Float → List ℕ → List ℕ → Samples
 samples_of times values marks ends = record { times = times; values = values; marks = marks; ends = ends }
-
--- ---- of the lists as they were lent
-
-abbrev pub set_was : Read Float → Read ℕ → Read Float → Read Float → Read Float → Missing → Read ℕ → ClipSet
-set_was starts clips xs ys blocks m ends = set_of (length ends.now) starts.now clips.now xs.now ys.now blocks.now m
-
-abbrev pub samples_were : Read Float → Read Float → Read ℕ → Read ℕ → Samples
-samples_were times values marks ends = samples_of times.now values.now marks.now ends.now
 
 -- ---- the laws' premises
 

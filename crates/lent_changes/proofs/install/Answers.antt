@@ -11,9 +11,8 @@ state s = let a = s.args in lent_state a.shape a.starts.now a.numbers.now a.xs.n
 
 pub unpacked-counts-requires : goal.unpacked-counts-requires
 unpacked-counts-requires c =
-    let p = c.requires in
-    let w = p.0.whole in
-    record { fact_1 = p.1.held; fact_2 = record { of-starts = w.in-starts.long; of-numbers = w.in-numbers.long; of-xs = w.in-xs.long; of-ys = w.in_ys.long; of_blocks = w.in_blocks.long } }
+        let w = c.requires.made.whole in
+    record { fact_1 = c.requires.made_set.held; fact_2 = record { of-starts = w.in-starts.long; of-numbers = w.in-numbers.long; of-xs = w.in-xs.long; of-ys = w.in_ys.long; of_blocks = w.in_blocks.long } }
 
 pub returns : goal.returns
 returns c =

@@ -22,8 +22,7 @@ pub retime_stage_times-moved-requires : goal.retime_stage_times-moved-requires
 retime_stage_times-moved-requires c =
     let p = c in
     let s = p in
-    let k = c.packed-set.ensures in
-    record { held = k.held; sound = subst Sound (sym k.is) (stands-sound (state (goal.at.retime_stage_times-moved-requires s).Start) s.requires p.if-not-shape.false) }
+        record { held = c.packed-set.ensures.held; sound = subst Sound (sym c.packed-set.ensures.is) (stands-sound (state (goal.at.retime_stage_times-moved-requires s).Start) s.requires p.if-not-shape.false) }
 
 pub returns-then-moved-ne0 : goal.returns-then-moved-ne0
 returns-then-moved-ne0 c =
@@ -34,8 +33,7 @@ returns-then-moved-ne0 c =
 
 pub install-next-requires : goal.install-next-requires
 install-next-requires c =
-    let e = c.retime_stage_times-moved.ensures in
-    record { made = c.requires; made_set = record { held = e.reply.held; sound = e.sound } }
+        record { made = c.requires; made_set = record { held = c.retime_stage_times-moved.ensures.reply.held; sound = c.retime_stage_times-moved.ensures.sound } }
 
 pub returns : goal.returns
 returns c =

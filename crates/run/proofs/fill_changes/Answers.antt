@@ -39,38 +39,38 @@ outs a = outputs a.args.outtimes.now a.args.outvalues.now a.args.outmarks.now
 room : (a : At-start) → Room a.args.room a.args.n (outs a)
 room a = a.requires.room
 
-ended : (c : In_default) → Stands (w (entry (goal.at.In_default c).At-loop-step)) (entry (goal.at.In_default c).At-loop-step).args.k (entry (goal.at.In_default c).At-loop-step).args.room (entry (goal.at.In_default c).At-loop-step).args.n (outs (entry (goal.at.In_default c).At-loop-step)) (outputs c.loop-step.outtimes c.loop-step.outvalues c.loop-step.outmarks) (entry (goal.at.In_default c).At-loop-step).args.hi (entry_is c.loop-step.last) c.loop-step.count
+ended : (c : In_default) → Stands (w (goal.at.In_default c).Start) c.args.k c.args.room c.args.n (outs (goal.at.In_default c).Start) (outputs c.loop-step.outtimes c.loop-step.outvalues c.loop-step.outmarks) c.args.hi (entry_is c.loop-step.last) c.loop-step.count
 ended c =
     let b = c in
     let a = b in
     let l : Level (f (goal.at.In_default a).Start) b.loop-step.at a.args.hi = subst (λ (n : Next). FirstStep (f (goal.at.In_default a).Start) b.loop-step.at a.args.hi n) c.in_default.is c.next_step.ensures in
-    stands-level (w (goal.at.In_default a).Start) a.args.k a.args.room a.args.n (outs (goal.at.In_default a).Start) (room (goal.at.In_default a).Start) b.loop-step.inv.2 b.loop-step.inv.0 (read-level (reads (goal.at.In_default a).Start) a.args.line l)
+    stands-level (w (goal.at.In_default a).Start) a.args.k a.args.room a.args.n (outs (goal.at.In_default a).Start) (room (goal.at.In_default a).Start) b.loop-step.invariant.2 b.loop-step.invariant.0 (read-level (reads (goal.at.In_default a).Start) a.args.line l)
 
-found : (c : In-At-2) → StepAt (f (entry (goal.at.In-At-2 c).At-loop-step)) c.loop-step.at (entry (goal.at.In-At-2 c).At-loop-step).args.hi c.in-At.step
+found : (c : In-At-2) → StepAt (f (goal.at.In-At-2 c).Start) c.loop-step.at c.args.hi c.in-At.step
 found c = let b = c in subst (λ (n : Next). FirstStep (f (goal.at.In-At-2 b).Start) b.loop-step.at b.args.hi n) c.in-At.is c.next_step.ensures
 
 abbrev after : After-offer-slot → Outputs
-after c = let o = c.offer-slot.new.1.1.1.1.1 in outputs o.0 o.1.0 o.1.1.0
+after c = outputs c.offer-slot.new.outtimes c.offer-slot.new.outvalues c.offer-slot.new.outmarks
 
-there : (c : After-offer-slot) → entry_is c.entry_of_sample-entry.result ≡ w (entry (loop (goal.at.After-offer-slot c).In-At-2)) c.in-At.step
+there : (c : After-offer-slot) → entry_is c.entry_of_sample-entry.result ≡ w (goal.at.After-offer-slot c).Start c.in-At.step
 there c =
-    let a = entry (loop (goal.at.After-offer-slot c).In-At-2) in
+    let a = c in
     c.entry_of_sample-entry.ensures ∙ ap (entry_at a.args.vs.now a.args.ms.now) c.place_beside-next.ensures
 
 -- without room for it
-refused : (c : Then-room-slot) → let g = c in let b = loop (goal.at.Then-room-slot g).In-At-2 in let a = b in
-    Stands (w a) a.args.k a.args.room a.args.n (outs a) (after (goal.at.Then-room-slot g).After-offer-slot) b.loop.at (entry_is b.loop.last) b.loop.count
+refused : (c : Then-room-slot) → let g = c in let b = g in let a = b in
+    Stands (w (goal.at.Then-room-slot a).Start) a.args.k a.args.room a.args.n (outs (goal.at.Then-room-slot a).Start) (after (goal.at.Then-room-slot g).After-offer-slot) b.loop-step.at (entry_is b.loop-step.last) b.loop-step.count
 refused c =
     let g = c in
-    let b = loop (goal.at.Then-room-slot g).In-At-2 in
+    let b = g in
     let a = b in
-    stands-full (w a) a.args.k a.args.room a.args.n (outs a) (room a) b.loop.inv.2 (read-reaches (reads a) a.args.line (found (goal.at.Then-room-slot g).In-At-2)) (there (goal.at.Then-room-slot g).After-offer-slot) g.offer-slot.ensures c.if-room-slot.true
+    stands-full (w (goal.at.Then-room-slot a).Start) a.args.k a.args.room a.args.n (outs (goal.at.Then-room-slot a).Start) (room (goal.at.Then-room-slot a).Start) b.loop-step.invariant.2 (read-reaches (reads (goal.at.Then-room-slot a).Start) a.args.line (found (goal.at.Then-room-slot g).In-At-2)) (there (goal.at.Then-room-slot g).After-offer-slot) g.offer-slot.ensures c.if-room-slot.true
 
-long : (c : Then-room-slot) → Long (outs (entry (loop (goal.at.Then-room-slot c).In-At-2))) (after (goal.at.Then-room-slot c).After-offer-slot)
-long c = let a = entry (loop (goal.at.Then-room-slot c).In-At-2) in stands-long (w a) a.args.k a.args.room a.args.n (outs a) (room a) (refused c)
+long : (c : Then-room-slot) → Long (outs (goal.at.Then-room-slot c).Start) (after (goal.at.Then-room-slot c).After-offer-slot)
+long c = let a = c in stands-long (w (goal.at.Then-room-slot a).Start) a.args.k a.args.room a.args.n (outs (goal.at.Then-room-slot a).Start) (room (goal.at.Then-room-slot a).Start) (refused c)
 
-long-end : (c : In_default) → Long (outs (entry (goal.at.In_default c).At-loop-step)) (outputs c.loop-step.outtimes c.loop-step.outvalues c.loop-step.outmarks)
-long-end c = let a = entry (goal.at.In_default c).At-loop-step in stands-long (w a) a.args.k a.args.room a.args.n (outs a) (room a) (ended c)
+long-end : (c : In_default) → Long (outs (goal.at.In_default c).Start) (outputs c.loop-step.outtimes c.loop-step.outvalues c.loop-step.outmarks)
+long-end c = let a = c in stands-long (w (goal.at.In_default a).Start) a.args.k a.args.room a.args.n (outs (goal.at.In_default a).Start) (room (goal.at.In_default a).Start) (ended c)
 
 pub of_key-requires : goal.of_key-requires
 of_key-requires c = let K = keys (goal.at.of_key-requires c).Start in (omega (arith, K.low, K.order), K.high)
@@ -118,13 +118,13 @@ place_beside-next-requires c =
     let a = b in
     let K = keys (goal.at.place_beside-next-requires a).Start in
     let p = found (goal.at.place_beside-next-requires c).In-At-2 in
-    let l = b.loop-step.inv.2.from in
+    let l = b.loop-step.invariant.2.from in
     record { ascending = (reads (goal.at.place_beside-next-requires a).Start).ascending; le_k = (omega (arith, K.low, l, p.above), omega (arith, K.high, p.within)) }
 
 pub entry_of_sample-entry-requires : goal.entry_of_sample-entry-requires
 entry_of_sample-entry-requires c =
-    let a = entry (goal.at.entry_of_sample-entry-requires c).At-loop-step in
-    place-slots (reads a) a.args.line c.place_beside-next.result c.in-At.step c.place_beside-next.ensures
+    let a = c in
+    place-slots (reads (goal.at.entry_of_sample-entry-requires a).Start) a.args.line c.place_beside-next.result c.in-At.step c.place_beside-next.ensures
 
 pub offer-slot-requires : goal.offer-slot-requires
 offer-slot-requires c =
@@ -133,8 +133,8 @@ offer-slot-requires c =
     let a = b in
     let K = keys (goal.at.offer-slot-requires a).Start in
     let q = found (goal.at.offer-slot-requires p).In-At-2 in
-    let l = b.loop-step.inv.2.from in
-    record { le_k = (omega (arith, K.low, l, q.above), omega (arith, K.high, q.within)); room = stands-room (w (goal.at.offer-slot-requires a).Start) a.args.k a.args.room a.args.n (outs (goal.at.offer-slot-requires a).Start) (room (goal.at.offer-slot-requires a).Start) b.loop-step.inv.2 }
+    let l = b.loop-step.invariant.2.from in
+    record { le_k = (omega (arith, K.low, l, q.above), omega (arith, K.high, q.within)); room = stands-room (w (goal.at.offer-slot-requires a).Start) a.args.k a.args.room a.args.n (outs (goal.at.offer-slot-requires a).Start) (room (goal.at.offer-slot-requires a).Start) b.loop-step.invariant.2 }
 
 pub shape_of-outtimes-then-room-slot : goal.shape_of-outtimes-then-room-slot
 shape_of-outtimes-then-room-slot c = (long c).times
@@ -148,11 +148,11 @@ shape_of-outmarks-then-room-slot c = (long c).marks
 pub returns-then-room-slot : goal.returns-then-room-slot
 returns-then-room-slot c =
     let g = c in
-    let b = loop (goal.at.returns-then-room-slot g).In-At-2 in
+    let b = g in
     let a = b in
     let p = found (goal.at.returns-then-room-slot g).In-At-2 in
-    walked-full (refused c) b.loop.inv.0
-    (full (w a) a.args.k a.args.room a.args.n (outs a) (room a) b.loop.inv.2 (read-reaches (reads a) a.args.line p) (there (goal.at.returns-then-room-slot g).After-offer-slot) g.offer-slot.ensures p.within c.if-room-slot.true)
+    walked-full (refused c) b.loop-step.invariant.0
+    (full (w (goal.at.returns-then-room-slot a).Start) a.args.k a.args.room a.args.n (outs (goal.at.returns-then-room-slot a).Start) (room (goal.at.returns-then-room-slot a).Start) b.loop-step.invariant.2 (read-reaches (reads (goal.at.returns-then-room-slot a).Start) a.args.line p) (there (goal.at.returns-then-room-slot g).After-offer-slot) g.offer-slot.ensures p.within c.if-room-slot.true)
 
 pub loop-step-smaller : goal.loop-step-smaller
 loop-step-smaller c = let p = found (goal.at.loop-step-smaller c).In-At-2 in omega (arith, p.above, p.within)
@@ -160,8 +160,8 @@ loop-step-smaller c = let p = found (goal.at.loop-step-smaller c).In-At-2 in ome
 pub loop-step-preserved : goal.loop-step-preserved
 loop-step-preserved c =
     let g = c in
-    let b = loop (goal.at.loop-step-preserved g).In-At-2 in
+    let b = g in
     let a = b in
     let p = found (goal.at.loop-step-preserved g).In-At-2 in
     let h = c.if-room-slot.false in
-    (p.within, g.place_beside-next.ensures, stands-next (w a) a.args.k a.args.room a.args.n (outs a) (room a) b.loop.inv.2 (read-reaches (reads a) a.args.line p) (there (goal.at.loop-step-preserved g).After-offer-slot) g.offer-slot.ensures (omega arith))
+    (p.within, g.place_beside-next.ensures, stands-next (w (goal.at.loop-step-preserved a).Start) a.args.k a.args.room a.args.n (outs (goal.at.loop-step-preserved a).Start) (room (goal.at.loop-step-preserved a).Start) b.loop-step.invariant.2 (read-reaches (reads (goal.at.loop-step-preserved a).Start) a.args.line p) (there (goal.at.loop-step-preserved g).After-offer-slot) g.offer-slot.ensures (omega arith))

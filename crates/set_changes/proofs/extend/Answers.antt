@@ -30,13 +30,12 @@ put_set-shape-requires c =
 pub enter-requires : goal.enter-requires
 enter-requires c =
     let s = c in
-    let m = s.requires.fact_1 in
-    record {
-      sizes = m.long.sizes;
+        record {
+      sizes = s.requires.fact_1.long.sizes;
       few = (within (goal.at.enter-requires s).Start).0;
       short = (within (goal.at.enter-requires s).Start).1;
-      paged = m.names.paged;
-      below = subst (Every (λ (j : ℕ). j < get_or s.args.counts.now 0 0)) (sym m.sorted) (by_name-below (names_in s.args.bytes.now (get_or s.args.counts.now 0 0)) (get_or s.args.counts.now 0 0));
+      paged = s.requires.fact_1.names.paged;
+      below = subst (Every (λ (j : ℕ). j < get_or s.args.counts.now 0 0)) (sym s.requires.fact_1.sorted) (by_name-below (names_in s.args.bytes.now (get_or s.args.counts.now 0 0)) (get_or s.args.counts.now 0 0));
     }
 
 pub returns : goal.returns
@@ -45,4 +44,4 @@ returns c =
     let k = c.put_set-shape in
     let e = c.enter in
     extends-written (lent (goal.at.returns s).Start) s.requires.fact_1 (get_or s.args.counts.now 0 0) refl (within (goal.at.returns s).Start).0 s.args.name.now (within (goal.at.returns s).Start).1 s.args.declares s.args.set k.result
-    k.new.0 k.new.1.0 k.new.1.1.0 k.new.1.1.1.0 k.new.1.1.1.1.0 e.new.0 e.new.1.0 e.new.1.1.0 k.ensures e.ensures
+    k.new.starts k.new.numbers k.new.xs k.new.ys k.new.blocks e.new.defaults e.new.counts e.new.bytes k.ensures e.ensures

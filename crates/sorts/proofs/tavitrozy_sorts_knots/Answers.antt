@@ -22,7 +22,7 @@ pub returns-then-sortable : goal.returns-then-sortable
 returns-then-sortable c =
     let s = c in
     let t = s in
-    let paired = s.sort_knots.auto.0 ∙ (passed (goal.at.returns-then-sortable t).Then-sortable).0 ∙ sym s.sort_knots.auto.1.0 in record { value = sym t.if-sortable.true ∙ t.sortable.ensures; xs_value = sym (knot-times _ _ paired) ∙ ap knot_times s.sort_knots.ensures; ys_value = sym (seconds knot (λ (k : Knot). k.y) (λ x y. refl) s.sort_knots.new.xs _ paired) ∙ ap knot_values s.sort_knots.ensures }
+    let paired = s.sort_knots.auto.xs ∙ (passed (goal.at.returns-then-sortable t).Then-sortable).0 ∙ sym s.sort_knots.auto.ys in record { value = sym t.if-sortable.true ∙ t.sortable.ensures; xs_value = sym (knot-times _ _ paired) ∙ ap knot_times s.sort_knots.ensures; ys_value = sym (seconds knot (λ (k : Knot). k.y) (λ x y. refl) s.sort_knots.new.xs _ paired) ∙ ap knot_values s.sort_knots.ensures }
 
 pub returns : goal.returns
 returns c = record { value = sym c.if-sortable.false ∙ c.sortable.ensures; xs_value = refl; ys_value = refl }

@@ -22,7 +22,7 @@ pub returns-then-sortable : goal.returns-then-sortable
 returns-then-sortable c =
     let s = c in
     let t = s in
-    let paired = s.sort_starts.auto.0 ∙ (passed (goal.at.returns-then-sortable t).Then-sortable).0 ∙ sym s.sort_starts.auto.1.0 in record { value = sym t.if-sortable.true ∙ t.sortable.ensures; times_value = sym (active-times _ _ paired) ∙ ap active_times s.sort_starts.ensures; clips_value = sym (seconds start (λ (a : Start). a.clip) (λ x y. refl) s.sort_starts.new.times _ paired) ∙ ap active_clips s.sort_starts.ensures }
+    let paired = s.sort_starts.auto.times ∙ (passed (goal.at.returns-then-sortable t).Then-sortable).0 ∙ sym s.sort_starts.auto.clips in record { value = sym t.if-sortable.true ∙ t.sortable.ensures; times_value = sym (active-times _ _ paired) ∙ ap active_times s.sort_starts.ensures; clips_value = sym (seconds start (λ (a : Start). a.clip) (λ x y. refl) s.sort_starts.new.times _ paired) ∙ ap active_clips s.sort_starts.ensures }
 
 pub returns : goal.returns
 returns c = record { value = sym c.if-sortable.false ∙ c.sortable.ensures; times_value = refl; clips_value = refl }

@@ -12,21 +12,20 @@ use Rattle.stage.proofs.stage_sample_times.Goals as goal
 
 pub latest_inverses-reach-requires : goal.latest_inverses-reach-requires
 latest_inverses-reach-requires c =
-    let R = c.requires in
-    record { fact_1 = R.windows.readable.paired; fact_2 = R.few; fact_3 = R.windows.readable.segments }
+        record { fact_1 = c.requires.windows.readable.paired; fact_2 = c.requires.few; fact_3 = c.requires.windows.readable.segments }
 
 -- all stage sample times
 abbrev all : At-start → List Float
 all s = times_of s.args.starts.now s.args.clips.now s.args.xs.now s.args.ys.now s.args.times.now s.args.ends.now
 
 -- there is room for them
-room : (c : Then-counted-room) → length (all (entry (goal.at.Then-counted-room c).After-latest_inverses-reach)) ≤ length (entry (goal.at.Then-counted-room c).After-latest_inverses-reach).args.out.now
-room c = let e = c.count_within-counted.ensures in let h = c.if-counted-room.true in omega arith
+room : (c : Then-counted-room) → length (all (goal.at.Then-counted-room c).Start) ≤ length c.args.out.now
+room c = let h = c.if-counted-room.true in omega arith
 
 pub write_times-count-requires : goal.write_times-count-requires
 write_times-count-requires c =
     let k = c in
-    record { accepted_times_1 = (entry (goal.at.write_times-count-requires k).After-latest_inverses-reach).requires; accepted_times_2 = k.latest_inverses-reach.ensures; ends_in_bounds = room (goal.at.write_times-count-requires k).Then-counted-room }
+    record { accepted_times_1 = k.requires; accepted_times_2 = k.latest_inverses-reach.ensures; ends_in_bounds = room (goal.at.write_times-count-requires k).Then-counted-room }
 
 pub returns-then-counted-room : goal.returns-then-counted-room
 returns-then-counted-room c =
@@ -34,4 +33,4 @@ returns-then-counted-room c =
     (w.write_times-count.ensures.0, room (goal.at.returns-then-counted-room w).Then-counted-room, w.write_times-count.ensures.1)
 
 pub returns : goal.returns
-returns c = let e = c.count_within-counted.ensures in let h = c.if-counted-room.false in (omega arith, refl)
+returns c = let h = c.if-counted-room.false in (omega arith, refl)

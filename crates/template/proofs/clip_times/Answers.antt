@@ -68,6 +68,5 @@ returns c =
     let q = r in
     let p = q in
     let a = p.args in
-    let m = r.promote-promoted.ensures in
-    let w = c.write_clip_times in
-    says_all a.times (offset_of a.times a.offset) a.out.now (finite (goal.at.returns p).Else-is_unstorable) (ordered (goal.at.returns q).Else-is_disordered) (few (goal.at.returns r).Else-count-gt-CLIPS) _ _ _ m.count (m.list r.if-count-gt-CLIPS.false) w.ensures (omega (arith, f.if-out-count.false, m.count))
+        let w = c.write_clip_times in
+    says_all a.times (offset_of a.times a.offset) a.out.now (finite (goal.at.returns p).Else-is_unstorable) (ordered (goal.at.returns q).Else-is_disordered) (few (goal.at.returns r).Else-count-gt-CLIPS) _ _ _ r.promote-promoted.ensures.count (r.promote-promoted.ensures.list r.if-count-gt-CLIPS.false) w.ensures (omega (arith, f.if-out-count.false, r.promote-promoted.ensures.count))

@@ -97,7 +97,6 @@ returns c =
     let b = c in
     let s = b in
     let f = fields (goal.at.returns s).Start in
-    let p = b.promote-promoted.ensures in
-    let r = c.expand_lists in
-    template-settles f r.result (fitting (goal.at.returns b).After-shared_slice_known-2-1) (none (goal.at.returns b).Else-number-ne0) (omega (arith, p.count, few (goal.at.returns b).After-knot_count-m))
-    (subst (λ (ts : List Float). Stores empty_set (expanded_set ts s.args.times (active_offset f) s.args.blocks.now (manifest s.args.default s.args.interpolate)) r.result) (p.list (few (goal.at.returns b).After-knot_count-m)) r.ensures)
+        let r = c.expand_lists in
+    template-settles f r.result (fitting (goal.at.returns b).After-shared_slice_known-2-1) (none (goal.at.returns b).Else-number-ne0) (omega (arith, b.promote-promoted.ensures.count, few (goal.at.returns b).After-knot_count-m))
+    (subst (λ (ts : List Float). Stores empty_set (expanded_set ts s.args.times (active_offset f) s.args.blocks.now (manifest s.args.default s.args.interpolate)) r.result) (b.promote-promoted.ensures.list (few (goal.at.returns b).After-knot_count-m)) r.ensures)

@@ -7,7 +7,6 @@ use Rattle.definitions.specs.declared.Knot.{Knot}
 use Rattle.definitions.specs.ClipSet.{ClipSet}
 use Rattle.definitions.specs.Samples.{Samples, clip_begin, clip_end}
 use Rattle.definitions.specs.Track.{Entry}
-use Rattle.definitions.specs.Moments.{Read}
 use Rattle.laws.specs.track.Steps.{Agree}
 use Rattle.laws.specs.cell.Keys.{Keys, entry_at_key}
 use Rattle.laws.specs.cell.Lent.{set_of, samples_of}
@@ -52,9 +51,6 @@ abbrev pub entry_on : List Float → List Float → List ℕ → List ℕ → Ce
 entry_on times values marks ends (Constant r) here j = here
 entry_on times values marks ends (Reading c line) here j = reading_at (part times ends c) (part values ends c) (part marks ends c) line j
 
-abbrev pub entry_on_lent : Read Float → Read Float → Read ℕ → Read ℕ → Cell → Entry → ℕ → Entry
-entry_on_lent times values marks ends = entry_on times.now values.now marks.now ends.now
-
 -- ---- with a run of samples
 
 -- the clip's part can be passed in the segment of q from k to hi, where e is read at k
@@ -74,9 +70,6 @@ SpanIs times values marks ends (ByRun c floor g n) here k hi = PastRun times val
 abbrev pub entry_by : List Float → List Float → List ℕ → List ℕ → ReadBy → Entry → ℕ → Entry
 entry_by times values marks ends (ByCell c) here j = entry_on times values marks ends c here j
 entry_by times values marks ends (ByRun c floor g n) here j = passing_at (part times ends c) (part values ends c) (part marks ends c) (g.a, g.b) floor j
-
-abbrev pub entry_by_lent : Read Float → Read Float → Read ℕ → Read ℕ → ReadBy → Entry → ℕ → Entry
-entry_by_lent times values marks ends = entry_by times.now values.now marks.now ends.now
 
 -- the span from k on, up to top: the value there is what its way says
 pub record StretchIs (set : ClipSet) (s : Samples) (k top : ℕ) (r : Span) : Type 0 where

@@ -3,7 +3,7 @@ ghost use Rattle.definitions.specs.Moments.{outputs};
 ghost use Rattle.laws.specs.cell.Keys.{Keys};
 ghost use Rattle.cell.specs.step.Entries.{entry_is};
 ghost use Rattle.run.specs.Walks.{Room, Walked};
-ghost use Rattle.track.specs.span.Runs.{Runs, SpanIs, entry_on_lent, entry_by_lent};
+ghost use Rattle.track.specs.span.Runs.{Runs, SpanIs, entry_on, entry_by};
 
 use crate::span::{ReadBy, Span};
 use cell::Cell;
@@ -32,7 +32,7 @@ fn fill_cell(
     requires keys { Keys k hi }
     requires runs { Runs times.now values.now marks.now ends.now cell k hi }
     requires room { Room room n (outputs outtimes.old outvalues.old outmarks.old) }
-    ensures { Walked (entry_on_lent times values marks ends cell (entry_is here)) k hi room n (outputs outtimes.old outvalues.old outmarks.old) (outputs outtimes.new outvalues.new outmarks.new) result }
+    ensures { Walked (entry_on times.now values.now marks.now ends.now cell (entry_is here)) k hi room n (outputs outtimes.old outvalues.old outmarks.old) (outputs outtimes.new outvalues.new outmarks.new) result }
 {
     let Cell::Reading(clip, line) = cell else {
         return Went {
@@ -76,7 +76,7 @@ pub fn fill_in(
     requires keys { Keys k s.hi }
     requires span_is { SpanIs times.now values.now marks.now ends.now s.way (entry_is s.here) k s.hi }
     requires room { Room room n (outputs outtimes.old outvalues.old outmarks.old) }
-    ensures { Walked (entry_by_lent times values marks ends s.way (entry_is s.here)) k s.hi room n (outputs outtimes.old outvalues.old outmarks.old) (outputs outtimes.new outvalues.new outmarks.new) result }
+    ensures { Walked (entry_by times.now values.now marks.now ends.now s.way (entry_is s.here)) k s.hi room n (outputs outtimes.old outvalues.old outmarks.old) (outputs outtimes.new outvalues.new outmarks.new) result }
 {
     let way = s.way;
     let here = s.here;

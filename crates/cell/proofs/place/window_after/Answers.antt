@@ -19,7 +19,6 @@ returns-then-follows c =
     let a = f in
     let F = f.follows.ensures t.if-follows.true in
     let n = F.next in
-    let S = a.requires.place_is in
-    let h = a.requires.p_in_bounds in
-    window_on a.requires.accepted_lists a.args.place.start a.args.place.window (S.window (omega arith)) F.none_before (S.gap (omega arith) F.none_before) a.args.p F.next h F.none_here
+        let h = a.requires.p_in_bounds in
+    window_on a.requires.accepted_lists a.args.place.start a.args.place.window (a.requires.place_is.window (omega arith)) F.none_before (a.requires.place_is.gap (omega arith) F.none_before) a.args.p F.next h F.none_here
     _ refl refl c.window_min.ensures c.window_max.ensures c.clip_begin-begin.ensures refl refl

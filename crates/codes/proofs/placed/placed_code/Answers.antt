@@ -9,8 +9,7 @@ use Rattle.codes.proofs.placed.placed_code.Goals as goal
 
 pub returns-in-Answered : goal.returns-in-Answered
 returns-in-Answered c =
-    let x = c.in-Answered.x in
-    ap {B = PlacedCode} (λ (v : ValueCode). record { reply = v; placed = x.placed; set = x.set }) c.answer_code-reply.ensures ∙ sym (ap placed_code c.in-Answered.is)
+        ap {B = PlacedCode} (λ (v : ValueCode). record { reply = v; placed = c.in-Answered.x.placed; set = c.in-Answered.x.set }) c.answer_code-reply.ensures ∙ sym (ap placed_code c.in-Answered.is)
 
 pub returns-in-Refused : goal.returns-in-Refused
 unfolding of_bits

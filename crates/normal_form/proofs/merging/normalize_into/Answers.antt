@@ -20,7 +20,7 @@ runs-at-requires c =
     let t = e.args.times.now in
     let o = c.order in
     let n = ap length o.ensures ∙ order-length t in
-    (subst (λ (l : List ℕ). Every (Inside t) l) (sym o.ensures) (order-inside t), o.auto.1.1.0 ∙ e.requires.1.first-long ∙ sym n, e.requires.1.last-long ∙ sym n)
+    (subst (λ (l : List ℕ). Every (Inside t) l) (sym o.ensures) (order-inside t), o.auto.scratch ∙ e.requires.1.first-long ∙ sym n, e.requires.1.last-long ∙ sym n)
 
 pub write-requires : goal.write-requires
 write-requires c =

@@ -89,7 +89,7 @@ pub loop-i-preserved-then-meets : goal.loop-i-preserved-then-meets
 loop-i-preserved-then-meets c =
     let l = c in
     let a = l.args in
-    standing-same a.times.now a.places.now l.loop-i.firsts l.loop-i.lasts l.loop-i.at l.loop-i.i l.loop-i.inv c.loop-i-test.true (answer (goal.at.loop-i-preserved-then-meets c).After-meets true c.if-meets.true)
+    standing-same a.times.now a.places.now l.loop-i.firsts l.loop-i.lasts l.loop-i.at l.loop-i.i l.loop-i.invariant c.loop-i-test.true (answer (goal.at.loop-i-preserved-then-meets c).After-meets true c.if-meets.true)
 
 pub overflow_sub-at : goal.overflow_sub-at
 overflow_sub-at c =
@@ -128,7 +128,7 @@ pub loop-i-preserved : goal.loop-i-preserved
 loop-i-preserved c =
     let l = c in
     let a = l.args in
-    standing_apart a.times.now a.places.now l.loop-i.firsts l.loop-i.lasts l.loop-i.at l.loop-i.i l.loop-i.inv c.loop-i-test.true (answer (goal.at.loop-i-preserved c).After-meets false c.if-meets.false)
+    standing_apart a.times.now a.places.now l.loop-i.firsts l.loop-i.lasts l.loop-i.at l.loop-i.i l.loop-i.invariant c.loop-i-test.true (answer (goal.at.loop-i-preserved c).After-meets false c.if-meets.false)
 
 pub shape_of-firsts : goal.shape_of-firsts
 shape_of-firsts c = c.loop-i.invariant.first-long ∙ sym c.requires.1

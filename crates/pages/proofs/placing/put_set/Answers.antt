@@ -40,12 +40,12 @@ returns c =
     let b = s.args.i * 512 in
     record {
       before = _;
-      own = lent_state k.result k.new.1.0 k.new.1.1.0 k.new.1.1.1.0 k.new.1.1.1.1.0 k.new.1.1.1.1.1.0;
+      own = lent_state k.result k.new.starts k.new.numbers k.new.xs k.new.ys k.new.blocks;
       installs = k.ensures;
       is = refl;
-      starts-after = back a 256 s.args.starts.now (in-starts s) k.new.1.0 w.in-starts.long;
-      numbers_after = back a 256 s.args.numbers.now (in-numbers s) k.new.1.1.0 w.in-numbers.long;
-      xs-after = back b 512 s.args.xs.now (in-xs s) k.new.1.1.1.0 w.in-xs.long;
-      ys-after = back b 512 s.args.ys.now (in_ys s) k.new.1.1.1.1.0 w.in_ys.long;
-      blocks-after = back a 256 s.args.blocks.now (in_blocks s) k.new.1.1.1.1.1.0 w.in_blocks.long;
+      starts-after = back a 256 s.args.starts.now (in-starts s) k.new.starts w.in-starts.long;
+      numbers_after = back a 256 s.args.numbers.now (in-numbers s) k.new.numbers w.in-numbers.long;
+      xs-after = back b 512 s.args.xs.now (in-xs s) k.new.xs w.in-xs.long;
+      ys-after = back b 512 s.args.ys.now (in_ys s) k.new.ys w.in_ys.long;
+      blocks-after = back a 256 s.args.blocks.now (in_blocks s) k.new.blocks w.in_blocks.long;
     }

@@ -34,10 +34,8 @@ pub returns : goal.returns
 returns c =
     let e = c in
     let a = e in
-    let g = c.h-1.given in
-    let l = c.lower-1.given in
-    let s = samples_in a.args.times.now a.args.w in
-    let last = subst (LastIs a.args.xs.now a.args.ys.now s e.last_at_most_near-i.result a.args.w.max) g.1 c.last_in.ensures in
+            let s = samples_in a.args.times.now a.args.w in
+    let last = subst (LastIs a.args.xs.now a.args.ys.now s e.last_at_most_near-i.result a.args.w.max) c.in-At.is c.last_in.ensures in
     let ahead = c.is_below.ensures (passed c.is_below.result c.if-not-is_below.false) in (
       omega (arith, c.if-end-begin.false),
       record {
@@ -46,7 +44,7 @@ returns c =
         most = fits-max (goal.at.returns a).Start;
         here = on (goal.at.returns e).Else-not-is_between;
         begun = ahead.0;
-        lower = subst (LowerIs (window_times a.args.xs.now a.args.ys.now s a.args.w) a.args.t) l.1 c.neighbours_in-near.ensures.lower;
+        lower = subst (LowerIs (window_times a.args.xs.now a.args.ys.now s a.args.w) a.args.t) c.in-At-lower.is c.neighbours_in-near.ensures.lower;
         past = c.is_past.ensures (passed c.is_past.result c.if-not-is_past.false);
         above = ahead.1;
         listed = last.0;

@@ -40,40 +40,40 @@ outs a = outputs a.args.outtimes.now a.args.outvalues.now a.args.outmarks.now
 room : (a : At-start) → Room a.args.room a.args.slot (outs a)
 room a = a.requires.room
 
-ended : (c : In_default) (f : Float) → Asks (entry (goal.at.In_default c).At-loop-m) f → Stands (w (entry (goal.at.In_default c).At-loop-m) f) (entry (goal.at.In_default c).At-loop-m).args.k (entry (goal.at.In_default c).At-loop-m).args.room (entry (goal.at.In_default c).At-loop-m).args.slot (outs (entry (goal.at.In_default c).At-loop-m)) (outputs c.loop-m.outtimes c.loop-m.outvalues c.loop-m.outmarks) (entry (goal.at.In_default c).At-loop-m).args.hi (entry_is c.loop-m.held) c.loop-m.count
+ended : (c : In_default) (f : Float) → Asks (goal.at.In_default c).Start f → Stands (w (goal.at.In_default c).Start f) c.args.k c.args.room c.args.slot (outs (goal.at.In_default c).Start) (outputs c.loop-m.outtimes c.loop-m.outvalues c.loop-m.outmarks) c.args.hi (entry_is c.loop-m.held) c.loop-m.count
 ended c f P =
     let b = c in
     let a = b in
-    let S = b.loop-m.inv.2 f P in
-    let l : NextInRunIs a.args.cs.now (q (goal.at.In_default a).Start) b.loop-m.place b.loop-m.at a.args.hi Nothing = subst (λ (r : NextInRun). NextInRunIs a.args.cs.now (q (goal.at.In_default a).Start) b.loop-m.place b.loop-m.at a.args.hi r) c.in_default.is (c.next_in_run.ensures b.loop-m.at b.loop-m.inv.1) in
-    stands-level (w (goal.at.In_default a).Start f) a.args.k a.args.room a.args.slot (outs (goal.at.In_default a).Start) (room (goal.at.In_default a).Start) S b.loop-m.inv.0 (stays P b.loop-m.at a.args.hi S.from (omega arith) l)
+    let S = b.loop-m.invariant.2 f P in
+    let l : NextInRunIs a.args.cs.now (q (goal.at.In_default a).Start) b.loop-m.place b.loop-m.at a.args.hi Nothing = subst (λ (r : NextInRun). NextInRunIs a.args.cs.now (q (goal.at.In_default a).Start) b.loop-m.place b.loop-m.at a.args.hi r) c.in_default.is (c.next_in_run.ensures b.loop-m.at b.loop-m.invariant.1) in
+    stands-level (w (goal.at.In_default a).Start f) a.args.k a.args.room a.args.slot (outs (goal.at.In_default a).Start) (room (goal.at.In_default a).Start) S b.loop-m.invariant.0 (stays P b.loop-m.at a.args.hi S.from (omega arith) l)
 
-found : (c : In-At-2) → InRunAt (entry (goal.at.In-At-2 c).At-loop-m).args.cs.now (q (entry (goal.at.In-At-2 c).At-loop-m)) c.loop-m.place c.loop-m.at (entry (goal.at.In-At-2 c).At-loop-m).args.hi c.in-At.m c.in-At.i c.in-At.next
-found c = let b = c in subst (λ (r : NextInRun). NextInRunIs b.args.cs.now (q (goal.at.In-At-2 b).Start) b.loop-m.place b.loop-m.at b.args.hi r) c.in-At.is (c.next_in_run.ensures b.loop-m.at b.loop-m.inv.1)
+found : (c : In-At-2) → InRunAt c.args.cs.now (q (goal.at.In-At-2 c).Start) c.loop-m.place c.loop-m.at c.args.hi c.in-At.m c.in-At.i c.in-At.next
+found c = let b = c in subst (λ (r : NextInRun). NextInRunIs b.args.cs.now (q (goal.at.In-At-2 b).Start) b.loop-m.place b.loop-m.at b.args.hi r) c.in-At.is (c.next_in_run.ensures b.loop-m.at b.loop-m.invariant.1)
 
 abbrev after : After-offer-behind → Outputs
-after c = let o = c.offer-behind.new.1.1.1.1.1 in outputs o.0 o.1.0 o.1.1.0
+after c = outputs c.offer-behind.new.outtimes c.offer-behind.new.outvalues c.offer-behind.new.outmarks
 
-there : (c : After-offer-behind) (f : Float) → Asks (entry (loop (goal.at.After-offer-behind c).In-At-2)) f → entry_is c.entry_along-entry.result ≡ w (entry (loop (goal.at.After-offer-behind c).In-At-2)) f c.in-At.m
+there : (c : After-offer-behind) (f : Float) → Asks (goal.at.After-offer-behind c).Start f → entry_is c.entry_along-entry.result ≡ w (goal.at.After-offer-behind c).Start f c.in-At.m
 there c f P =
-    let b = loop (goal.at.After-offer-behind c).In-At-2 in
-    c.entry_along-entry.ensures ∙ sym (passed_reads P (b.loop.inv.2 f P).from (found (goal.at.After-offer-behind c).In-At-2))
+    let b = c in
+    c.entry_along-entry.ensures ∙ sym (passed_reads P (b.loop-m.invariant.2 f P).from (found (goal.at.After-offer-behind c).In-At-2))
 
 -- without room for it
-refused : (c : Then-room-behind) → let g = c in let b = loop (goal.at.Then-room-behind g).In-At-2 in let a = b in
-    (f : Float) → Asks a f → Stands (w a f) a.args.k a.args.room a.args.slot (outs a) (after (goal.at.Then-room-behind g).After-offer-behind) b.loop.at (entry_is b.loop.held) b.loop.count
+refused : (c : Then-room-behind) → let g = c in let b = g in let a = b in
+    (f : Float) → Asks (goal.at.Then-room-behind a).Start f → Stands (w (goal.at.Then-room-behind a).Start f) a.args.k a.args.room a.args.slot (outs (goal.at.Then-room-behind a).Start) (after (goal.at.Then-room-behind g).After-offer-behind) b.loop-m.at (entry_is b.loop-m.held) b.loop-m.count
 refused c f P =
     let g = c in
-    let b = loop (goal.at.Then-room-behind g).In-At-2 in
+    let b = g in
     let a = b in
-    let S = b.loop.inv.2 f P in
-    stands-full (w a f) a.args.k a.args.room a.args.slot (outs a) (room a) S (passed-reaches P S.from (found (goal.at.Then-room-behind g).In-At-2)) (there (goal.at.Then-room-behind g).After-offer-behind f P) g.offer-behind.ensures c.if-room-behind.true
+    let S = b.loop-m.invariant.2 f P in
+    stands-full (w (goal.at.Then-room-behind a).Start f) a.args.k a.args.room a.args.slot (outs (goal.at.Then-room-behind a).Start) (room (goal.at.Then-room-behind a).Start) S (passed-reaches P S.from (found (goal.at.Then-room-behind g).In-At-2)) (there (goal.at.Then-room-behind g).After-offer-behind f P) g.offer-behind.ensures c.if-room-behind.true
 
-long : (c : Then-room-behind) → Long (outs (entry (loop (goal.at.Then-room-behind c).In-At-2))) (after (goal.at.Then-room-behind c).After-offer-behind)
-long c = let a = entry (loop (goal.at.Then-room-behind c).In-At-2) in let f = a.pre.0.floor in stands-long (w a f) a.args.k a.args.room a.args.slot (outs a) (room a) (refused c f (asked a))
+long : (c : Then-room-behind) → Long (outs (goal.at.Then-room-behind c).Start) (after (goal.at.Then-room-behind c).After-offer-behind)
+long c = let a = c in let f = a.requires.passing_on.floor in stands-long (w (goal.at.Then-room-behind a).Start f) a.args.k a.args.room a.args.slot (outs (goal.at.Then-room-behind a).Start) (room (goal.at.Then-room-behind a).Start) (refused c f (asked (goal.at.Then-room-behind a).Start))
 
-long-end : (c : In_default) → Long (outs (entry (goal.at.In_default c).At-loop-m)) (outputs c.loop-m.outtimes c.loop-m.outvalues c.loop-m.outmarks)
-long-end c = let a = entry (goal.at.In_default c).At-loop-m in let f = a.pre.0.floor in stands-long (w a f) a.args.k a.args.room a.args.slot (outs a) (room a) (ended c f (asked a))
+long-end : (c : In_default) → Long (outs (goal.at.In_default c).Start) (outputs c.loop-m.outtimes c.loop-m.outvalues c.loop-m.outmarks)
+long-end c = let a = c in let f = a.requires.passing_on.floor in stands-long (w (goal.at.In_default a).Start f) a.args.k a.args.room a.args.slot (outs (goal.at.In_default a).Start) (room (goal.at.In_default a).Start) (ended c f (asked (goal.at.In_default a).Start))
 
 pub of_key-requires : goal.of_key-requires
 of_key-requires c = let K = (asked (goal.at.of_key-requires c).Start).keys in (K.low, omega (arith, K.order, K.high))
@@ -112,7 +112,7 @@ entry_along-entry-requires c =
     let b = c in
     let R = asked (goal.at.entry_along-entry-requires b).Start in
     let p = found (goal.at.entry_along-entry-requires c).In-At-2 in
-    let l = (b.loop-m.inv.2 _ R).from in
+    let l = (b.loop-m.invariant.2 _ R).from in
     record { reads = R.reads; le_k = (omega (arith, R.keys.low, l, p.from), omega (arith, R.keys.high, p.within)) }
 
 pub offer-behind-requires : goal.offer-behind-requires
@@ -122,7 +122,7 @@ offer-behind-requires c =
     let a = b in
     let K = (asked (goal.at.offer-behind-requires a).Start).keys in
     let f = found (goal.at.offer-behind-requires p).In-At-2 in
-    let S = b.loop-m.inv.2 _ (asked (goal.at.offer-behind-requires a).Start) in
+    let S = b.loop-m.invariant.2 _ (asked (goal.at.offer-behind-requires a).Start) in
     let l = S.from in
     record { le_k = (omega (arith, K.low, l, f.from), omega (arith, K.high, f.within)); room = stands-room (w (goal.at.offer-behind-requires a).Start a.requires.passing_on.floor) a.args.k a.args.room a.args.slot (outs (goal.at.offer-behind-requires a).Start) (room (goal.at.offer-behind-requires a).Start) S }
 
@@ -138,12 +138,12 @@ shape_of-outmarks-then-room-behind c = (long c).marks
 pub returns-then-room-behind : goal.returns-then-room-behind
 returns-then-room-behind c = λ f P.
     let g = c in
-    let b = loop (goal.at.returns-then-room-behind g).In-At-2 in
+    let b = g in
     let a = b in
     let p = found (goal.at.returns-then-room-behind g).In-At-2 in
-    let S = b.loop.inv.2 f P in
-    walked-full (refused c f P) b.loop.inv.0
-    (full (w a f) a.args.k a.args.room a.args.slot (outs a) (room a) S (passed-reaches P S.from p) (there (goal.at.returns-then-room-behind g).After-offer-behind f P) g.offer-behind.ensures p.within c.if-room-behind.true)
+    let S = b.loop-m.invariant.2 f P in
+    walked-full (refused c f P) b.loop-m.invariant.0
+    (full (w (goal.at.returns-then-room-behind a).Start f) a.args.k a.args.room a.args.slot (outs (goal.at.returns-then-room-behind a).Start) (room (goal.at.returns-then-room-behind a).Start) S (passed-reaches P S.from p) (there (goal.at.returns-then-room-behind g).After-offer-behind f P) g.offer-behind.ensures p.within c.if-room-behind.true)
 
 pub loop-m-smaller : goal.loop-m-smaller
 loop-m-smaller c = (found (goal.at.loop-m-smaller c).In-At-2).less
@@ -151,8 +151,8 @@ loop-m-smaller c = (found (goal.at.loop-m-smaller c).In-At-2).less
 pub loop-m-preserved : goal.loop-m-preserved
 loop-m-preserved c =
     let g = c in
-    let b = loop (goal.at.loop-m-preserved g).In-At-2 in
+    let b = g in
     let a = b in
     let p = found (goal.at.loop-m-preserved g).In-At-2 in
     let h = c.if-room-behind.false in
-    (p.within, p.place, λ f P. let S = b.loop.inv.2 f P in stands-next (w a f) a.args.k a.args.room a.args.slot (outs a) (room a) S (passed-reaches P S.from p) (there (goal.at.loop-m-preserved g).After-offer-behind f P) g.offer-behind.ensures (omega arith))
+    (p.within, p.place, λ f P. let S = b.loop-m.invariant.2 f P in stands-next (w (goal.at.loop-m-preserved a).Start f) a.args.k a.args.room a.args.slot (outs (goal.at.loop-m-preserved a).Start) (room (goal.at.loop-m-preserved a).Start) S (passed-reaches P S.from p) (there (goal.at.loop-m-preserved g).After-offer-behind f P) g.offer-behind.ensures (omega arith))

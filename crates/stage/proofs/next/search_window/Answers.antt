@@ -13,9 +13,8 @@ use Rattle.stage.proofs.next.search_window.Goals as goal
 pub whole_window-w-requires : goal.whole_window-w-requires
 whole_window-w-requires c =
     let s = c in
-    let A = s.requires.windows_1 in
-    let h = s.requires.p_value_2 in
-    (h, (A.paired, A.named s.args.p h))
+        let h = s.requires.p_value_2 in
+    (h, (s.requires.windows_1.paired, s.requires.windows_1.named s.args.p h))
 
 order : (k : After-whole_window-w) → k.whole_window-w.result.begin ≤ k.whole_window-w.result.end
 order k = let s = k in whole-order s.requires.windows_1 s.args.p s.requires.p_value_2 k.whole_window-w.result k.whole_window-w.ensures

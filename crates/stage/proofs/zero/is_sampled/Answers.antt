@@ -16,7 +16,7 @@ last_at_most-p-requires c = c.requires.rising
 -- the active start's place
 active : (k : After-last_at_most-p) → k.last_at_most-p.result < length k.args.starts.now
 unfolding of_bits neg
-active k = let P = k.requires in omega (arith, k.last_at_most-p.ensures, last-inside minus_zero minus-finite.fitting k.args.starts.now P.rising P.some)
+active k = omega (arith, k.last_at_most-p.ensures, last-inside minus_zero minus-finite.fitting k.args.starts.now k.requires.rising k.requires.some)
 
 named : (k : After-last_at_most-p) → get_or k.args.clips.now k.last_at_most-p.result 0 < length k.args.ends.now
 named k = k.requires.named k.last_at_most-p.result (active k)

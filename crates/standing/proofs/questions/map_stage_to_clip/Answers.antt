@@ -11,4 +11,4 @@ pub slice_bounds-map_time-end-2 : goal.slice_bounds-map_time-end-2
 slice_bounds-map_time-end-2 c = search (rules, front)
 
 pub map_time-requires : goal.map_time-requires
-map_time-requires c = let p = c.requires in record { fact_1 = p.1.1; fact_2 = sym (front p.0) ∙ front p.1.0 }
+map_time-requires c = record { fact_1 = c.requires.fact_3; fact_2 = sym (front c.requires.fact_1) ∙ front c.requires.fact_2 }

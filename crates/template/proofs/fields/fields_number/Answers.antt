@@ -59,8 +59,8 @@ returns-then-is_disordered c = rw (short (goal.at.returns-then-is_disordered c).
 
 pub returns-then-not-is_readable : goal.returns-then-not-is_readable
 unfolding template_fields_number template6
-returns-then-not-is_readable c = rw (short (goal.at.returns-then-not-is_readable c).Else-blocks-gt-BLOCKS, stored (goal.at.returns-then-not-is_readable c).Else-is_nan_default, ordered (goal.at.returns-then-not-is_readable c).Else-is_disordered, untrue _ _ c.is_readable.ensures c.if-not-is_readable.true)
+returns-then-not-is_readable c = rw (short (goal.at.returns-then-not-is_readable c).Else-blocks-gt-BLOCKS, stored (goal.at.returns-then-not-is_readable c).Else-is_nan_default, ordered (goal.at.returns-then-not-is_readable c).Else-is_disordered, sym c.is_readable.ensures ∙ c.if-not-is_readable.true)
 
 pub returns : goal.returns
 unfolding template_fields_number template6
-returns c = rw (short (goal.at.returns c).Else-blocks-gt-BLOCKS, stored (goal.at.returns c).Else-is_nan_default, ordered (goal.at.returns c).Else-is_disordered, holding _ _ c.is_readable.ensures c.if-not-is_readable.false)
+returns c = rw (short (goal.at.returns c).Else-blocks-gt-BLOCKS, stored (goal.at.returns c).Else-is_nan_default, ordered (goal.at.returns c).Else-is_disordered, sym c.is_readable.ensures ∙ c.if-not-is_readable.false)

@@ -44,7 +44,7 @@ total f = filled-total _ _ _ _ _ _ f.fill-first.ensures f.requires.cursor_is_2
 
 -- the page is as long as it was
 page-long : (f : After-fill-first) → let a = f.args in Long (outputs a.pagetimes.now a.pagevalues.now a.pagemarks.now) (outputs f.fill-first.new.outtimes f.fill-first.new.outvalues f.fill-first.new.outmarks)
-page-long f = record { times = f.fill-first.auto.1.1.1.1.1.1.1.1.1.1.1.1.1.0; values = f.fill-first.auto.1.1.1.1.1.1.1.1.1.1.1.1.1.1.0; marks = f.fill-first.auto.1.1.1.1.1.1.1.1.1.1.1.1.1.1.1.0 }
+page-long f = record { times = f.fill-first.auto.outtimes; values = f.fill-first.auto.outvalues; marks = f.fill-first.auto.outmarks }
 
 pub fill-first-requires : goal.fill-first-requires
 fill-first-requires c = let a = c in record { accepted_lists = a.requires.accepted_lists; latest_of = a.requires.latest_of; cursor_is = a.requires.cursor_is_1 }
@@ -53,8 +53,7 @@ pub returns-then-room-count : goal.returns-then-room-count
 returns-then-room-count c =
     let f = c in
     let a = f in
-    let r = f.shortest-room.ensures in
-    let h = c.if-room-count.true in
+        let h = c.if-room-count.true in
     let t = total (goal.at.returns-then-room-count f).After-fill-first in
     let less : room (goal.at.returns-then-room-count a).Start < count (goal.at.returns-then-room-count a).Start = omega arith in
     subst (λ (b : Baked). BakeIs (set (goal.at.returns-then-room-count a).Start) (lent (goal.at.returns-then-room-count a).Start) (outputs a.args.outtimes.now a.args.outvalues.now a.args.outmarks.now) (outputs a.args.outtimes.now a.args.outvalues.now a.args.outmarks.now) b) (sym c.refused.ensures)
@@ -67,8 +66,7 @@ write_page-requires c =
     let l = page-long (goal.at.write_page-requires f).After-fill-first in
     let s = slots-is a.args.pagetimes.now a.args.pagevalues.now a.args.pagemarks.now in
     let n = f.fill-first.ensures.fits in
-    let r = f.shortest-room.ensures in
-    let h = c.if-room-count.false in
+        let h = c.if-room-count.false in
     record { fact_1 = room_of _ _ _ _ (omega (arith, l.times, l.values, l.marks)); fact_2 = room_of _ _ _ _ (omega arith) }
 
 pub returns-then-first : goal.returns-then-first
@@ -76,8 +74,7 @@ returns-then-first c =
     let f = c in
     let a = f in
     let d = filled-done _ _ least _ _ _ f.fill-first.ensures a.requires.cursor_is_2 c.if-first.true in
-    let r = f.shortest-room.ensures in
-    let h = c.if-room-count.false in
+        let h = c.if-room-count.false in
     let n : f.fill-first.result.count ≡ count (goal.at.returns-then-first a).Start = d.0 in
     let fits : count (goal.at.returns-then-first a).Start ≤ room (goal.at.returns-then-first a).Start = omega arith in
     bake-done (set (goal.at.returns-then-first a).Start) (lent (goal.at.returns-then-first a).Start) a.args.outtimes.now a.args.outvalues.now a.args.outmarks.now _ _ _ _ fits (head-is (goal.at.returns-then-first a).Start) d.0
@@ -94,11 +91,9 @@ returns-then-left-rest c =
     let f = c in
     let a = f in
     let k = c in
-    let r = f.shortest-room.ensures in
-    let h = c.if-room-count.false in
+        let h = c.if-room-count.false in
     let t = total (goal.at.returns-then-left-rest f).After-fill-first in
-    let e = k.count_within-rest.ensures in
-    let b = c.if-left-rest.true in
+        let b = c.if-left-rest.true in
     let n : f.shortest-room.result - f.fill-first.result.count < length (changes_of (set (goal.at.returns-then-left-rest a).Start) (lent (goal.at.returns-then-left-rest a).Start) f.fill-first.result.cursor.key most) = omega arith in
     let less : room (goal.at.returns-then-left-rest a).Start < count (goal.at.returns-then-left-rest a).Start = omega arith in
     subst (λ (b : Baked). BakeIs (set (goal.at.returns-then-left-rest a).Start) (lent (goal.at.returns-then-left-rest a).Start) (outputs a.args.outtimes.now a.args.outvalues.now a.args.outmarks.now) (outputs a.args.outtimes.now a.args.outvalues.now a.args.outmarks.now) b) (sym c.refused-then-left-rest.ensures)
@@ -108,24 +103,22 @@ pub fill-filled-requires : goal.fill-filled-requires
 fill-filled-requires c = let a = c in record { accepted_lists = a.requires.accepted_lists; latest_of = a.requires.latest_of; cursor_is = a.requires.cursor_is_1 }
 
 pub shape_of-pagetimes : goal.shape_of-pagetimes
-shape_of-pagetimes c = c.count_within-rest.auto.1.1.1.1.1.1.1.1.1.1.1.1.1.1.0 ∙ c.fill-first.auto.1.1.1.1.1.1.1.1.1.1.1.1.1.0
+shape_of-pagetimes c = c.count_within-rest.auto.pagetimes ∙ c.fill-first.auto.outtimes
 
 pub shape_of-pagevalues : goal.shape_of-pagevalues
-shape_of-pagevalues c = c.count_within-rest.auto.1.1.1.1.1.1.1.1.1.1.1.1.1.1.1.0 ∙ c.fill-first.auto.1.1.1.1.1.1.1.1.1.1.1.1.1.1.0
+shape_of-pagevalues c = c.count_within-rest.auto.pagevalues ∙ c.fill-first.auto.outvalues
 
 pub shape_of-pagemarks : goal.shape_of-pagemarks
-shape_of-pagemarks c = c.count_within-rest.auto.1.1.1.1.1.1.1.1.1.1.1.1.1.1.1.1.0 ∙ c.fill-first.auto.1.1.1.1.1.1.1.1.1.1.1.1.1.1.1.0
+shape_of-pagemarks c = c.count_within-rest.auto.pagemarks ∙ c.fill-first.auto.outmarks
 
 pub returns : goal.returns
 returns c =
     let f = c in
     let a = f in
     let k = c in
-    let r = f.shortest-room.ensures in
-    let h = c.if-room-count.false in
+        let h = c.if-room-count.false in
     let t = total (goal.at.returns f).After-fill-first in
-    let e = k.count_within-rest.ensures in
-    let b = c.if-left-rest.false in
+        let b = c.if-left-rest.false in
     let n : length (changes_of (set (goal.at.returns a).Start) (lent (goal.at.returns a).Start) f.fill-first.result.cursor.key most) ≤ f.shortest-room.result - f.fill-first.result.count = omega arith in
     let q = slots-is a.args.outtimes.now a.args.outvalues.now a.args.outmarks.now in
     let l : count (goal.at.returns a).Start ≤ slots (outputs a.args.outtimes.now a.args.outvalues.now a.args.outmarks.now) = omega arith in

@@ -16,7 +16,7 @@ pub slice_bounds-copy-end-3 : goal.slice_bounds-copy-end-3
 slice_bounds-copy-end-3 c = sym (length-take-le _ _ c.requires.fact_2.times)
 
 pub copy-requires : goal.copy-requires
-copy-requires c = let p = c.requires in length-take-le _ _ p.1.times ∙ sym (length-take-le _ _ p.0.times)
+copy-requires c = length-take-le _ _ c.requires.fact_2.times ∙ sym (length-take-le _ _ c.requires.fact_1.times)
 
 pub slice_bounds-copy-end-4 : goal.slice_bounds-copy-end-4
 slice_bounds-copy-end-4 c = sym (length-take-le _ _ c.requires.fact_1.values)
@@ -28,7 +28,7 @@ pub slice_bounds-copy-end-6 : goal.slice_bounds-copy-end-6
 slice_bounds-copy-end-6 c = sym (length-take-le _ _ c.requires.fact_2.values)
 
 pub copy-requires-2 : goal.copy-requires-2
-copy-requires-2 c = let p = c.requires in length-take-le _ _ p.1.values ∙ sym (length-take-le _ _ p.0.values)
+copy-requires-2 c = length-take-le _ _ c.requires.fact_2.values ∙ sym (length-take-le _ _ c.requires.fact_1.values)
 
 pub slice_bounds-copy_marks-end : goal.slice_bounds-copy_marks-end
 slice_bounds-copy_marks-end c = sym (length-take-le _ _ c.requires.fact_1.marks)
@@ -40,7 +40,7 @@ pub slice_bounds-copy_marks-end-3 : goal.slice_bounds-copy_marks-end-3
 slice_bounds-copy_marks-end-3 c = sym (length-take-le _ _ c.requires.fact_2.marks)
 
 pub copy_marks-requires : goal.copy_marks-requires
-copy_marks-requires c = let p = c.requires in length-take-le _ _ p.1.marks ∙ sym (length-take-le _ _ p.0.marks)
+copy_marks-requires c = length-take-le _ _ c.requires.fact_2.marks ∙ sym (length-take-le _ _ c.requires.fact_1.marks)
 
 pub returns : goal.returns
 returns c =

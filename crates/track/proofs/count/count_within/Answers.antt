@@ -75,13 +75,13 @@ overflow_add-count c =
     omega arith
 
 pub shape_of-pagetimes-then-page : goal.shape_of-pagetimes-then-page
-shape_of-pagetimes-then-page c = c.fill-page.auto.1.1.1.1.1.1.1.1.1.1.1.1.1.0 ∙ c.loop-m.invariant.3.times
+shape_of-pagetimes-then-page c = c.fill-page.auto.outtimes ∙ c.loop-m.invariant.3.times
 
 pub shape_of-pagevalues-then-page : goal.shape_of-pagevalues-then-page
-shape_of-pagevalues-then-page c = c.fill-page.auto.1.1.1.1.1.1.1.1.1.1.1.1.1.1.0 ∙ c.loop-m.invariant.3.values
+shape_of-pagevalues-then-page c = c.fill-page.auto.outvalues ∙ c.loop-m.invariant.3.values
 
 pub shape_of-pagemarks-then-page : goal.shape_of-pagemarks-then-page
-shape_of-pagemarks-then-page c = c.fill-page.auto.1.1.1.1.1.1.1.1.1.1.1.1.1.1.1.0 ∙ c.loop-m.invariant.3.marks
+shape_of-pagemarks-then-page c = c.fill-page.auto.outmarks ∙ c.loop-m.invariant.3.marks
 
 pub returns-then-page : goal.returns-then-page
 returns-then-page c =
@@ -93,13 +93,13 @@ returns-then-page c =
     ap (λ (n : ℕ). min n (a.room + 1)) (sym e ∙ ap (λ (j : ℕ). many (goal.at.returns-then-page b).At-loop-m a.from.key j) (f.fill-page.ensures.passed.whole c.if-page.true))
 
 pub shape_of-pagetimes-then-room-count : goal.shape_of-pagetimes-then-room-count
-shape_of-pagetimes-then-room-count c = c.fill-page.auto.1.1.1.1.1.1.1.1.1.1.1.1.1.0 ∙ c.loop-m.invariant.3.times
+shape_of-pagetimes-then-room-count c = c.fill-page.auto.outtimes ∙ c.loop-m.invariant.3.times
 
 pub shape_of-pagevalues-then-room-count : goal.shape_of-pagevalues-then-room-count
-shape_of-pagevalues-then-room-count c = c.fill-page.auto.1.1.1.1.1.1.1.1.1.1.1.1.1.1.0 ∙ c.loop-m.invariant.3.values
+shape_of-pagevalues-then-room-count c = c.fill-page.auto.outvalues ∙ c.loop-m.invariant.3.values
 
 pub shape_of-pagemarks-then-room-count : goal.shape_of-pagemarks-then-room-count
-shape_of-pagemarks-then-room-count c = c.fill-page.auto.1.1.1.1.1.1.1.1.1.1.1.1.1.1.1.0 ∙ c.loop-m.invariant.3.marks
+shape_of-pagemarks-then-room-count c = c.fill-page.auto.outmarks ∙ c.loop-m.invariant.3.marks
 
 pub returns-then-room-count : goal.returns-then-room-count
 returns-then-room-count c =
@@ -128,8 +128,8 @@ loop-m-preserved c =
       P.cursor,
       sym (parts (goal.at.loop-m-preserved p).After-slice_known-in-loop-m-3-1).0,
       record {
-        times = f.fill-page.auto.1.1.1.1.1.1.1.1.1.1.1.1.1.0 ∙ b.loop-m.invariant.3.times;
-        values = f.fill-page.auto.1.1.1.1.1.1.1.1.1.1.1.1.1.1.0 ∙ b.loop-m.invariant.3.values;
-        marks = f.fill-page.auto.1.1.1.1.1.1.1.1.1.1.1.1.1.1.1.0 ∙ b.loop-m.invariant.3.marks;
+        times = f.fill-page.auto.outtimes ∙ b.loop-m.invariant.3.times;
+        values = f.fill-page.auto.outvalues ∙ b.loop-m.invariant.3.values;
+        marks = f.fill-page.auto.outmarks ∙ b.loop-m.invariant.3.marks;
       },
     )

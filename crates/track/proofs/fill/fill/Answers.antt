@@ -17,7 +17,7 @@ use Rattle.run.proofs.Walking.{Reaches, stands-first, stands-long, stands-room, 
 use Rattle.cell.specs.WindowPlaces.{PlaceIs}
 use Rattle.cell.proofs.Lent.{sound, samples, numbers}
 use Rattle.track.proofs.Walks.{next-key, slots-room, slots-is, filled}
-use Rattle.track.proofs.fill.fill.Goals.{After-fill_in-went, After-offer-slot, After-reached-1, After-span_at-step, At-loop-at, Else-at-top, Else-room-slot, Start as At-start, Then-at-top, Then-room-slot}
+use Rattle.track.proofs.fill.fill.Goals.{After-fill_in-went, After-offer-slot, After-reached-1, At-loop-at, Else-at-top, Else-room-slot, Start as At-start, Then-at-top, Then-room-slot}
 use Rattle.track.proofs.fill.fill.Goals as goal
 
 -- the set and the samples that are lent, the value, the outputs
@@ -66,44 +66,38 @@ next_keys : (c : Else-at-top) → Keys (c.loop-at.at + 1) c.args.top
 next_keys c = let K = keys (goal.at.Else-at-top c).Start in let l = below c in let f = c.loop-at.invariant.2.from in record { low = omega (arith, K.low); order = omega arith; high = K.high }
 
 abbrev after : After-offer-slot → Outputs
-after c = let o = c.offer-slot.new.1.1.1.1.1 in outputs o.0 o.1.0 o.1.1.0
+after c = outputs c.offer-slot.new.outtimes c.offer-slot.new.outvalues c.offer-slot.new.outmarks
 
 refused : (c : Then-room-slot) → let g = c in let b = g in At (goal.at.Then-room-slot b).At-loop-at (after (goal.at.Then-room-slot g).After-offer-slot) b.loop-at.at (entry_is b.loop-at.last) b.loop-at.count
 refused c =
     let g = c in
     let b = g in
-    stands-full (v (goal.at.Then-room-slot b).Start) b.args.from.key (room (goal.at.Then-room-slot b).At-loop-at) 0 (outs (goal.at.Then-room-slot b).Start) (has (goal.at.Then-room-slot b).At-loop-at) b.loop-at.inv.2 (reaches (goal.at.Then-room-slot b).At-loop-at) g.span_at-step.ensures.span.here g.offer-slot.ensures c.if-room-slot.true
+    stands-full (v (goal.at.Then-room-slot b).Start) b.args.from.key (room (goal.at.Then-room-slot b).At-loop-at) 0 (outs (goal.at.Then-room-slot b).Start) (has (goal.at.Then-room-slot b).At-loop-at) b.loop-at.invariant.2 (reaches (goal.at.Then-room-slot b).At-loop-at) g.span_at-step.ensures.span.here g.offer-slot.ensures c.if-room-slot.true
 
 taken : (c : Else-room-slot) → let g = c in let b = g in At (goal.at.Else-room-slot b).At-loop-at (after (goal.at.Else-room-slot g).After-offer-slot) (b.loop-at.at + 1) (entry_is g.span_at-step.result.span.here) g.offer-slot.result
 taken c =
     let g = c in
     let b = g in
     let h = c.if-room-slot.false in
-    stands-next (v (goal.at.Else-room-slot b).Start) b.args.from.key (room (goal.at.Else-room-slot b).At-loop-at) 0 (outs (goal.at.Else-room-slot b).Start) (has (goal.at.Else-room-slot b).At-loop-at) b.loop-at.inv.2 (reaches (goal.at.Else-room-slot b).At-loop-at) g.span_at-step.ensures.span.here g.offer-slot.ensures (omega arith)
-
-abbrev first : After-fill_in-went → After-offer-slot
-first c = offered (goal.at.After-fill_in-went c).After-slice_known-in-loop-at-3-1
-
-abbrev span : After-fill_in-went → After-span_at-step
-span c = found (first c)
+    stands-next (v (goal.at.Else-room-slot b).Start) b.args.from.key (room (goal.at.Else-room-slot b).At-loop-at) 0 (outs (goal.at.Else-room-slot b).Start) (has (goal.at.Else-room-slot b).At-loop-at) b.loop-at.invariant.2 (reaches (goal.at.Else-room-slot b).At-loop-at) g.span_at-step.ensures.span.here g.offer-slot.ensures (omega arith)
 
 abbrev behind : After-fill_in-went → Outputs
-behind c = let o = c.fill_in-went.new.1.1.1.1.1.1.1.1 in outputs o.0 o.1.0 o.1.1.0
+behind c = outputs c.fill_in-went.new.outtimes c.fill_in-went.new.outvalues c.fill_in-went.new.outmarks
 
-walked : (c : After-fill_in-went) → let b = loop (first c) in
-    Walked (v b) b.args.from.key (span c).span-at.result.span.hi (room b) 0 (outs b) (behind c) c.fill_in-went.result
+walked : (c : After-fill_in-went) → let b = c in
+    Walked (v (goal.at.After-fill_in-went b).Start) b.args.from.key c.span_at-step.result.span.hi (room (goal.at.After-fill_in-went b).At-loop-at) 0 (outs (goal.at.After-fill_in-went b).Start) (behind c) c.fill_in-went.result
 walked c =
-    let b = loop (first c) in
-    walked-join (v b) b.args.from.key (span c).span-at.result.span.hi (room b) 0 (outs b) (has b) (taken (goal.at.After-fill_in-went c).Else-room-slot) (walked-agree (span c).span-at.ensures.span.says c.fill_in-went.ensures)
+    let b = c in
+    walked-join (v (goal.at.After-fill_in-went b).Start) b.args.from.key c.span_at-step.result.span.hi (room (goal.at.After-fill_in-went b).At-loop-at) 0 (outs (goal.at.After-fill_in-went b).Start) (has (goal.at.After-fill_in-went b).At-loop-at) (taken (goal.at.After-fill_in-went c).Else-room-slot) (walked-agree c.span_at-step.ensures.span.says c.fill_in-went.ensures)
 
-within : (c : After-fill_in-went) → ((loop (first c)).loop.at < (span c).span-at.result.span.hi) × ((span c).span-at.result.span.hi ≤ (entry (loop (first c))).args.top)
-within c = let S = (span c).span-at.ensures.span in (let o = S.keys.order in omega arith, S.within)
+within : (c : After-fill_in-went) → (c.loop-at.at < c.span_at-step.result.span.hi) × (c.span_at-step.result.span.hi ≤ c.args.top)
+within c = let S = c.span_at-step.ensures.span in (let o = S.keys.order in omega arith, S.within)
 
-long-full : (c : Then-room-slot) → Long (outs (entry (loop (goal.at.Then-room-slot c).After-offer-slot))) (after (goal.at.Then-room-slot c).After-offer-slot)
-long-full c = let b = loop (goal.at.Then-room-slot c).After-offer-slot in long b _ _ _ _ (refused c)
+long-full : (c : Then-room-slot) → Long (outs (goal.at.Then-room-slot c).Start) (after (goal.at.Then-room-slot c).After-offer-slot)
+long-full c = let b = c in long (goal.at.Then-room-slot b).At-loop-at _ _ _ _ (refused c)
 
-long-stop : (c : After-reached-1) → Long (outs (entry (loop (first (goal.at.After-reached-1 c).After-fill_in-went)))) (behind (goal.at.After-reached-1 c).After-fill_in-went)
-long-stop c = let i = c in long (loop (first (goal.at.After-reached-1 i).After-fill_in-went)) _ _ _ _ (walked (goal.at.After-reached-1 i).After-fill_in-went).stands
+long-stop : (c : After-reached-1) → Long (outs (goal.at.After-reached-1 c).Start) (behind (goal.at.After-reached-1 c).After-fill_in-went)
+long-stop c = let i = c in long (goal.at.After-reached-1 i).At-loop-at _ _ _ _ (walked (goal.at.After-reached-1 i).After-fill_in-went).stands
 
 long-end : (c : Then-at-top) → Long (outs (goal.at.Then-at-top c).Start) (now (goal.at.Then-at-top c).At-loop-at)
 long-end c = long (goal.at.Then-at-top c).At-loop-at _ _ _ _ c.loop-at.invariant.2
@@ -114,9 +108,8 @@ shortest-room-requires c = tt
 pub loop-at-init : goal.loop-at-init
 loop-at-init c =
     let a = c in
-    let C = a.requires.cursor_is in
-    let r = c.shortest-room in
-    ((keys (goal.at.loop-at-init a).Start).order, C.place, stands-first (v (goal.at.loop-at-init a).Start) a.args.from.key r.result 0 (outs (goal.at.loop-at-init a).Start) (slots-room a.args.outtimes.now a.args.outvalues.now a.args.outmarks.now r.result r.ensures) (entry_is a.args.from.last) C.last)
+        let r = c.shortest-room in
+    ((keys (goal.at.loop-at-init a).Start).order, a.requires.cursor_is.place, stands-first (v (goal.at.loop-at-init a).Start) a.args.from.key r.result 0 (outs (goal.at.loop-at-init a).Start) (slots-room a.args.outtimes.now a.args.outvalues.now a.args.outmarks.now r.result r.ensures) (entry_is a.args.from.last) a.requires.cursor_is.last)
 
 pub shape_of-outtimes-then-at-top : goal.shape_of-outtimes-then-at-top
 shape_of-outtimes-then-at-top c = (long-end c).times
@@ -162,9 +155,9 @@ returns-then-room-slot c =
     let a = b in
     let l = below (goal.at.returns-then-room-slot g).Else-at-top in
     filled a.args.from.key a.args.top (room (goal.at.returns-then-room-slot b).At-loop-at) (keys (goal.at.returns-then-room-slot a).Start) (outs (goal.at.returns-then-room-slot a).Start) (after (goal.at.returns-then-room-slot g).After-offer-slot) (all (goal.at.returns-then-room-slot b).At-loop-at) _
-    (walked-full (refused c) b.loop-at.inv.0
-    (full (v (goal.at.returns-then-room-slot a).Start) a.args.from.key (room (goal.at.returns-then-room-slot b).At-loop-at) 0 (outs (goal.at.returns-then-room-slot a).Start) (has (goal.at.returns-then-room-slot b).At-loop-at) b.loop-at.inv.2 (reaches (goal.at.returns-then-room-slot b).At-loop-at) g.span_at-step.ensures.span.here g.offer-slot.ensures (omega arith) c.if-room-slot.true))
-    b.loop-at.place b.loop-at.inv.1
+    (walked-full (refused c) b.loop-at.invariant.0
+    (full (v (goal.at.returns-then-room-slot a).Start) a.args.from.key (room (goal.at.returns-then-room-slot b).At-loop-at) 0 (outs (goal.at.returns-then-room-slot a).Start) (has (goal.at.returns-then-room-slot b).At-loop-at) b.loop-at.invariant.2 (reaches (goal.at.returns-then-room-slot b).At-loop-at) g.span_at-step.ensures.span.here g.offer-slot.ensures (omega arith) c.if-room-slot.true))
+    b.loop-at.place b.loop-at.invariant.1
 
 pub fill_in-went-requires : goal.fill_in-went-requires
 fill_in-went-requires c =
@@ -186,15 +179,15 @@ shape_of-outmarks-then-not-went c = (long-stop c).marks
 pub returns-then-not-went : goal.returns-then-not-went
 returns-then-not-went c =
     let i = c in
-    let b = loop (first (goal.at.returns-then-not-went i).After-fill_in-went) in
+    let b = i in
     let a = b in
-    filled a.args.from.key a.args.top (room b) (keys a) (outs a) (behind (goal.at.returns-then-not-went i).After-fill_in-went) (all b) _ (walked-wider (within (goal.at.returns-then-not-went i).After-fill_in-went).1 c.if-not-went.true (walked (goal.at.returns-then-not-went i).After-fill_in-went)) (span (goal.at.returns-then-not-went i).After-fill_in-went).span-at.result.place (span (goal.at.returns-then-not-went i).After-fill_in-went).span-at.ensures.place
+    filled a.args.from.key a.args.top (room (goal.at.returns-then-not-went b).At-loop-at) (keys (goal.at.returns-then-not-went a).Start) (outs (goal.at.returns-then-not-went a).Start) (behind (goal.at.returns-then-not-went i).After-fill_in-went) (all (goal.at.returns-then-not-went b).At-loop-at) _ (walked-wider (within (goal.at.returns-then-not-went i).After-fill_in-went).1 c.if-not-went.true (walked (goal.at.returns-then-not-went i).After-fill_in-went)) i.span_at-step.result.place i.span_at-step.ensures.place
 
 pub loop-at-smaller : goal.loop-at-smaller
-loop-at-smaller c = let i = c in let h = within (goal.at.loop-at-smaller i).After-fill_in-went in let l = (loop (first (goal.at.loop-at-smaller i).After-fill_in-went)).loop.inv.0 in omega (arith, h.0, h.1)
+loop-at-smaller c = let i = c in let h = within (goal.at.loop-at-smaller i).After-fill_in-went in let l = i.loop-at.invariant.0 in omega (arith, h.0, h.1)
 
 pub loop-at-preserved : goal.loop-at-preserved
 loop-at-preserved c =
     let i = c in
-    let b = loop (first (goal.at.loop-at-preserved i).After-fill_in-went) in
-    ((within (goal.at.loop-at-preserved i).After-fill_in-went).1, (span (goal.at.loop-at-preserved i).After-fill_in-went).span-at.ensures.place, subst (λ (j : ℕ). At b (behind (goal.at.loop-at-preserved i).After-fill_in-went) j (entry_is i.fill_in-went.result.last) i.fill_in-went.result.count) ((walked (goal.at.loop-at-preserved i).After-fill_in-went).whole c.if-not-went.false) (walked (goal.at.loop-at-preserved i).After-fill_in-went).stands)
+    let b = i in
+    ((within (goal.at.loop-at-preserved i).After-fill_in-went).1, i.span_at-step.ensures.place, subst (λ (j : ℕ). At (goal.at.loop-at-preserved b).At-loop-at (behind (goal.at.loop-at-preserved i).After-fill_in-went) j (entry_is i.fill_in-went.result.last) i.fill_in-went.result.count) ((walked (goal.at.loop-at-preserved i).After-fill_in-went).whole c.if-not-went.false) (walked (goal.at.loop-at-preserved i).After-fill_in-went).stands)

@@ -23,7 +23,7 @@ use Rattle.track.proofs.span.span_at.Goals.{After-place_at-at, In-At, Start as A
 use Rattle.track.proofs.span.span_at.Goals as goal
 
 finite-key : (a : At-start) → FiniteDouble (of_key a.args.k)
-finite-key a = let K = a.requires.keys in record { fitting = of_key-fits a.args.k; finitely = of_key-finite a.args.k K.low (omega (arith, K.order, K.high)) }
+finite-key a = record { fitting = of_key-fits a.args.k; finitely = of_key-finite a.args.k a.requires.keys.low (omega (arith, a.requires.keys.order, a.requires.keys.high)) }
 
 -- the place is that of k
 place : (c : After-place_at-at) → PlaceAt c.args.starts.now c.args.clips.now c.args.xs.now c.args.ys.now c.args.blocks.now c.args.m c.args.times.now c.args.values.now c.args.marks.now c.args.ends.now (of_key c.args.k) c.place_at-at.result.start c.place_at-at.result.window
@@ -65,14 +65,13 @@ run_begin-found-requires c =
     let f = subst FiniteDouble (sym q.of_key-t.ensures) (finite-key (goal.at.run_begin-found-requires a).Start) in
     let W = place-window a.requires.accepted_lists q.of_key-t.result f q.place_at-at.result.start q.place_at-at.result.window q.place_at-at.ensures (omega arith) in record { nearing_1 = window-nears a.requires.accepted_lists q.place_at-at.result.start q.place_at-at.result.window W q.of_key-t.result (q.place_at-at.ensures.place (omega arith)) f a.args.latest.now a.requires.latest_of; nearing_2 = window-lent a.requires.accepted_lists q.place_at-at.result.start q.place_at-at.result.window W; fact = window-least a.requires.accepted_lists q.place_at-at.result.start q.place_at-at.result.window W }
 
-run : (c : In-At) → RunBeginIs (entry (goal.at.In-At c).After-place_at-at).args.xs.now (entry (goal.at.In-At c).After-place_at-at).args.ys.now (entry (goal.at.In-At c).After-place_at-at).args.latest.now (entry (goal.at.In-At c).After-place_at-at).args.times.now c.place_at-at.result.window (of_key (entry (goal.at.In-At c).After-place_at-at).args.k) (At c.in-At.i c.in-At.l c.in-At.h c.in-At.n)
+run : (c : In-At) → RunBeginIs c.args.xs.now c.args.ys.now c.args.latest.now c.args.times.now c.place_at-at.result.window (of_key c.args.k) (At c.in-At.i c.in-At.l c.in-At.h c.in-At.n)
 run c =
     let o = c in
     let q = c in
     let a = q in
-    let g = c.found-1.given in
-    let x = subst (λ (t : Float). RunBeginIs a.args.xs.now a.args.ys.now a.args.latest.now a.args.times.now q.place_at-at.result.window t o.run_begin-found.result) q.of_key-t.ensures o.run_begin-found.ensures in
-    subst (RunBeginIs a.args.xs.now a.args.ys.now a.args.latest.now a.args.times.now q.place_at-at.result.window (of_key a.args.k)) g.1 x
+        let x = subst (λ (t : Float). RunBeginIs a.args.xs.now a.args.ys.now a.args.latest.now a.args.times.now q.place_at-at.result.window t o.run_begin-found.result) q.of_key-t.ensures o.run_begin-found.ensures in
+    subst (RunBeginIs a.args.xs.now a.args.ys.now a.args.latest.now a.args.times.now q.place_at-at.result.window (of_key a.args.k)) c.in-At.is x
 
 pub run_step-requires : goal.run_step-requires
 run_step-requires c =

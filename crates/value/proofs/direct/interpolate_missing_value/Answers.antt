@@ -20,36 +20,34 @@ returns-then-not-m c =
 
 pub nearest_before-back-requires : goal.nearest_before-back-requires
 nearest_before-back-requires c =
-    let s = entry (goal.at.nearest_before-back-requires c).After-default-1 in
-    record { fact_1 = search-asks s.pre.0; fact_2 = omega arith }
+    let s = c in
+    record { fact_1 = search-asks s.requires.fact_1; fact_2 = omega arith }
 
 pub returns-in-Of : goal.returns-in-Of
 returns-in-Of c =
     let k = c in
-    let s = entry (goal.at.returns-in-Of k).After-default-1 in
-    let g = c.back-1.given in
-    stands-before s.pre.0 s.args.p k.if-default-eq0.false k.if-not-m.false (sample g.0.0 g.0.1.0) (sym (ap reading_is g.1) ∙ c.nearest_before-back.ensures ∙ first-is s.pre.0 _)
+    let s = k in
+        stands-before s.requires.fact_1 s.args.p k.if-default-eq0.false k.if-not-m.false (sample c.in-Of.clip c.in-Of.place) (sym (ap reading_is c.in-Of.is) ∙ c.nearest_before-back.ensures ∙ first-is s.requires.fact_1 _)
 
 pub nearest_from-on-requires : goal.nearest_from-on-requires
 nearest_from-on-requires c =
-    let s = entry (goal.at.nearest_from-on-requires c).After-default-1 in
-    record { fact_1 = search-asks s.pre.0; fact_2 = omega arith }
+    let s = c in
+    record { fact_1 = search-asks s.requires.fact_1; fact_2 = omega arith }
 
 pub returns-in-Of-on : goal.returns-in-Of-on
 returns-in-Of-on c =
     let n = c in
     let b = n in
     let k = b in
-    let s = entry (goal.at.returns-in-Of-on k).After-default-1 in
-    let g = c.on-1.given in
-    stands_after s.pre.0 s.args.p k.if-default-eq0.false k.if-not-m.false (sample g.0.0 g.0.1.0)
-    (sym (ap reading_is b.in_default.is) ∙ b.nearest_before-back.ensures ∙ first-is s.pre.0 _) (sym (ap reading_is g.1) ∙ n.nearest_from-on.ensures ∙ first-is s.pre.0 _)
+    let s = k in
+        stands_after s.requires.fact_1 s.args.p k.if-default-eq0.false k.if-not-m.false (sample c.in-Of-on.clip c.in-Of-on.place)
+    (sym (ap reading_is b.in_default.is) ∙ b.nearest_before-back.ensures ∙ first-is s.requires.fact_1 _) (sym (ap reading_is c.in-Of-on.is) ∙ n.nearest_from-on.ensures ∙ first-is s.requires.fact_1 _)
 
 pub returns : goal.returns
 returns c =
     let n = c in
     let b = n in
     let k = b in
-    let s = entry (goal.at.returns k).After-default-1 in
-    stands-none s.pre.0 s.args.p k.if-default-eq0.false k.if-not-m.false
-    (sym (ap reading_is b.in_default.is) ∙ b.nearest_before-back.ensures ∙ first-is s.pre.0 _) (sym (ap reading_is c.in_default-on.is) ∙ n.nearest_from-on.ensures ∙ first-is s.pre.0 _)
+    let s = k in
+    stands-none s.requires.fact_1 s.args.p k.if-default-eq0.false k.if-not-m.false
+    (sym (ap reading_is b.in_default.is) ∙ b.nearest_before-back.ensures ∙ first-is s.requires.fact_1 _) (sym (ap reading_is c.in_default-on.is) ∙ n.nearest_from-on.ensures ∙ first-is s.requires.fact_1 _)

@@ -18,9 +18,8 @@ read_start-found-requires c = record { fact_1 = c.requires.fact_1; fact_2 = omeg
 
 pub returns-in-Of : goal.returns-in-Of
 returns-in-Of c =
-    let g = c.found-1.given in
-    let k = c in
-    sym (k.loop-i.invariant.1 ∙ let a = k.args in from_found a.blocks.now a.xs.now a.ys.now a.times.now a.ends.now a.starts.now a.clips.now k.requires.fact_1.paired k.loop-i.i (omega arith) (sample g.0.0 g.0.1.0) (sym (ap reading_is g.1) ∙ c.read_start-found.ensures))
+        let k = c in
+    sym (k.loop-i.invariant.1 ∙ let a = k.args in from_found a.blocks.now a.xs.now a.ys.now a.times.now a.ends.now a.starts.now a.clips.now k.requires.fact_1.paired k.loop-i.i (omega arith) (sample c.in-Of.clip c.in-Of.place) (sym (ap reading_is c.in-Of.is) ∙ c.read_start-found.ensures))
 
 pub overflow_add-i : goal.overflow_add-i
 overflow_add-i c = omega arith

@@ -20,8 +20,7 @@ read_clip-requires c =
     let k = c in
     let s = k in
     let a = s.args in
-    let p = s.requires in
-    part-looked a.xs.now a.ys.now a.times.now a.values.now a.marks.now a.ends.now a.clip a.t p.0 p.1.0 p.1.1.0 p.1.1.1 _ _
+        part-looked a.xs.now a.ys.now a.times.now a.values.now a.marks.now a.ends.now a.clip a.t s.requires.readable_1 s.requires.readable_2 s.requires.values_len_1 s.requires.values_len_2 _ _
     k.clip_begin-begin.ensures k.clip_end-end.ensures
 
 pub returns : goal.returns

@@ -11,8 +11,7 @@ returns-then-blocked_at c = let s = c in let a = s.args in start-blocked a.block
 pub read_clip-requires : goal.read_clip-requires
 read_clip-requires c =
     let s = c in
-    let R = s.requires.fact_1 in
-    record { readable_1 = R.readable; readable_2 = R.named s.args.i s.requires.fact_2; values_len_1 = R.valued; values_len_2 = R.flagged }
+        record { readable_1 = s.requires.fact_1.readable; readable_2 = s.requires.fact_1.named s.args.i s.requires.fact_2; values_len_1 = s.requires.fact_1.valued; values_len_2 = s.requires.fact_1.flagged }
 
 pub returns-in_default : goal.returns-in_default
 returns-in_default c =

@@ -32,9 +32,8 @@ pub returns-in-Sample : goal.returns-in-Sample
 returns-in-Sample c =
     let b = c in
     let k = b in
-    let g = k.source-1.given in
-    let a = k.args in
-    c.answer_in.ensures ∙ says-sample a.m a.values.now a.marks.now a.ends.now a.source g.0.0 g.0.1.0 b.clip_begin-begin.result g.1 b.clip_begin-begin.ensures
+        let a = k.args in
+    c.answer_in.ensures ∙ says-sample a.m a.values.now a.marks.now a.ends.now a.source k.in-Sample.clip k.in-Sample.place b.clip_begin-begin.result k.in-Sample.is b.clip_begin-begin.ensures
 
 pub returns-in-Default : goal.returns-in-Default
 returns-in-Default c = let s = c in says-default s.args.m s.args.values.now s.args.marks.now s.args.ends.now s.args.source c.in-Default.is

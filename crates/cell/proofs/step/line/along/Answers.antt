@@ -13,5 +13,4 @@ returns-in-Flat c = let a = c.args in sym (along-flat a.line a.t c.in-Flat.y c.i
 pub returns-in-Segment : goal.returns-in-Segment
 returns-in-Segment c =
     let a = c.args in
-    let g = c.line-in-Segment-1.given in
-    c.clip_time.ensures ∙ sym (along-segment a.line a.t g.0.0 g.1)
+        c.clip_time.ensures ∙ sym (along-segment a.line a.t c.in-Segment.s c.in-Segment.is)

@@ -84,7 +84,7 @@ fill_changes-requires c =
     let e = c in
     let t = e in
     let a = t.args in
-    let g = t.cell-1.given in record { reads = cut-reads a.times.now a.values.now a.marks.now a.ends.now g.0.0 e.clip_begin-a.result e.clip_end-b.result e.clip_begin-a.ensures e.clip_end-b.ensures g.0.1.0 a.k a.hi (run (goal.at.fill_changes-requires t).In-Reading); keys = t.requires.keys; left_once = cut-turns a.times.now a.values.now a.marks.now a.ends.now g.0.0 e.clip_begin-a.result e.clip_end-b.result e.clip_begin-a.ensures e.clip_end-b.ensures g.0.1.0 a.k a.hi (run (goal.at.fill_changes-requires t).In-Reading); room = t.requires.room }
+    record { reads = cut-reads a.times.now a.values.now a.marks.now a.ends.now t.in-Reading.clip e.clip_begin-a.result e.clip_end-b.result e.clip_begin-a.ensures e.clip_end-b.ensures t.in-Reading.line a.k a.hi (run (goal.at.fill_changes-requires t).In-Reading); keys = t.requires.keys; left_once = cut-turns a.times.now a.values.now a.marks.now a.ends.now t.in-Reading.clip e.clip_begin-a.result e.clip_end-b.result e.clip_begin-a.ensures e.clip_end-b.ensures t.in-Reading.line a.k a.hi (run (goal.at.fill_changes-requires t).In-Reading); room = t.requires.room }
 
 pub returns : goal.returns
 returns c =
@@ -92,13 +92,11 @@ returns c =
     let e = f in
     let t = e in
     let a = t.args in
-    let g = t.cell-1.given in
-    let r = f.fill_changes.result in
-    let o = f.fill_changes.new.1.1.1.1.1.1.1.1 in
-    let p = outputs a.outtimes.now a.outvalues.now a.outmarks.now in
-    let q = outputs o.0 o.1.0 o.1.1.0 in
+        let r = f.fill_changes.result in
+        let p = outputs a.outtimes.now a.outvalues.now a.outmarks.now in
+    let q = outputs f.fill_changes.new.outtimes f.fill_changes.new.outvalues f.fill_changes.new.outmarks in
     subst (λ (d : Cell). Walked (entry_on a.times.now a.values.now a.marks.now a.ends.now d (entry_is a.here)) a.k a.hi a.room a.n p q r)
-    (sym g.1)
-    (uncut a.times.now a.values.now a.marks.now a.ends.now g.0.0 e.clip_begin-a.result e.clip_end-b.result e.clip_begin-a.ensures e.clip_end-b.ensures
-    (λ (ts vs : List Float) (ms : List ℕ). Walked (reading_at ts vs ms g.0.1.0) a.k a.hi a.room a.n p q r)
+    (sym t.in-Reading.is)
+    (uncut a.times.now a.values.now a.marks.now a.ends.now t.in-Reading.clip e.clip_begin-a.result e.clip_end-b.result e.clip_begin-a.ensures e.clip_end-b.ensures
+    (λ (ts vs : List Float) (ms : List ℕ). Walked (reading_at ts vs ms t.in-Reading.line) a.k a.hi a.room a.n p q r)
     f.fill_changes.ensures)

@@ -25,7 +25,7 @@ abbrev floor : (c : In-ByRun) → Float
 floor c = c.in-ByRun.field-1
 
 abbrev pair : (c : In-ByRun) → Knot × Knot
-pair c = let g = c.in-ByRun.segment in (g.a, g.b)
+pair c = (c.in-ByRun.segment.a, c.in-ByRun.segment.b)
 
 run : (c : In-ByRun) → PastRun c.args.times.now c.args.values.now c.args.marks.now c.args.ends.now (clip c) (pair c) (floor c) (entry_is c.args.s.here) c.args.k c.args.s.hi
 run c =
@@ -35,9 +35,7 @@ run c =
 inside : (c : After-clip_end-b) → (c.clip_begin-a.result ≤ c.clip_end-b.result) × (c.clip_end-b.result ≤ length c.args.times.now) × (c.clip_end-b.result ≤ length c.args.values.now) × (c.clip_end-b.result ≤ length c.args.marks.now)
 inside c =
     let R = run (goal.at.After-clip_end-b c).In-ByRun in
-    let b = c.clip_begin-a.ensures in
-    let e = c.clip_end-b.ensures in
-    let f = R.from in
+            let f = R.from in
     let i = R.inside in
     let v = R.valued in
     let m = R.flagged in
@@ -56,8 +54,7 @@ fill_cell-requires c =
     let t = c in
     let s = t in
     let a = s.args in
-    let g = t.way-1.given in
-    record { keys = s.requires.keys; runs = subst (λ (d : ReadBy). SpanIs a.times.now a.values.now a.marks.now a.ends.now d (entry_is a.s.here) a.k a.s.hi) g.1 s.requires.span_is; room = s.requires.room }
+        record { keys = s.requires.keys; runs = subst (λ (d : ReadBy). SpanIs a.times.now a.values.now a.marks.now a.ends.now d (entry_is a.s.here) a.k a.s.hi) t.in-ByCell.is s.requires.span_is; room = s.requires.room }
 
 pub clip_begin-a-requires : goal.clip_begin-a-requires
 clip_begin-a-requires c = (run c).clip
@@ -109,8 +106,7 @@ returns-in-ByCell c =
     let f = c in
     let t = f in
     let a = t.args in
-    let o = f.fill_cell.new.1.1.1.1.1.1.1.1.1.1 in
-    subst (λ (d : ReadBy). Walked (entry_by a.times.now a.values.now a.marks.now a.ends.now d (entry_is a.s.here)) a.k a.s.hi a.room a.n (outputs a.outtimes.now a.outvalues.now a.outmarks.now) (outputs o.0 o.1.0 o.1.1.0) f.fill_cell.result)
+        subst (λ (d : ReadBy). Walked (entry_by a.times.now a.values.now a.marks.now a.ends.now d (entry_is a.s.here)) a.k a.s.hi a.room a.n (outputs a.outtimes.now a.outvalues.now a.outmarks.now) (outputs f.fill_cell.new.outtimes f.fill_cell.new.outvalues f.fill_cell.new.outmarks) f.fill_cell.result)
     (sym t.in-ByCell.is) f.fill_cell.ensures
 
 pub returns-in-ByRun : goal.returns-in-ByRun
@@ -120,9 +116,8 @@ returns-in-ByRun c =
     let t = e in
     let a = t.args in
     let r = f.fill_run.result in
-    let o = f.fill_run.new.1.1.1.1.1.1.1.1.1.1 in
-    let p = outputs a.outtimes.now a.outvalues.now a.outmarks.now in
-    let q = outputs o.0 o.1.0 o.1.1.0 in
+        let p = outputs a.outtimes.now a.outvalues.now a.outmarks.now in
+    let q = outputs f.fill_run.new.outtimes f.fill_run.new.outvalues f.fill_run.new.outmarks in
     subst (λ (d : ReadBy). Walked (entry_by a.times.now a.values.now a.marks.now a.ends.now d (entry_is a.s.here)) a.k a.s.hi a.room a.n p q r)
     (sym t.in-ByRun.is)
     (uncut a.times.now a.values.now a.marks.now a.ends.now (clip (goal.at.returns-in-ByRun t).In-ByRun) e.clip_begin-a.result e.clip_end-b.result e.clip_begin-a.ensures e.clip_end-b.ensures
