@@ -613,9 +613,12 @@ def turn(folder, module, d):
             env = {params[0]: at} if params else {}
             keep = [p for p in params if p != "κs"]
             term = turn_body(names, body[m.end():], env, told, where, helpers, new)
+            steps = {norm(p[2][1]) for p in names.places}
+            known = lambda m: m.group(1) if norm(re.match(r".*\.if-not-(.*?)\.[a-z]+$", m.group(1)).group(1)) in steps else m.group(0)
             if NOT:
-                term = re.sub(rf"\(not-(?:true|false) \S+ ({WORD}(?:\.{WORD})*\.if-not-{WORD}\.{WORD})\)", r"\1", term)
-                term = re.sub(rf"not-(?:true|false) \S+ ({WORD}(?:\.{WORD})*\.if-not-{WORD}\.{WORD})", r"\1", term)
+                term = re.sub(rf"\(not-(?:true|false) \S+ ({WORD}(?:\.{WORD})*\.if-not-{WORD}\.{WORD})\)", known, term)
+                term = re.sub(rf"not-(?:true|false) \S+ ({WORD}(?:\.{WORD})*\.if-not-{WORD}\.{WORD})", known, term)
+            term = re.sub(rf"ap not \(sym ({WORD}(?:\.{WORD})+)\) ∙ ({WORD}(?:\.{WORD})*\.if-not-{WORD}\.{WORD})", r"ap not (sym \1 ∙ \2)", term)
             term = re.sub(rf"\b(?:holding|untrue) _ _ ({WORD}(?:\.{WORD})+) ({WORD}(?:\.{WORD})*\.if-not-{WORD}\.{WORD})", r"sym \1 ∙ \2", term)
             asked = re.match(r"^(.*)-requires(-\d+)?$", next((norm(o) for o, n in names.needs if n == new), ""))
             if asked:
@@ -644,9 +647,11 @@ def turn(folder, module, d):
                     env[ps[k]] = at
         own_name = g["name"]
         body = turn_body(names, body, env, told, where, {h: v for h, v in helpers.items() if h != own_name}, None)
+        steps = {norm(p[2][1]) for p in names.places}
+        known = lambda m: m.group(1) if norm(re.match(r".*\.if-not-(.*?)\.[a-z]+$", m.group(1)).group(1)) in steps else m.group(0)
         if NOT:
-            body = re.sub(rf"\(not-(?:true|false) \S+ ({WORD}(?:\.{WORD})*\.if-not-{WORD}\.{WORD})\)", r"\1", body)
-            body = re.sub(rf"not-(?:true|false) \S+ ({WORD}(?:\.{WORD})*\.if-not-{WORD}\.{WORD})", r"\1", body)
+            body = re.sub(rf"\(not-(?:true|false) \S+ ({WORD}(?:\.{WORD})*\.if-not-{WORD}\.{WORD})\)", known, body)
+            body = re.sub(rf"not-(?:true|false) \S+ ({WORD}(?:\.{WORD})*\.if-not-{WORD}\.{WORD})", known, body)
         body = re.sub(rf"\b(?:holding|untrue) _ _ ({WORD}(?:\.{WORD})+) ({WORD}(?:\.{WORD})*\.if-not-{WORD}\.{WORD})", r"sym \1 ∙ \2", body)
         ans += g["note"] + [renamed(places(body)), ""]
     for new, at, a in extra:

@@ -18,11 +18,11 @@ pub returns-then-counts-clips : goal.returns-then-counts-clips
 returns-then-counts-clips c = refused _ _ (λ p. c.if-counts-clips.true p.counts-are)
 
 pub returns-in_default : goal.returns-in_default
-returns-in_default c = refused _ _ (λ p. true≢false (sym (subst (Totals _) c.in_default.is c.total_samples-all.ensures) ∙ p.few))
+returns-in_default c = refused _ _ (λ p. true≢false (sym (subst (Totals c.args.counts.now) c.in_default.is c.total_samples-all.ensures) ∙ p.few))
 
 -- the counts within the limit, and their sum
 summed : (c : In-Sum) → Totals c.args.counts.now (Sum c.in-Sum.samples)
-summed c = subst (Totals _) c.in-Sum.is c.total_samples-all.ensures
+summed c = subst (Totals c.args.counts.now) c.in-Sum.is c.total_samples-all.ensures
 
 pub returns-then-samples-times : goal.returns-then-samples-times
 returns-then-samples-times c = refused _ _ (λ p. c.if-samples-times.true ((summed (goal.at.returns-then-samples-times c).In-Sum).1 ∙ p.samples-are))

@@ -23,7 +23,7 @@ pub returns-then-not-is_clip_number : goal.returns-then-not-is_clip_number
 returns-then-not-is_clip_number c =
     let k = c.loop-i in
     let s = c in
-    sym (k.invariant.1 ∙ any_here (bad s.args.clips) s.args.numbers.now k.i nan (omega arith) (ap not (sym c.is_clip_number.ensures) ∙ c.if-not-is_clip_number.true))
+    sym (k.invariant.1 ∙ any_here (bad s.args.clips) s.args.numbers.now k.i nan (omega arith) (ap not (sym c.is_clip_number.ensures ∙ c.if-not-is_clip_number.true)))
 
 pub overflow_add-i : goal.overflow_add-i
 overflow_add-i c = omega arith
@@ -35,7 +35,7 @@ pub loop-i-preserved : goal.loop-i-preserved
 loop-i-preserved c =
     let k = c.loop-i in
     let s = c in
-    (omega arith, k.invariant.1 ∙ any-later (bad s.args.clips) s.args.numbers.now k.i nan (omega arith) (ap not (sym c.is_clip_number.ensures) ∙ c.if-not-is_clip_number.false))
+    (omega arith, k.invariant.1 ∙ any-later (bad s.args.clips) s.args.numbers.now k.i nan (omega arith) (ap not (sym c.is_clip_number.ensures ∙ c.if-not-is_clip_number.false)))
 
 pub returns : goal.returns
 returns c =

@@ -23,7 +23,7 @@ limits c = fields_fit (fields c) c.requires.fact_1
 pub copy_clips-requires : goal.copy_clips-requires
 copy_clips-requires c =
     let s = c in
-    record { fact_1 = clips-indexed s.args.clips s.args.numbers.now s.ranges.clips (fields-clips (fields (goal.at.copy_clips-requires s).Start) s.requires.fact_1); fact_2 = s.requires.fact_2.for-indices ∙ (limits (goal.at.copy_clips-requires s).Start).starts-paired }
+    record { fact_1 = clips-indexed s.args.clips s.args.numbers.now (omega arith) (fields-clips (fields (goal.at.copy_clips-requires s).Start) s.requires.fact_1); fact_2 = s.requires.fact_2.for-indices ∙ (limits (goal.at.copy_clips-requires s).Start).starts-paired }
 
 pub copy-requires-3 : goal.copy-requires-3
 copy-requires-3 c = let s = c in s.requires.fact_2.for-ys ∙ (limits (goal.at.copy-requires-3 s).Start).knots-paired

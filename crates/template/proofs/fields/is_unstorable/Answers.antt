@@ -1,5 +1,5 @@
 -- `template::fields::is_unstorable` meets its contract: one test after the other. Assumes nothing.
-use mathlib.Core.Path.{◌≡◌, ap}
+use mathlib.Core.Path.{sym, ◌∙◌, ◌≡◌, ap}
 use mathlib.Core.Bool.{true, not}
 use borrow.Author.Rules.{rules}
 use Rattle.gf.specs.Doubles.{storable}

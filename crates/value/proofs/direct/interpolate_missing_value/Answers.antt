@@ -16,7 +16,7 @@ pub returns-then-not-m : goal.returns-then-not-m
 returns-then-not-m c =
     let k = c in
     let s = k in
-    stands-off s.requires.fact_1 s.args.p k.if-default-eq0.false c.if-not-m.true
+    stands-off s.requires.fact_1 s.args.p k.if-default-eq0.false (not-true s.args.m.interpolate c.if-not-m.true)
 
 pub nearest_before-back-requires : goal.nearest_before-back-requires
 nearest_before-back-requires c =
@@ -27,7 +27,7 @@ pub returns-in-Of : goal.returns-in-Of
 returns-in-Of c =
     let k = c in
     let s = k in
-        stands-before s.requires.fact_1 s.args.p k.if-default-eq0.false k.if-not-m.false (sample c.in-Of.clip c.in-Of.place) (sym (ap reading_is c.in-Of.is) ∙ c.nearest_before-back.ensures ∙ first-is s.requires.fact_1 _)
+        stands-before s.requires.fact_1 s.args.p k.if-default-eq0.false (not-false s.args.m.interpolate k.if-not-m.false) (sample c.in-Of.clip c.in-Of.place) (sym (ap reading_is c.in-Of.is) ∙ c.nearest_before-back.ensures ∙ first-is s.requires.fact_1 _)
 
 pub nearest_from-on-requires : goal.nearest_from-on-requires
 nearest_from-on-requires c =
@@ -40,7 +40,7 @@ returns-in-Of-on c =
     let b = n in
     let k = b in
     let s = k in
-        stands_after s.requires.fact_1 s.args.p k.if-default-eq0.false k.if-not-m.false (sample c.in-Of-on.clip c.in-Of-on.place)
+        stands_after s.requires.fact_1 s.args.p k.if-default-eq0.false (not-false s.args.m.interpolate k.if-not-m.false) (sample c.in-Of-on.clip c.in-Of-on.place)
     (sym (ap reading_is b.in_default.is) ∙ b.nearest_before-back.ensures ∙ first-is s.requires.fact_1 _) (sym (ap reading_is c.in-Of-on.is) ∙ n.nearest_from-on.ensures ∙ first-is s.requires.fact_1 _)
 
 pub returns : goal.returns
@@ -49,5 +49,5 @@ returns c =
     let b = n in
     let k = b in
     let s = k in
-    stands-none s.requires.fact_1 s.args.p k.if-default-eq0.false k.if-not-m.false
+    stands-none s.requires.fact_1 s.args.p k.if-default-eq0.false (not-false s.args.m.interpolate k.if-not-m.false)
     (sym (ap reading_is b.in_default.is) ∙ b.nearest_before-back.ensures ∙ first-is s.requires.fact_1 _) (sym (ap reading_is c.in_default-on.is) ∙ n.nearest_from-on.ensures ∙ first-is s.requires.fact_1 _)

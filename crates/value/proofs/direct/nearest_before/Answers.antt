@@ -23,7 +23,7 @@ read_start-found-requires c = record { fact_1 = c.requires.fact_1; fact_2 = omeg
 pub returns-in-Of : goal.returns-in-Of
 returns-in-Of c =
         let k = c in
-    sym (k.loop-left.invariant.1 ∙ let a = k.args in back_found a.blocks.now a.xs.now a.ys.now a.times.now a.ends.now a.starts.now a.clips.now k.requires.fact_1.paired k.loop-left.false (omega arith) (omega arith) (sample c.in-Of.clip c.in-Of.place) (sym (ap reading_is c.in-Of.is) ∙ c.read_start-found.ensures))
+    sym (k.loop-left.invariant.1 ∙ let a = k.args in back_found a.blocks.now a.xs.now a.ys.now a.times.now a.ends.now a.starts.now a.clips.now k.requires.fact_1.paired k.loop-left.left (omega arith) (omega arith) (sample c.in-Of.clip c.in-Of.place) (sym (ap reading_is c.in-Of.is) ∙ c.read_start-found.ensures))
 
 pub loop-left-smaller : goal.loop-left-smaller
 loop-left-smaller c = omega arith
@@ -31,9 +31,9 @@ loop-left-smaller c = omega arith
 pub loop-left-preserved : goal.loop-left-preserved
 loop-left-preserved c =
     let k = c in
-    (omega arith, k.loop-left.invariant.1 ∙ let a = k.args in back_on a.blocks.now a.xs.now a.ys.now a.times.now a.ends.now a.starts.now a.clips.now k.requires.fact_1.paired k.loop-left.false (omega arith) (omega arith) (sym (ap reading_is c.in_default.is) ∙ c.read_start-found.ensures))
+    (omega arith, k.loop-left.invariant.1 ∙ let a = k.args in back_on a.blocks.now a.xs.now a.ys.now a.times.now a.ends.now a.starts.now a.clips.now k.requires.fact_1.paired k.loop-left.left (omega arith) (omega arith) (sym (ap reading_is c.in_default.is) ∙ c.read_start-found.ensures))
 
 pub returns : goal.returns
 returns c =
     let k = c in
-    sym (k.loop-left.invariant.1 ∙ let a = k.args in back_end a.blocks.now a.xs.now a.ys.now a.times.now a.ends.now a.starts.now a.clips.now k.requires.fact_1.paired k.loop-left.false (omega arith))
+    sym (k.loop-left.invariant.1 ∙ let a = k.args in back_end a.blocks.now a.xs.now a.ys.now a.times.now a.ends.now a.starts.now a.clips.now k.requires.fact_1.paired k.loop-left.left (omega arith))

@@ -7,25 +7,25 @@ use Rattle.definitions.specs.Samples.{clip_begin}
 use Rattle.value.specs.Answers.{Answerable}
 use Rattle.value.proofs.Answers.{says-sample, says-default, says-blocked, says-absent}
 use borrow.Author.Rules.{rules}
-use Rattle.value.proofs.value.answer_of.Goals.{In-Sample-2}
+use Rattle.value.proofs.value.answer_of.Goals.{In-Sample}
 use Rattle.value.proofs.value.answer_of.Goals as goal
 
 -- a sample's place
-inside : (k : In-Sample-2) → let s = k in (k.in-Sample.clip < length s.args.ends.now) × (clip_begin s.args.ends.now k.in-Sample.clip + k.in-Sample.place < length s.args.values.now)
+inside : (k : In-Sample) → let s = k in (k.in-Sample.clip < length s.args.ends.now) × (clip_begin s.args.ends.now k.in-Sample.clip + k.in-Sample.place < length s.args.values.now)
 inside k = let s = k in subst (Answerable (length s.args.values.now) s.args.ends.now) k.in-Sample.is s.requires.fact_1
 
 pub clip_begin-begin-requires : goal.clip_begin-begin-requires
-clip_begin-begin-requires c = (inside (goal.at.clip_begin-begin-requires c).In-Sample-2).0
+clip_begin-begin-requires c = (inside (goal.at.clip_begin-begin-requires c).In-Sample).0
 
 pub clip_end-end-requires : goal.clip_end-end-requires
-clip_end-end-requires c = (inside (goal.at.clip_end-end-requires c).In-Sample-2).0
+clip_end-end-requires c = (inside (goal.at.clip_end-end-requires c).In-Sample).0
 
 pub answer_in-requires : goal.answer_in-requires
 answer_in-requires c =
     let b = c in
     let k = b in
     let s = k in
-    let h = (inside (goal.at.answer_in-requires k).In-Sample-2).1 in
+    let h = (inside (goal.at.answer_in-requires k).In-Sample).1 in
     record { value = omega (arith, b.clip_begin-begin.ensures); mark = omega (arith, b.clip_begin-begin.ensures, s.requires.fact_2) }
 
 pub returns-in-Sample : goal.returns-in-Sample
