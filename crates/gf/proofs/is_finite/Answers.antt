@@ -1,5 +1,5 @@
 -- `gf::is_finite` meets its contract: every class but one is finite. Assumes nothing.
-use Rattle.std.proofs.Common.{◌≡◌, Bool, true, false, cond, eqb, sym, refl, ap, ◌∙◌, rules}
+use Rattle.std.proofs.Common.{◌≡◌, Bool, true, false, cond, eqb, sym, refl, ap, ◌∙◌}
 use lib.Ieee.{Float, nan, inf, fin}
 use lib.Ieee.Scale.{finite}
 use Rattle.gf.specs.declared.class.Class.{Class}

@@ -1,5 +1,5 @@
 -- `gf::key` meets its contract: each arm is a clause of `Key.key`. Assumes nothing.
-use Rattle.std.proofs.Common.{T, sym, subst, arith, rules}
+use Rattle.std.proofs.Common.{T, sym, subst, arith}
 use lib.Ieee.{binary64, fits}
 use Rattle.gf.proofs.KeyLaws.{bits-lt, key-clear, key_set}
 use Rattle.gf.proofs.key.Goals.{Start as At-start}

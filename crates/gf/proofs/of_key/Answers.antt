@@ -1,5 +1,5 @@
 -- `gf::of_key` meets its contract: each arm hands `from_bits` the pattern `bits_key k`, which is no NaN's. Assumes nothing.
-use Rattle.std.proofs.Common.{ℕ, not, T, sym, ap, ◌∙◌, subst, rules}
+use Rattle.std.proofs.Common.{ℕ, not, T, sym, ap, ◌∙◌, subst}
 use lib.Ieee.{binary64, nan_bits, of_bits}
 use Rattle.gf.proofs.KeyLaws.{bits-key-below, bits-key-above, bits-key-no-nan, of_key-is}
 use Rattle.gf.proofs.of_key.Goals as goal

@@ -1,5 +1,5 @@
 -- `gf::total_key` meets its contract. Assumes nothing.
-use Rattle.std.proofs.Common.{T, sym, ap, subst, rules}
+use Rattle.std.proofs.Common.{T, sym, ap, subst}
 use lib.Ieee.{to_bits}
 use lib.Ieee.Compare.{differs_from_itself}
 use Rattle.gf.specs.Doubles.{total_key}

@@ -1,5 +1,5 @@
 -- `gf::class::classify` meets its contract, by a law for each arm of the match. Assumes nothing.
-use Rattle.std.proofs.Common.{◌≡◌, Bool, cond, T, sym, ap, ◌∙◌, subst, rules}
+use Rattle.std.proofs.Common.{◌≡◌, Bool, cond, T, sym, ap, ◌∙◌, subst}
 use lib.Ieee.{binary64, fits}
 use lib.Ieee.Compare.{differs_from_itself}
 use Rattle.gf.specs.declared.class.Class.TheVariants.{Whole, Fraction}

@@ -1,5 +1,5 @@
 -- `gf::class::ends_in_zeros` meets its contract: the mask takes the remainder by a power of two. Assumes nothing.
-use Rattle.std.proofs.Common.{◌≡◌, ℕ, ◌-◌, ◌*◌, ◌%◌, ◌^◌, ◌<◌, ◌≤◌, eqb, sym, ap, ◌∙◌, subst, one-mul, arith, lit<, pow_pos, shl_exact, rules}
+use Rattle.std.proofs.Common.{◌≡◌, ℕ, ◌-◌, ◌*◌, ◌%◌, ◌^◌, ◌<◌, ◌≤◌, eqb, sym, ap, ◌∙◌, subst, one-mul, arith, lit<, pow_pos, shl_exact}
 use lib.Bits.{bit_and, and_mask}
 use Rattle.gf.proofs.class.ends_in_zeros.Goals as goal
 

@@ -1,5 +1,5 @@
 -- `gf::class::is_whole` meets its contract: zero and the class of the whole numbers are what has no part below 1. Assumes nothing.
-use Rattle.std.proofs.Common.{◌≡◌, ℕ, zero, suc, ◌*◌, ◌%◌, Bool, true, false, cond, eqb, sym, refl, ap, ◌∙◌, zero-mul, rules}
+use Rattle.std.proofs.Common.{◌≡◌, ℕ, zero, suc, ◌*◌, ◌%◌, Bool, true, false, cond, eqb, sym, refl, ap, ◌∙◌, zero-mul}
 use native.Mathlib.Nat.{zero-mod}
 use lib.Dec.{eqb-suc-zero}
 use lib.Ieee.{Float, nan, inf, fin, up, down}

@@ -1,5 +1,5 @@
 -- `gf::clip_number::is_clip_number` meets its contract: the first test that fails decides, and from 2^64 on no count is above. Assumes nothing.
-use Rattle.std.proofs.Common.{◌≡◌, ℕ, ◌^◌, ◌<◌, ◌≤◌, Bool, true, false, T, ltb, pos, sym, refl, ap, ◌∙◌, subst, true≢false, lt_of_lt_of_le, arith, rules, ltb-true}
+use Rattle.std.proofs.Common.{◌≡◌, ℕ, ◌^◌, ◌<◌, ◌≤◌, Bool, true, false, T, ltb, pos, sym, refl, ap, ◌∙◌, subst, true≢false, lt_of_lt_of_le, arith, ltb-true}
 use lib.Ieee.{Float, fin, of_bits, lt, le}
 use lib.Ieee.Bits.{is_true}
 use Rattle.gf.specs.Doubles.{0·0, is_whole, truncated, is_clip_number}

@@ -1,5 +1,5 @@
 -- `gf::magnitude::abs` meets its contract. Assumes nothing.
-use Rattle.std.proofs.Common.{T, sym, ap, ◌∙◌, subst, rules}
+use Rattle.std.proofs.Common.{T, sym, ap, ◌∙◌, subst}
 use lib.Ieee.Compare.{differs_from_itself}
 use Rattle.gf.specs.Doubles.{abs}
 use Rattle.gf.proofs.Tests.{not-nan}

@@ -1,5 +1,5 @@
 -- `gf::magnitude::without_sign` meets its contract. Assumes nothing.
-use Rattle.std.proofs.Common.{◌≡◌, ℕ, ◌%◌, not, T, sym, ap, ◌∙◌, subst, rules}
+use Rattle.std.proofs.Common.{◌≡◌, ℕ, ◌%◌, not, T, sym, ap, ◌∙◌, subst}
 use lib.Ieee.{binary64, fits, to_bits, of_bits, nan_bits}
 use Rattle.gf.proofs.FieldsOf.{few-digits, rank_is}
 use Rattle.gf.proofs.SignCleared.{abs-of-bits, abs-bits-no-nan}

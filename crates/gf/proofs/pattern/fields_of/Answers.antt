@@ -1,5 +1,4 @@
 -- `gf::pattern::fields_of` meets its contract. Assumes nothing.
-use Rattle.std.proofs.Common.{rules}
 use lib.Ieee.{binary64, to_bits}
 use Rattle.gf.proofs.FieldsOf.{exponent-cut, fraction-cut}
 use Rattle.gf.proofs.pattern.fields_of.Goals as goal

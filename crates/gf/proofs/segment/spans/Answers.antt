@@ -1,5 +1,5 @@
 -- `gf::segment::spans` meets its contract: either order of the ends is one test. Assumes nothing.
-use Rattle.std.proofs.Common.{sym, ◌∙◌, rules}
+use Rattle.std.proofs.Common.{sym, ◌∙◌}
 use Rattle.gf.proofs.segment.spans.Goals as goal
 
 pub returns-then-lies_between : goal.returns-then-lies_between

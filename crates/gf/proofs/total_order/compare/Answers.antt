@@ -1,5 +1,5 @@
 -- `gf::total_order::compare` meets its contract. Assumes nothing.
-use Rattle.std.proofs.Common.{arith, rules}
+use Rattle.std.proofs.Common.{arith}
 use Rattle.gf.proofs.TotalOrderLaws.{compared-before, compared-after, compared_same}
 use Rattle.gf.proofs.total_order.compare.Goals as goal
 

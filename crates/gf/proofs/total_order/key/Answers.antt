@@ -1,5 +1,5 @@
 -- `gf::total_order::key` meets its contract. The products are those of a sign, 0 or 1: by cases of it. Assumes nothing.
-use Rattle.std.proofs.Common.{ℕ, ◌+◌, ◌<◌, inl, inr, le_trans, arith, lit<, lit≤, w64, Fits, rules}
+use Rattle.std.proofs.Common.{ℕ, ◌+◌, ◌<◌, inl, inr, le_trans, arith, lit<, lit≤, w64, Fits}
 use lib.Bits.{bit_and, and_le_r}
 use Rattle.gf.proofs.TotalOrderLaws.{sign-is, size_is, key-clear, key_set, placed}
 use Rattle.gf.proofs.total_order.key.Goals.{Start as At-start}

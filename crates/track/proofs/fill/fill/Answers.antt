@@ -181,7 +181,7 @@ returns-then-not-went c =
     let i = c in
     let b = i in
     let a = b in
-    filled a.args.from.key a.args.top (room (goal.at.returns-then-not-went b).At-loop-at) (keys (goal.at.returns-then-not-went a).Start) (outs (goal.at.returns-then-not-went a).Start) (behind (goal.at.returns-then-not-went i).After-fill_in-went) (all (goal.at.returns-then-not-went b).At-loop-at) _ (walked-wider (within (goal.at.returns-then-not-went i).After-fill_in-went).1 c.if-not-went.true (walked (goal.at.returns-then-not-went i).After-fill_in-went)) i.span_at-step.result.place i.span_at-step.ensures.place
+    filled a.args.from.key a.args.top (room (goal.at.returns-then-not-went b).At-loop-at) (keys (goal.at.returns-then-not-went a).Start) (outs (goal.at.returns-then-not-went a).Start) (behind (goal.at.returns-then-not-went i).After-fill_in-went) (all (goal.at.returns-then-not-went b).At-loop-at) _ (walked-wider (within (goal.at.returns-then-not-went i).After-fill_in-went).1 (not-true i.fill_in-went.result.done c.if-not-went.true) (walked (goal.at.returns-then-not-went i).After-fill_in-went)) i.span_at-step.result.place i.span_at-step.ensures.place
 
 pub loop-at-smaller : goal.loop-at-smaller
 loop-at-smaller c = let i = c in let h = within (goal.at.loop-at-smaller i).After-fill_in-went in let l = i.loop-at.invariant.0 in omega (arith, h.0, h.1)
@@ -190,4 +190,4 @@ pub loop-at-preserved : goal.loop-at-preserved
 loop-at-preserved c =
     let i = c in
     let b = i in
-    ((within (goal.at.loop-at-preserved i).After-fill_in-went).1, i.span_at-step.ensures.place, subst (λ (j : ℕ). At (goal.at.loop-at-preserved b).At-loop-at (behind (goal.at.loop-at-preserved i).After-fill_in-went) j (entry_is i.fill_in-went.result.last) i.fill_in-went.result.count) ((walked (goal.at.loop-at-preserved i).After-fill_in-went).whole c.if-not-went.false) (walked (goal.at.loop-at-preserved i).After-fill_in-went).stands)
+    ((within (goal.at.loop-at-preserved i).After-fill_in-went).1, i.span_at-step.ensures.place, subst (λ (j : ℕ). At (goal.at.loop-at-preserved b).At-loop-at (behind (goal.at.loop-at-preserved i).After-fill_in-went) j (entry_is i.fill_in-went.result.last) i.fill_in-went.result.count) ((walked (goal.at.loop-at-preserved i).After-fill_in-went).whole (not-false i.fill_in-went.result.done c.if-not-went.false)) (walked (goal.at.loop-at-preserved i).After-fill_in-went).stands)
