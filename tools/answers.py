@@ -77,12 +77,28 @@ def clause(callee, kind, rest):
     return [names[i]] + rest
 
 
+def in_parts(names, term):
+    """A call that gives the clauses as nested pairs, as a record of them."""
+    t = term.rstrip()
+    i = max(t.rfind(" in "), t.rfind(" in\n"))
+    last = (t[i + 4 :] if i >= 0 else t).strip()
+    if i >= 0 and t[i + 3] == "\n":
+        t, i = t[: i + 3] + "\n    " + last, t[: i + 3].__len__() + 1
+    if re.match(r"(record|omega|search|grind|simp|cc|rw|elim|subst|λ|let)\b", last) or not re.match(r"[^\s(]+ ", last):
+        return term
+    fields = [f"{n} = parts{'.1' * k}{'.0' if k < len(names) - 1 else ''}" for k, n in enumerate(names)]
+    head = t[: i + 4] if i >= 0 else " "
+    return head + f"let parts = {last} in record {{ {'; '.join(fields)} }}"
+
+
 def named(callee, kind, term):
     """A term that ends in a pair of the clauses, as a record of them."""
     names = CLAUSES.get((callee, kind))
     t = term.rstrip()
-    if not names or len(names) < 2 or not t.endswith(")"):
+    if not names or len(names) < 2:
         return term
+    if not t.endswith(")"):
+        return in_parts(names, term)
     d, i = 0, len(t)
     while i:
         i -= 1
@@ -91,7 +107,7 @@ def named(callee, kind, term):
             break
     before = t[:i].rstrip()
     if before and not before.endswith("in") and not re.search(r"(^|\s)rw (\([^()]*\)|[^\s()]+)$", before):
-        return term
+        return in_parts(names, term)
 
     def split(u):
         u = u.strip()
@@ -118,7 +134,7 @@ def named(callee, kind, term):
             break
         parts = parts[:-1] + more
     if not parts or len(parts) != len(names):
-        return term
+        return in_parts(names, term)
     return t[:i] + "record { " + "; ".join(f"{n} = {p}" for n, p in zip(names, parts)) + " }"
 
 
@@ -127,6 +143,11 @@ class Names:
         self.places = d["places"]
         self.by_name = d["places_by_name"]
         self.arms = d["arms"]
+        # a place within a pattern is not named: the arm behind it is, and has its fields
+        for i, n in enumerate(self.by_name):
+            m = re.match(r"^(In[-_].*)-\d+$", n)
+            if m and self.arms[i] and m.group(1) in self.by_name:
+                self.by_name[i] = m.group(1)
         self.index = {norm(p[0]): i for i, p in enumerate(self.places)}
         self.parent = [None if p[1] is None else self.index[norm(p[1])] for p in self.places]
         self.needs = d["needs"]
@@ -451,7 +472,7 @@ def turn(folder, module, d):
     by_old = {norm(o): (n, names.index[norm(at[0])]) for (o, n), at in zip(names.needs, names.asked_at)}
     loop_new = {norm(l[0][0]): l for l in loops}
 
-    NOT = any(re.match(r"use borrow\.Author\.Tests\.\{.*not-(true|false)", h) for h in head)
+    NOT = any(re.match(r"use borrow\.Author\.Tests\.\{.*not-(true|false)", h) for h in head) or "passed" in [g["name"] for g in decls]
     # the lemmas over places, and which of their arguments is one
     helpers, params_of = {}, {}
     for g in decls:
@@ -616,8 +637,8 @@ def turn(folder, module, d):
             steps = {norm(p[2][1]) for p in names.places}
             known = lambda m: m.group(1) if norm(re.match(r".*\.if-not-(.*?)\.[a-z]+$", m.group(1)).group(1)) in steps else m.group(0)
             if NOT:
-                term = re.sub(rf"\(not-(?:true|false) \S+ ({WORD}(?:\.{WORD})*\.if-not-{WORD}\.{WORD})\)", known, term)
-                term = re.sub(rf"not-(?:true|false) \S+ ({WORD}(?:\.{WORD})*\.if-not-{WORD}\.{WORD})", known, term)
+                term = re.sub(rf"\((?:not-true|not-false|passed) \S+ ({WORD}(?:\.{WORD})*\.if-not-{WORD}\.{WORD})\)", known, term)
+                term = re.sub(rf"(?:not-true|not-false|passed) \S+ ({WORD}(?:\.{WORD})*\.if-not-{WORD}\.{WORD})", known, term)
             term = re.sub(rf"ap not \(sym ({WORD}(?:\.{WORD})+)\) ∙ ({WORD}(?:\.{WORD})*\.if-not-{WORD}\.{WORD})", r"ap not (sym \1 ∙ \2)", term)
             term = re.sub(rf"\b(?:holding|untrue) _ _ ({WORD}(?:\.{WORD})+) ({WORD}(?:\.{WORD})*\.if-not-{WORD}\.{WORD})", r"sym \1 ∙ \2", term)
             asked = re.match(r"^(.*)-requires(-\d+)?$", next((norm(o) for o, n in names.needs if n == new), ""))
@@ -650,8 +671,8 @@ def turn(folder, module, d):
         steps = {norm(p[2][1]) for p in names.places}
         known = lambda m: m.group(1) if norm(re.match(r".*\.if-not-(.*?)\.[a-z]+$", m.group(1)).group(1)) in steps else m.group(0)
         if NOT:
-            body = re.sub(rf"\(not-(?:true|false) \S+ ({WORD}(?:\.{WORD})*\.if-not-{WORD}\.{WORD})\)", known, body)
-            body = re.sub(rf"not-(?:true|false) \S+ ({WORD}(?:\.{WORD})*\.if-not-{WORD}\.{WORD})", known, body)
+            body = re.sub(rf"\((?:not-true|not-false|passed) \S+ ({WORD}(?:\.{WORD})*\.if-not-{WORD}\.{WORD})\)", known, body)
+            body = re.sub(rf"(?:not-true|not-false|passed) \S+ ({WORD}(?:\.{WORD})*\.if-not-{WORD}\.{WORD})", known, body)
         body = re.sub(rf"\b(?:holding|untrue) _ _ ({WORD}(?:\.{WORD})+) ({WORD}(?:\.{WORD})*\.if-not-{WORD}\.{WORD})", r"sym \1 ∙ \2", body)
         ans += g["note"] + [renamed(places(body)), ""]
     for new, at, a in extra:

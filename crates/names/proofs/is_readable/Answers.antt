@@ -1,5 +1,4 @@
 -- `names::is_readable` meets its contract: what is read of the places is read of the split template. Assumes nothing.
-use borrow.Author.Rules.{rules}
 use mathlib.Core.Path.{ap, ◌∙◌}
 use Rattle.definitions.specs.Names.{readable}
 use Rattle.names.proofs.is_readable.Goals as goal

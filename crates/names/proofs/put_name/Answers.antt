@@ -1,5 +1,4 @@
 -- `names::put_name` meets its contract: the three parts, one after the other. Assumes nothing.
-use borrow.Author.Rules.{rules}
 use mathlib.Core.Path.{ap}
 use Prim.Native.Nat.{ℕ, ◌+◌}
 use Rattle.names.specs.Body.{body_of}

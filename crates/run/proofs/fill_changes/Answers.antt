@@ -17,7 +17,7 @@ use Rattle.run.specs.Walks.{Room, Stands}
 use Rattle.run.proofs.Readings.{turns-once, place_inside, place-slots, read-level, read-reaches}
 use Rattle.run.proofs.Filling.{Long}
 use Rattle.run.proofs.Walking.{stands-first, stands-long, stands-room, stands-level, stands-next, stands-full, full, walked_all, walked-full}
-use Rattle.run.proofs.fill_changes.Goals.{After-offer-slot, At-loop-step, In-At-2, In_default, Start as At-start, Then-room-slot}
+use Rattle.run.proofs.fill_changes.Goals.{After-offer-slot, At-loop-step, In-At, In_default, Start as At-start, Then-room-slot}
 use Rattle.run.proofs.fill_changes.Goals as goal
 
 -- from the function's entry: the samples, the keys, what is read, the outputs
@@ -46,8 +46,8 @@ ended c =
     let l : Level (f (goal.at.In_default a).Start) b.loop-step.at a.args.hi = subst (λ (n : Next). FirstStep (f (goal.at.In_default a).Start) b.loop-step.at a.args.hi n) c.in_default.is c.next_step.ensures in
     stands-level (w (goal.at.In_default a).Start) a.args.k a.args.room a.args.n (outs (goal.at.In_default a).Start) (room (goal.at.In_default a).Start) b.loop-step.invariant.2 b.loop-step.invariant.0 (read-level (reads (goal.at.In_default a).Start) a.args.line l)
 
-found : (c : In-At-2) → StepAt (f (goal.at.In-At-2 c).Start) c.loop-step.at c.args.hi c.in-At.step
-found c = let b = c in subst (λ (n : Next). FirstStep (f (goal.at.In-At-2 b).Start) b.loop-step.at b.args.hi n) c.in-At.is c.next_step.ensures
+found : (c : In-At) → StepAt (f (goal.at.In-At c).Start) c.loop-step.at c.args.hi c.in-At.step
+found c = let b = c in subst (λ (n : Next). FirstStep (f (goal.at.In-At b).Start) b.loop-step.at b.args.hi n) c.in-At.is c.next_step.ensures
 
 abbrev after : After-offer-slot → Outputs
 after c = outputs c.offer-slot.new.outtimes c.offer-slot.new.outvalues c.offer-slot.new.outmarks
@@ -64,7 +64,7 @@ refused c =
     let g = c in
     let b = g in
     let a = b in
-    stands-full (w (goal.at.Then-room-slot a).Start) a.args.k a.args.room a.args.n (outs (goal.at.Then-room-slot a).Start) (room (goal.at.Then-room-slot a).Start) b.loop-step.invariant.2 (read-reaches (reads (goal.at.Then-room-slot a).Start) a.args.line (found (goal.at.Then-room-slot g).In-At-2)) (there (goal.at.Then-room-slot g).After-offer-slot) g.offer-slot.ensures c.if-room-slot.true
+    stands-full (w (goal.at.Then-room-slot a).Start) a.args.k a.args.room a.args.n (outs (goal.at.Then-room-slot a).Start) (room (goal.at.Then-room-slot a).Start) b.loop-step.invariant.2 (read-reaches (reads (goal.at.Then-room-slot a).Start) a.args.line (found (goal.at.Then-room-slot g).In-At)) (there (goal.at.Then-room-slot g).After-offer-slot) g.offer-slot.ensures c.if-room-slot.true
 
 long : (c : Then-room-slot) → Long (outs (goal.at.Then-room-slot c).Start) (after (goal.at.Then-room-slot c).After-offer-slot)
 long c = let a = c in stands-long (w (goal.at.Then-room-slot a).Start) a.args.k a.args.room a.args.n (outs (goal.at.Then-room-slot a).Start) (room (goal.at.Then-room-slot a).Start) (refused c)
@@ -79,7 +79,7 @@ pub place_on-place-requires : goal.place_on-place-requires
 place_on-place-requires c = let a = c in let K = keys (goal.at.place_on-place-requires a).Start in record { ascending = (reads (goal.at.place_on-place-requires a).Start).ascending; le_k = (K.low, omega (arith, K.order, K.high)) }
 
 pub entry_of_sample-last-requires : goal.entry_of_sample-last-requires
-entry_of_sample-last-requires c = let a = c in place-slots (reads (goal.at.entry_of_sample-last-requires a).Start) a.args.line c.place_on-place.result a.args.k c.place_on-place.ensures
+entry_of_sample-last-requires c = let a = c in let parts = place-slots (reads (goal.at.entry_of_sample-last-requires a).Start) a.args.line c.place_on-place.result a.args.k c.place_on-place.ensures in record { place_in_bounds = parts.0; place_in_bounds_2 = parts.1 }
 
 pub loop-step-init : goal.loop-step-init
 loop-step-init c =
@@ -117,14 +117,14 @@ place_beside-next-requires c =
     let b = c in
     let a = b in
     let K = keys (goal.at.place_beside-next-requires a).Start in
-    let p = found (goal.at.place_beside-next-requires c).In-At-2 in
+    let p = found (goal.at.place_beside-next-requires c).In-At in
     let l = b.loop-step.invariant.2.from in
     record { ascending = (reads (goal.at.place_beside-next-requires a).Start).ascending; le_k = (omega (arith, K.low, l, p.above), omega (arith, K.high, p.within)) }
 
 pub entry_of_sample-entry-requires : goal.entry_of_sample-entry-requires
 entry_of_sample-entry-requires c =
     let a = c in
-    place-slots (reads (goal.at.entry_of_sample-entry-requires a).Start) a.args.line c.place_beside-next.result c.in-At.step c.place_beside-next.ensures
+    let parts = place-slots (reads (goal.at.entry_of_sample-entry-requires a).Start) a.args.line c.place_beside-next.result c.in-At.step c.place_beside-next.ensures in record { place_in_bounds = parts.0; place_in_bounds_2 = parts.1 }
 
 pub offer-slot-requires : goal.offer-slot-requires
 offer-slot-requires c =
@@ -132,7 +132,7 @@ offer-slot-requires c =
     let b = p in
     let a = b in
     let K = keys (goal.at.offer-slot-requires a).Start in
-    let q = found (goal.at.offer-slot-requires p).In-At-2 in
+    let q = found (goal.at.offer-slot-requires p).In-At in
     let l = b.loop-step.invariant.2.from in
     record { le_k = (omega (arith, K.low, l, q.above), omega (arith, K.high, q.within)); room = stands-room (w (goal.at.offer-slot-requires a).Start) a.args.k a.args.room a.args.n (outs (goal.at.offer-slot-requires a).Start) (room (goal.at.offer-slot-requires a).Start) b.loop-step.invariant.2 }
 
@@ -150,18 +150,18 @@ returns-then-room-slot c =
     let g = c in
     let b = g in
     let a = b in
-    let p = found (goal.at.returns-then-room-slot g).In-At-2 in
+    let p = found (goal.at.returns-then-room-slot g).In-At in
     walked-full (refused c) b.loop-step.invariant.0
     (full (w (goal.at.returns-then-room-slot a).Start) a.args.k a.args.room a.args.n (outs (goal.at.returns-then-room-slot a).Start) (room (goal.at.returns-then-room-slot a).Start) b.loop-step.invariant.2 (read-reaches (reads (goal.at.returns-then-room-slot a).Start) a.args.line p) (there (goal.at.returns-then-room-slot g).After-offer-slot) g.offer-slot.ensures p.within c.if-room-slot.true)
 
 pub loop-step-smaller : goal.loop-step-smaller
-loop-step-smaller c = let p = found (goal.at.loop-step-smaller c).In-At-2 in omega (arith, p.above, p.within)
+loop-step-smaller c = let p = found (goal.at.loop-step-smaller c).In-At in omega (arith, p.above, p.within)
 
 pub loop-step-preserved : goal.loop-step-preserved
 loop-step-preserved c =
     let g = c in
     let b = g in
     let a = b in
-    let p = found (goal.at.loop-step-preserved g).In-At-2 in
+    let p = found (goal.at.loop-step-preserved g).In-At in
     let h = c.if-room-slot.false in
     (p.within, g.place_beside-next.ensures, stands-next (w (goal.at.loop-step-preserved a).Start) a.args.k a.args.room a.args.n (outs (goal.at.loop-step-preserved a).Start) (room (goal.at.loop-step-preserved a).Start) b.loop-step.invariant.2 (read-reaches (reads (goal.at.loop-step-preserved a).Start) a.args.line p) (there (goal.at.loop-step-preserved g).After-offer-slot) g.offer-slot.ensures (omega arith))

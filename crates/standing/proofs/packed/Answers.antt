@@ -10,7 +10,7 @@ pub slice_bounds-pack_active-end-2 : goal.slice_bounds-pack_active-end-2
 slice_bounds-pack_active-end-2 c = search (rules, front)
 
 pub pack_active-active-requires : goal.pack_active-active-requires
-pack_active-active-requires c = paired-fronts c.requires.in-starts c.requires.in-numbers
+pack_active-active-requires c = let parts = paired-fronts c.requires.in-starts c.requires.in-numbers in record { fact_1 = parts.0; fact_2 = parts.1 }
 
 pub slice_bounds-pack_knots-end : goal.slice_bounds-pack_knots-end
 slice_bounds-pack_knots-end c = search (rules, front)
@@ -19,7 +19,7 @@ pub slice_bounds-pack_knots-end-2 : goal.slice_bounds-pack_knots-end-2
 slice_bounds-pack_knots-end-2 c = search (rules, front)
 
 pub pack_knots-knots-requires : goal.pack_knots-knots-requires
-pack_knots-knots-requires c = paired-fronts c.requires.in-xs c.requires.in_ys
+pack_knots-knots-requires c = let parts = paired-fronts c.requires.in-xs c.requires.in_ys in record { fact_1 = parts.0; fact_2 = parts.1 }
 
 pub slice_bounds-pack_blocks-end : goal.slice_bounds-pack_blocks-end
 slice_bounds-pack_blocks-end c = search (rules, front)

@@ -1,5 +1,4 @@
 -- `names::body::body_at` meets its contract: a fraction of 0 is none. Assumes nothing.
-use borrow.Author.Rules.{rules}
 use mathlib.Core.Path.{◌∙◌}
 use Rattle.names.proofs.BodyLaws.{body-none, body-some}
 use Rattle.names.proofs.body.body_at.Goals as goal

@@ -1,5 +1,4 @@
 -- `names::body::body_length` meets its contract: the lengths of the three parts. Assumes nothing.
-use borrow.Author.Rules.{rules}
 use native.Mathlib.Omega.{arith}
 use Rattle.names.proofs.BodyLaws.{length-body}
 use Rattle.names.proofs.body.body_length.Goals as goal

@@ -1,5 +1,4 @@
 -- `names::body::fraction_body` meets its contract: the decimals, cut at the `.`. Assumes nothing.
-use borrow.Author.Rules.{rules}
 use native.Mathlib.Omega.{arith}
 use mathlib.Core.Path.{◌≡◌, ap, ◌∙◌}
 use Prim.Native.Nat.{max}

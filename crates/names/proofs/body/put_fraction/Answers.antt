@@ -1,5 +1,4 @@
 -- `names::body::put_fraction` meets its contract: the `.`, then the digits behind it. Assumes nothing.
-use borrow.Author.Rules.{rules}
 use native.Mathlib.Omega.{arith}
 use mathlib.Core.Path.{ap, ◌∙◌}
 use Prim.Native.Nat.{◌+◌, ◌≤◌}

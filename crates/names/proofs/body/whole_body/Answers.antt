@@ -1,5 +1,4 @@
 -- `names::body::whole_body` meets its contract, by a law for each answer. Assumes nothing.
-use borrow.Author.Rules.{rules}
 use mathlib.Core.Path.{◌≡◌, sym, ap, ◌∙◌}
 use Prim.Native.Nat.{◌-◌, max}
 use Rattle.gf.proofs.Exactly.{within-finite}

@@ -1,9 +1,8 @@
 -- `names::copy::put_bytes` meets its contract: copying what is left makes the whole. Assumes nothing.
 use mathlib.Core.Path.{◌≡◌, refl, sym, ap, ◌∙◌}
-use Prim.Native.Nat.{ℕ, ◌+◌, ◌-◌, ◌≤◌}
+use Prim.Native.Nat.{ℕ, ◌+◌, ◌-◌}
 use native.Mathlib.Omega.{arith}
-use borrow.Author.Rules.{rules}
-use lib.ListN.{length, get_or, set, length-set}
+use lib.ListN.{get_or, set, length-set}
 use lib.Seq.{slice, slice_empty}
 use Rattle.names.specs.Put.{put}
 use Rattle.names.proofs.PutLaws.{put-none, copy_more}

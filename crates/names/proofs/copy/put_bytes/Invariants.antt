@@ -1,12 +1,9 @@
 -- `names::copy::put_bytes` meets its contract: copying what is left makes the whole. Assumes nothing.
-use mathlib.Core.Path.{◌≡◌, refl, sym, ap, ◌∙◌}
-use Prim.Native.Nat.{ℕ, ◌+◌, ◌-◌, ◌≤◌}
-use native.Mathlib.Omega.{arith}
-use borrow.Author.Rules.{rules}
-use lib.ListN.{length, get_or, set, length-set}
-use lib.Seq.{slice, slice_empty}
+use mathlib.Core.Path.{◌≡◌}
+use Prim.Native.Nat.{◌+◌, ◌-◌, ◌≤◌}
+use lib.ListN.{length}
+use lib.Seq.{slice}
 use Rattle.names.specs.Put.{put}
-use Rattle.names.proofs.PutLaws.{put-none, copy_more}
 use Rattle.names.proofs.copy.put_bytes.Given as goal
 
 abbrev pub invariant-loop-i : goal.invariant-loop-i

@@ -1,6 +1,5 @@
 -- `names::digits::places` meets its contract: the digits counted, and those of what is left, are one more than those of n. Assumes nothing.
-use mathlib.Core.Path.{◌≡◌}
-use Prim.Native.Nat.{◌+◌, ◌≤◌}
+use Prim.Native.Nat.{◌≤◌}
 use native.Mathlib.Omega.{arith}
 use Rattle.definitions.specs.Names.{places}
 use Rattle.names.proofs.DigitLaws.{places-one, places-more, places-pos, places-le}

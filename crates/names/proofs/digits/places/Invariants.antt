@@ -1,9 +1,7 @@
 -- `names::digits::places` meets its contract: the digits counted, and those of what is left, are one more than those of n. Assumes nothing.
 use mathlib.Core.Path.{◌≡◌}
-use Prim.Native.Nat.{◌+◌, ◌≤◌}
-use native.Mathlib.Omega.{arith}
+use Prim.Native.Nat.{◌+◌}
 use Rattle.definitions.specs.Names.{places}
-use Rattle.names.proofs.DigitLaws.{places-one, places-more, places-pos, places-le}
 use Rattle.names.proofs.digits.places.Given as goal
 
 abbrev pub invariant-loop-left : goal.invariant-loop-left

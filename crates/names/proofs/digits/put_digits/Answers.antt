@@ -1,9 +1,8 @@
 -- `names::digits::put_digits` meets its contract: writing the digits that are left makes the whole. Assumes nothing.
 use mathlib.Core.Path.{◌≡◌, refl, sym, ap, ◌∙◌}
-use Prim.Native.Nat.{ℕ, suc, ◌+◌, ◌-◌, ◌%◌, ◌≤◌}
+use Prim.Native.Nat.{ℕ, suc, ◌+◌, ◌-◌, ◌%◌}
 use native.Mathlib.Omega.{arith}
-use borrow.Author.Rules.{rules}
-use lib.ListN.{length, length-set}
+use lib.ListN.{length-set}
 use Rattle.definitions.specs.Names.{digits, digit0}
 use Rattle.names.specs.Put.{put}
 use Rattle.names.proofs.PutLaws.{put-none}

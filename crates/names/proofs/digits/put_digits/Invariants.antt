@@ -1,13 +1,9 @@
 -- `names::digits::put_digits` meets its contract: writing the digits that are left makes the whole. Assumes nothing.
-use mathlib.Core.Path.{◌≡◌, refl, sym, ap, ◌∙◌}
-use Prim.Native.Nat.{ℕ, suc, ◌+◌, ◌-◌, ◌%◌, ◌≤◌}
-use native.Mathlib.Omega.{arith}
-use borrow.Author.Rules.{rules}
-use lib.ListN.{length, length-set}
-use Rattle.definitions.specs.Names.{digits, digit0}
+use mathlib.Core.Path.{◌≡◌}
+use Prim.Native.Nat.{◌≤◌}
+use lib.ListN.{length}
+use Rattle.definitions.specs.Names.{digits}
 use Rattle.names.specs.Put.{put}
-use Rattle.names.proofs.PutLaws.{put-none}
-use Rattle.names.proofs.DigitLaws.{put-digit}
 use Rattle.names.proofs.digits.put_digits.Given as goal
 
 abbrev pub invariant-loop-i : goal.invariant-loop-i

@@ -1,5 +1,4 @@
 -- `names::magnitude::decimals` meets its contract: high and low are the product with 10 ^ k. Assumes nothing.
-use borrow.Author.Rules.{rules}
 use native.Mathlib.Omega.{arith}
 use mathlib.Core.Path.{ap, ap₂, ◌∙◌}
 use Prim.Native.Nat.{ℕ, ◌≤◌, ◌*◌}

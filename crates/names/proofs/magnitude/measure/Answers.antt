@@ -1,5 +1,4 @@
 -- `names::magnitude::measure` meets its contract: each answer is what the fields of the pattern say. Assumes nothing.
-use borrow.Author.Rules.{rules}
 use native.Mathlib.Omega.{arith}
 use mathlib.Core.Path.{sym, subst}
 use lib.Dec.{T}

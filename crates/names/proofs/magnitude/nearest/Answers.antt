@@ -1,5 +1,4 @@
 -- `names::magnitude::nearest` meets its contract, by a law for each answer. Assumes nothing.
-use borrow.Author.Rules.{rules}
 use native.Mathlib.Omega.{arith}
 use Prim.Native.Nat.{◌/◌, ◌^◌, ◌<◌}
 use Rattle.names.proofs.RoundingLaws.{none, unit-pos, down, up, up-by-low, even, quotient-lt}

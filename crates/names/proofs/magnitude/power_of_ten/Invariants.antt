@@ -1,10 +1,6 @@
 -- `names::magnitude::power_of_ten` meets its contract: after i turns n is 10 ^ i. Assumes nothing.
-use mathlib.Core.Path.{◌≡◌, refl, sym, ap, ◌∙◌}
-use Prim.Native.Nat.{ℕ, ◌*◌, ◌-◌, ◌^◌, ◌≤◌}
-use native.Mathlib.Nat.{pow-suc}
-use native.Mathlib.Numerals.{add-one}
-use native.Mathlib.Omega.{arith}
-use Rattle.names.proofs.RoundingLaws.{ten-le}
+use mathlib.Core.Path.{◌≡◌}
+use Prim.Native.Nat.{◌-◌, ◌^◌, ◌≤◌}
 use Rattle.names.proofs.magnitude.power_of_ten.Given as goal
 
 abbrev pub invariant-loop-i : goal.invariant-loop-i

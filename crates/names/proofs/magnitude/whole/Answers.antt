@@ -1,5 +1,4 @@
 -- `names::magnitude::whole` meets its contract: a shift of 64 or more leaves nothing. Assumes nothing.
-use borrow.Author.Rules.{rules}
 use native.Mathlib.Omega.{arith}
 use mathlib.Core.Path.{sym}
 use native.Mathlib.Nat.{div-eq_of_lt}

@@ -1,9 +1,5 @@
 -- `names::pattern::before_hash` meets its contract. The invariant: i bytes, and those before a `#` in what is left. Assumes nothing.
-use mathlib.Core.Path.{◌≡◌}
-use Prim.Native.Nat.{◌+◌, ◌-◌, ◌≤◌}
 use native.Mathlib.Omega.{arith}
-use lib.ListN.{length, drop}
-use Rattle.definitions.specs.Names.{before_hash}
 use Rattle.names.proofs.PatternLaws.{before-stop, before_more, before-end}
 use Rattle.names.proofs.pattern.before_hash.Goals as goal
 

@@ -1,10 +1,8 @@
 -- `names::pattern::has_hash` meets its contract: what is left answers for the whole. Assumes nothing.
-use mathlib.Core.Path.{◌≡◌, refl, sym, ◌∙◌}
+use mathlib.Core.Path.{◌≡◌}
 use Prim.Native.Nat.{◌-◌}
-use native.Mathlib.Omega.{arith}
 use lib.ListN.{length, drop}
 use Rattle.names.specs.Pattern.{has_hash}
-use Rattle.names.proofs.PatternLaws.{has_here, has-later, has_end}
 use Rattle.names.proofs.pattern.has_hash.Given as goal
 
 abbrev pub invariant-loop-i : goal.invariant-loop-i

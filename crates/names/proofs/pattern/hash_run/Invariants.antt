@@ -1,10 +1,8 @@
 -- `names::pattern::hash_run` meets its contract. The invariant: the run is what was passed, and the run that what is left begins with. Assumes nothing.
 use mathlib.Core.Path.{◌≡◌}
 use Prim.Native.Nat.{◌+◌, ◌-◌, ◌≤◌}
-use native.Mathlib.Omega.{arith}
 use lib.ListN.{length, drop}
 use Rattle.definitions.specs.Names.{hash_run}
-use Rattle.names.proofs.PatternLaws.{run_more, run-stop, run_end}
 use Rattle.names.proofs.pattern.hash_run.Given as goal
 
 abbrev pub invariant-loop-i : goal.invariant-loop-i

@@ -1,5 +1,4 @@
 -- `names::pattern::is_readable` meets its contract, by a law for each answer. Assumes nothing.
-use borrow.Author.Rules.{rules}
 use mathlib.Core.Path.{ap, ◌∙◌}
 use mathlib.Core.Bool.{not}
 use Rattle.names.proofs.PatternLaws.{too-narrow, too_wide, fraction-too-wide, no-later-hash}

@@ -1,5 +1,4 @@
 -- `names::pattern::parse` meets its contract: the three runs found one after the other are those of `split`. Assumes nothing.
-use borrow.Author.Rules.{rules}
 use native.Mathlib.Omega.{arith}
 use Prim.Native.Nat.{◌+◌, ◌≤◌}
 use lib.ListN.{length}

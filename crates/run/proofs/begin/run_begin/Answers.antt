@@ -22,7 +22,7 @@ fits-max : (a : At-start) → T (fits binary64 a.args.w.max)
 fits-max a = search rules
 
 on : (c : Else-not-is_between) → OnSegment c.args.xs.now c.args.t c.last_at_most_near-i.result
-on c = on-between _ _ _ (sym c.is_between.ensures ∙ passed c.is_between.result c.if-not-is_between.false)
+on c = on-between _ _ _ (sym c.is_between.ensures ∙ c.if-not-is_between.false)
 
 pub last_in-requires : goal.last_in-requires
 last_in-requires c =
@@ -36,7 +36,7 @@ returns c =
     let a = e in
             let s = samples_in a.args.times.now a.args.w in
     let last = subst (LastIs a.args.xs.now a.args.ys.now s e.last_at_most_near-i.result a.args.w.max) c.in-At.is c.last_in.ensures in
-    let ahead = c.is_below.ensures (passed c.is_below.result c.if-not-is_below.false) in (
+    let ahead = c.is_below.ensures c.if-not-is_below.false in (
       omega (arith, c.if-end-begin.false),
       record {
         nears = a.requires.nearing_1;
@@ -45,7 +45,7 @@ returns c =
         here = on (goal.at.returns e).Else-not-is_between;
         begun = ahead.0;
         lower = subst (LowerIs (window_times a.args.xs.now a.args.ys.now s a.args.w) a.args.t) c.in-At-lower.is c.neighbours_in-near.ensures.lower;
-        past = c.is_past.ensures (passed c.is_past.result c.if-not-is_past.false);
+        past = c.is_past.ensures c.if-not-is_past.false;
         above = ahead.1;
         listed = last.0;
         within = last.1;

@@ -17,7 +17,7 @@ use Rattle.run.proofs.Runs.{begins}
 use Rattle.run.proofs.Between.{stays, passed_reads, passed-reaches}
 use Rattle.run.proofs.Filling.{Long}
 use Rattle.run.proofs.Walking.{stands-first, stands-long, stands-room, stands-level, stands-next, stands-full, full, walked_all, walked-full}
-use Rattle.run.proofs.inside.fill_run.Goals.{After-offer-behind, In-At-2, In_default, Start as At-start, Then-room-behind}
+use Rattle.run.proofs.inside.fill_run.Goals.{After-offer-behind, In-At, In_default, Start as At-start, Then-room-behind}
 use Rattle.run.proofs.inside.fill_run.Goals as goal
 
 -- from the function's entry: the segment, what is asked, what is read, the outputs
@@ -48,8 +48,8 @@ ended c f P =
     let l : NextInRunIs a.args.cs.now (q (goal.at.In_default a).Start) b.loop-m.place b.loop-m.at a.args.hi Nothing = subst (λ (r : NextInRun). NextInRunIs a.args.cs.now (q (goal.at.In_default a).Start) b.loop-m.place b.loop-m.at a.args.hi r) c.in_default.is (c.next_in_run.ensures b.loop-m.at b.loop-m.invariant.1) in
     stands-level (w (goal.at.In_default a).Start f) a.args.k a.args.room a.args.slot (outs (goal.at.In_default a).Start) (room (goal.at.In_default a).Start) S b.loop-m.invariant.0 (stays P b.loop-m.at a.args.hi S.from (omega arith) l)
 
-found : (c : In-At-2) → InRunAt c.args.cs.now (q (goal.at.In-At-2 c).Start) c.loop-m.place c.loop-m.at c.args.hi c.in-At.m c.in-At.i c.in-At.next
-found c = let b = c in subst (λ (r : NextInRun). NextInRunIs b.args.cs.now (q (goal.at.In-At-2 b).Start) b.loop-m.place b.loop-m.at b.args.hi r) c.in-At.is (c.next_in_run.ensures b.loop-m.at b.loop-m.invariant.1)
+found : (c : In-At) → InRunAt c.args.cs.now (q (goal.at.In-At c).Start) c.loop-m.place c.loop-m.at c.args.hi c.in-At.m c.in-At.i c.in-At.next
+found c = let b = c in subst (λ (r : NextInRun). NextInRunIs b.args.cs.now (q (goal.at.In-At b).Start) b.loop-m.place b.loop-m.at b.args.hi r) c.in-At.is (c.next_in_run.ensures b.loop-m.at b.loop-m.invariant.1)
 
 abbrev after : After-offer-behind → Outputs
 after c = outputs c.offer-behind.new.outtimes c.offer-behind.new.outvalues c.offer-behind.new.outmarks
@@ -57,7 +57,7 @@ after c = outputs c.offer-behind.new.outtimes c.offer-behind.new.outvalues c.off
 there : (c : After-offer-behind) (f : Float) → Asks (goal.at.After-offer-behind c).Start f → entry_is c.entry_along-entry.result ≡ w (goal.at.After-offer-behind c).Start f c.in-At.m
 there c f P =
     let b = c in
-    c.entry_along-entry.ensures ∙ sym (passed_reads P (b.loop-m.invariant.2 f P).from (found (goal.at.After-offer-behind c).In-At-2))
+    c.entry_along-entry.ensures ∙ sym (passed_reads P (b.loop-m.invariant.2 f P).from (found (goal.at.After-offer-behind c).In-At))
 
 -- without room for it
 refused : (c : Then-room-behind) → let g = c in let b = g in let a = b in
@@ -67,7 +67,7 @@ refused c f P =
     let b = g in
     let a = b in
     let S = b.loop-m.invariant.2 f P in
-    stands-full (w (goal.at.Then-room-behind a).Start f) a.args.k a.args.room a.args.slot (outs (goal.at.Then-room-behind a).Start) (room (goal.at.Then-room-behind a).Start) S (passed-reaches P S.from (found (goal.at.Then-room-behind g).In-At-2)) (there (goal.at.Then-room-behind g).After-offer-behind f P) g.offer-behind.ensures c.if-room-behind.true
+    stands-full (w (goal.at.Then-room-behind a).Start f) a.args.k a.args.room a.args.slot (outs (goal.at.Then-room-behind a).Start) (room (goal.at.Then-room-behind a).Start) S (passed-reaches P S.from (found (goal.at.Then-room-behind g).In-At)) (there (goal.at.Then-room-behind g).After-offer-behind f P) g.offer-behind.ensures c.if-room-behind.true
 
 long : (c : Then-room-behind) → Long (outs (goal.at.Then-room-behind c).Start) (after (goal.at.Then-room-behind c).After-offer-behind)
 long c = let a = c in let f = a.requires.passing_on.floor in stands-long (w (goal.at.Then-room-behind a).Start f) a.args.k a.args.room a.args.slot (outs (goal.at.Then-room-behind a).Start) (room (goal.at.Then-room-behind a).Start) (refused c f (asked (goal.at.Then-room-behind a).Start))
@@ -111,7 +111,7 @@ pub entry_along-entry-requires : goal.entry_along-entry-requires
 entry_along-entry-requires c =
     let b = c in
     let R = asked (goal.at.entry_along-entry-requires b).Start in
-    let p = found (goal.at.entry_along-entry-requires c).In-At-2 in
+    let p = found (goal.at.entry_along-entry-requires c).In-At in
     let l = (b.loop-m.invariant.2 _ R).from in
     record { reads = R.reads; le_k = (omega (arith, R.keys.low, l, p.from), omega (arith, R.keys.high, p.within)) }
 
@@ -121,7 +121,7 @@ offer-behind-requires c =
     let b = p in
     let a = b in
     let K = (asked (goal.at.offer-behind-requires a).Start).keys in
-    let f = found (goal.at.offer-behind-requires p).In-At-2 in
+    let f = found (goal.at.offer-behind-requires p).In-At in
     let S = b.loop-m.invariant.2 _ (asked (goal.at.offer-behind-requires a).Start) in
     let l = S.from in
     record { le_k = (omega (arith, K.low, l, f.from), omega (arith, K.high, f.within)); room = stands-room (w (goal.at.offer-behind-requires a).Start a.requires.passing_on.floor) a.args.k a.args.room a.args.slot (outs (goal.at.offer-behind-requires a).Start) (room (goal.at.offer-behind-requires a).Start) S }
@@ -140,19 +140,19 @@ returns-then-room-behind c = λ f P.
     let g = c in
     let b = g in
     let a = b in
-    let p = found (goal.at.returns-then-room-behind g).In-At-2 in
+    let p = found (goal.at.returns-then-room-behind g).In-At in
     let S = b.loop-m.invariant.2 f P in
     walked-full (refused c f P) b.loop-m.invariant.0
     (full (w (goal.at.returns-then-room-behind a).Start f) a.args.k a.args.room a.args.slot (outs (goal.at.returns-then-room-behind a).Start) (room (goal.at.returns-then-room-behind a).Start) S (passed-reaches P S.from p) (there (goal.at.returns-then-room-behind g).After-offer-behind f P) g.offer-behind.ensures p.within c.if-room-behind.true)
 
 pub loop-m-smaller : goal.loop-m-smaller
-loop-m-smaller c = (found (goal.at.loop-m-smaller c).In-At-2).less
+loop-m-smaller c = (found (goal.at.loop-m-smaller c).In-At).less
 
 pub loop-m-preserved : goal.loop-m-preserved
 loop-m-preserved c =
     let g = c in
     let b = g in
     let a = b in
-    let p = found (goal.at.loop-m-preserved g).In-At-2 in
+    let p = found (goal.at.loop-m-preserved g).In-At in
     let h = c.if-room-behind.false in
     (p.within, p.place, λ f P. let S = b.loop-m.invariant.2 f P in stands-next (w (goal.at.loop-m-preserved a).Start f) a.args.k a.args.room a.args.slot (outs (goal.at.loop-m-preserved a).Start) (room (goal.at.loop-m-preserved a).Start) S (passed-reaches P S.from p) (there (goal.at.loop-m-preserved g).After-offer-behind f P) g.offer-behind.ensures (omega arith))
