@@ -1,5 +1,5 @@
 // The bake: the head and the changes of the value, counted before any is written.
-ghost use Rattle.std.specs.Prelude.{◌≡◌, ◌<◌};
+ghost use Rattle.std.specs.Prelude.{length, ◌≡◌, ◌<◌};
 ghost use Rattle.gf.specs.Doubles.{0·0};
 ghost use Rattle.gf.specs.Doubles as Key;
 ghost use Rattle.definitions.specs.Track.{slots};

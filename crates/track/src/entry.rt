@@ -1,5 +1,5 @@
 // The value at a key, as a track holds it.
-ghost use Rattle.std.specs.Prelude.{◌≡◌, ◌≤◌};
+ghost use Rattle.std.specs.Prelude.{length, ◌≡◌, ◌≤◌};
 ghost use Rattle.gf.specs.Doubles as Key;
 ghost use Rattle.laws.specs.cell.Keys.{entry_at_key};
 ghost use Rattle.laws.specs.cell.Lent.{AcceptedLists, set_of, samples_of};

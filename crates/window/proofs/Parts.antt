@@ -7,7 +7,7 @@ use lib.ListN.{length, get_or}
 use lib.Ieee.{Float, nan}
 use Rattle.definitions.specs.declared.Missing.{Missing}
 use Rattle.definitions.specs.declared.Start.{Start}
-use Rattle.definitions.specs.ClipSet.{ClipSet, stage, clip}
+use Rattle.definitions.specs.ClipSet.{ClipSet, stage}
 use Rattle.definitions.specs.Timing.{last_at_most, active_position}
 use Rattle.definitions.specs.Samples.{Samples, clip_times}
 use Rattle.laws.proofs.list.Every.{every-at, zip-at}

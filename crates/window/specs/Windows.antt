@@ -1,10 +1,8 @@
 -- A window's gathered times over the lent lists, part by part. Assumes nothing.
 use Rattle.std.specs.Prelude.{Bool, true, false, cond, List, [], ◌∷◌, ◌++◌, ℕ, ◌+◌, eqb, ltb, length, get_or, Float}
-use Rattle.std.proofs.Math.Option.{none}
 use Rattle.std.specs.Float.{nan, inf}
 use Rattle.gf.specs.declared.interval.Interval.{Interval}
 use Rattle.definitions.specs.Lists.{keep}
-use Rattle.definitions.specs.Value.{window}
 use Rattle.laws.specs.cell.Lent.{knots_of}
 use Rattle.window.specs.Bounds.{inside}
 use Rattle.window.specs.Inverses.{inverses_of}

@@ -1,15 +1,12 @@
 -- `lists::any_unstorable` meets its contract: those counted and what is left of the list answer for the whole. Assumes nothing.
-use Prim.Native.Nat.{ℕ, ◌+◌, ◌-◌, ◌≤◌}
-use mathlib.Core.Path.{◌≡◌, refl, sym, ap, ◌∙◌}
+use Prim.Native.Nat.{◌-◌, ◌≤◌}
+use mathlib.Core.Path.{◌≡◌}
 use mathlib.Core.Bool.{Bool, not, ◌||◌}
-use native.Mathlib.Omega.{arith}
-use borrow.Author.Rules.{rules}
 use lib.Dec.{ltb}
-use lib.ListN.{length, get_or, drop}
-use lib.Ieee.{Float, nan}
+use lib.ListN.{length, drop}
+use lib.Ieee.{Float}
 use Rattle.gf.specs.Doubles.{storable}
 use Rattle.definitions.specs.Lists.{any}
-use Rattle.lists.proofs.Fronts.{any_found, at_most_one, counted-all}
 use Rattle.lists.proofs.any_unstorable.Given as goal
 
 -- `lists::any_unstorable` meets its contract: those counted and what is left of the list answer for the whole. Assumes nothing.

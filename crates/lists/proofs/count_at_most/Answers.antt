@@ -2,11 +2,7 @@
 use Prim.Native.Nat.{ℕ, ◌+◌, ◌-◌, ◌≤◌}
 use mathlib.Core.Path.{◌≡◌, refl, ap, ap₂, ◌∙◌}
 use mathlib.Core.Bool.{Bool, cond}
-use mathlib.Core.List.{List}
 use native.Mathlib.Omega.{arith}
-use lib.ListN.{get_or}
-use lib.Ieee.{Float, nan, le}
-use borrow.Author.Rules.{rules}
 use Rattle.definitions.specs.Lists.{count_from}
 use Rattle.definitions.proofs.Reading.{count-one}
 use Rattle.lists.proofs.Fronts.{at_most_one}

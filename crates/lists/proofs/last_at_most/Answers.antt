@@ -1,11 +1,9 @@
 -- `lists::last_at_most` meets its contract. The number of times that are at most t stays between lo and hi, and hi - lo falls. Assumes nothing.
-use Prim.Native.Nat.{◌+◌, ◌-◌, ◌/◌, ◌≤◌, ◌<◌}
+use Prim.Native.Nat.{◌+◌, ◌-◌, ◌/◌, ◌<◌}
 use mathlib.Core.Path.{sym, subst}
 use native.Mathlib.Omega.{arith}
 use lib.Dec.{T}
-use lib.ListN.{length}
 use lib.Ieee.{nan, binary64, fits}
-use borrow.Author.Rules.{rules}
 use Rattle.laws.proofs.list.Places.{at_most, at-most-length, beyond, up_to, last-is}
 use Rattle.lists.proofs.last_at_most.Goals.{Start as At-start}
 use Rattle.lists.proofs.last_at_most.Goals as goal

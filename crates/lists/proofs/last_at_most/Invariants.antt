@@ -1,12 +1,7 @@
 -- `lists::last_at_most` meets its contract. The number of times that are at most t stays between lo and hi, and hi - lo falls. Assumes nothing.
-use Prim.Native.Nat.{◌+◌, ◌-◌, ◌/◌, ◌≤◌, ◌<◌}
-use mathlib.Core.Path.{sym, subst}
-use native.Mathlib.Omega.{arith}
-use lib.Dec.{T}
+use Prim.Native.Nat.{◌-◌, ◌≤◌}
 use lib.ListN.{length}
-use lib.Ieee.{nan, binary64, fits}
-use borrow.Author.Rules.{rules}
-use Rattle.laws.proofs.list.Places.{at_most, at-most-length, beyond, up_to, last-is}
+use Rattle.laws.proofs.list.Places.{at_most}
 use Rattle.lists.proofs.last_at_most.Given as goal
 
 abbrev pub invariant-loop-lo : goal.invariant-loop-lo

@@ -1,6 +1,5 @@
 -- `lists::map_time` meets its contract. Assumes nothing.
 use mathlib.Core.Path.{ap}
-use borrow.Author.Rules.{rules}
 use Rattle.definitions.specs.ClipSet.{clip}
 use Rattle.definitions.specs.Timing.{map_stage_to_clip}
 use Rattle.lists.proofs.map_time.Goals as goal

@@ -1,12 +1,11 @@
 -- `lists::partition_point` meets its contract. What the search finds from here on is what it finds in the whole list, and ever fewer places are left. Assumes nothing.
 use Prim.Native.Nat.{ℕ, ◌+◌, ◌-◌, ◌/◌, ◌≤◌, ◌<◌}
 use mathlib.Core.Path.{◌≡◌, refl, sym, ap, ◌∙◌}
-use mathlib.Core.Logic.{⊎_elim}
 use mathlib.Core.Bool.{Bool, true, false, cond}
 use mathlib.Core.List.{List}
 use native.Mathlib.Omega.{arith}
-use lib.ListN.{length, get_or}
-use lib.Ieee.{Float, nan, le}
+use lib.ListN.{length}
+use lib.Ieee.{Float}
 use Rattle.definitions.specs.Reading.{by_halves, partition_point}
 use Rattle.definitions.proofs.Reading.{halves-few, halves-by, partition-within}
 use Rattle.lists.proofs.partition_point.Invariants.{at_most}

@@ -1,12 +1,7 @@
 -- `lists::three_equal` meets its contract: the neighbours that are left answer for all. Assumes nothing.
-use Prim.Native.Nat.{◌-◌, ◌≤◌}
-use mathlib.Core.Path.{◌≡◌, refl, sym, ◌∙◌}
-use mathlib.Core.Bool.{Bool, ◌&&◌}
+use mathlib.Core.Path.{refl, sym, ◌∙◌}
 use native.Mathlib.Omega.{arith}
-use borrow.Author.Rules.{rules}
-use lib.ListN.{length, drop}
-use lib.Ieee.{Float, nan, eq}
-use Rattle.definitions.specs.Lists.{any, pairs}
+use lib.Ieee.{nan}
 use Rattle.lists.proofs.Neighbours.{three-here, three-later, three-end}
 use Rattle.lists.proofs.three_equal.Invariants.{equal}
 use Rattle.lists.proofs.three_equal.Goals as goal

@@ -1,13 +1,10 @@
 -- `lists::two_equal` meets its contract: the pairs that are left answer for all. Assumes nothing.
 use Prim.Native.Nat.{◌-◌, ◌≤◌}
-use mathlib.Core.Path.{◌≡◌, refl, sym, ◌∙◌}
+use mathlib.Core.Path.{◌≡◌}
 use mathlib.Core.Bool.{Bool}
-use native.Mathlib.Omega.{arith}
-use borrow.Author.Rules.{rules}
 use lib.ListN.{length, drop}
-use lib.Ieee.{Float, nan, eq}
+use lib.Ieee.{Float, eq}
 use Rattle.definitions.specs.Lists.{any, pairs}
-use Rattle.lists.proofs.Neighbours.{pair-here, pair-later, pair_end}
 use Rattle.lists.proofs.two_equal.Given as goal
 
 -- `lists::two_equal` meets its contract: the pairs that are left answer for all. Assumes nothing.

@@ -1,7 +1,6 @@
 -- `lists::unstorable` meets its contract. Assumes nothing.
 use mathlib.Core.Path.{sym, ap, ◌∙◌}
 use mathlib.Core.Bool.{Bool, not, cond}
-use borrow.Author.Rules.{rules}
 use Rattle.lists.proofs.unstorable.Goals as goal
 
 pub returns-then-is_storable : goal.returns-then-is_storable

@@ -1,7 +1,6 @@
 -- `window::window_max` meets its contract. Assumes nothing.
 use lib.Ieee.{of_bits, neg, div}
 use borrow.Author.Tests.{lt-ltb, le-ltb}
-use borrow.Author.Rules.{rules}
 use Rattle.window.proofs.window_max.Goals as goal
 
 pub returns-then-next-starts : goal.returns-then-next-starts

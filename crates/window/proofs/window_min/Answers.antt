@@ -1,7 +1,6 @@
 -- `window::window_min` meets its contract. Assumes nothing.
 use lib.Ieee.{of_bits, neg, div}
 use borrow.Author.Tests.{eq-eqb, ne_eqb}
-use borrow.Author.Rules.{rules}
 use Rattle.window.proofs.window_min.Goals as goal
 
 pub returns-then-p-eq0 : goal.returns-then-p-eq0

@@ -1,11 +1,10 @@
 -- The neighbours with the time at a place of a list, and a time that lies in its interval. Assumes nothing.
-use Rattle.std.specs.Prelude.{cond, List, ℕ, ◌-◌, ◌≤◌, ◌<◌, ltb, length, get_or, Float}
+use Rattle.std.specs.Prelude.{cond, List, ℕ, ◌≤◌, ◌<◌, ltb, length, get_or, Float}
 use Rattle.std.specs.Float.{nan}
 use Rattle.gf.specs.Doubles.{key}
 use Rattle.gf.specs.declared.interval.Interval.{Interval}
 use Rattle.laws.specs.list.Places.{Number}
 use Rattle.window.specs.declared.Neighbours.{Neighbours}
-use Rattle.window.specs.Bounds.{inside}
 use Rattle.window.specs.nearest.Nearest.{with_inside}
 
 unfoldable pub with_place : Interval → Float → List Float → Neighbours → ℕ → Neighbours

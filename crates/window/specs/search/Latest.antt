@@ -3,7 +3,6 @@ use Rattle.std.specs.Prelude.{List, ℕ, ◌+◌, ◌<◌, T, length, get_or, Fl
 use Rattle.std.specs.Float.{nan}
 use Rattle.std.specs.Float.Ieee.{le}
 use Rattle.definitions.specs.declared.Knot.{Knot}
-use Rattle.definitions.specs.Explicit.{knot}
 use Rattle.definitions.specs.Value.{spans, inverse}
 use Rattle.laws.specs.list.Places.{Number}
 use Rattle.lists.specs.Segments.{knot_at}

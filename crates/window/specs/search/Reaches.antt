@@ -4,7 +4,6 @@ use Rattle.std.specs.Float.Ieee.{le}
 use Rattle.gf.specs.declared.interval.Interval.{Interval}
 use Rattle.definitions.specs.Lists.{keep, pairs}
 use Rattle.definitions.specs.Doubles.{FiniteDouble}
-use Rattle.definitions.specs.Value.{inverse}
 use Rattle.laws.specs.list.Every.{Every}
 use Rattle.laws.specs.list.Places.{Ascending, Number}
 use Rattle.laws.specs.cell.Lent.{knots_of}

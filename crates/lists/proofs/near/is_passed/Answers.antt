@@ -4,7 +4,6 @@ use native.Mathlib.Omega.{arith}
 use lib.Dec.{T}
 use lib.Ieee.{binary64, fits}
 use Rattle.lists.proofs.Beside.{passed_is, not-passed}
-use borrow.Author.Rules.{rules}
 use Rattle.lists.proofs.near.is_passed.Goals.{Start as At-start}
 use Rattle.lists.proofs.near.is_passed.Goals as goal
 

@@ -2,7 +2,6 @@
 use mathlib.Core.Path.{sym, ◌∙◌}
 use Rattle.definitions.specs.Timing.{last_at_most}
 use Rattle.lists.proofs.Beside.{at_place, behind-place}
-use borrow.Author.Rules.{rules}
 use Rattle.lists.proofs.near.is_place.Goals as goal
 
 pub returns-then-is_passed : goal.returns-then-is_passed

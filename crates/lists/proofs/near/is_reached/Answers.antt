@@ -6,7 +6,6 @@ use Rattle.definitions.specs.Timing.{last_at_most}
 use lib.Ieee.{binary64, fits}
 use borrow.Author.Tests.{le-leb}
 use Rattle.lists.proofs.Beside.{reached-is}
-use borrow.Author.Rules.{rules}
 use Rattle.lists.proofs.near.is_reached.Goals.{Start as At-start}
 use Rattle.lists.proofs.near.is_reached.Goals as goal
 

@@ -1,6 +1,5 @@
 -- `lists::near::last_at_most_near` meets its contract. Assumes nothing.
 use mathlib.Core.Path.{sym}
-use borrow.Author.Rules.{rules}
 use Rattle.lists.proofs.near.last_at_most_near.Goals as goal
 
 pub returns-then-is_near : goal.returns-then-is_near

@@ -1,5 +1,4 @@
 -- `lists::segment::clip_time` meets its contract. Assumes nothing.
-use borrow.Author.Rules.{rules}
 use Rattle.definitions.specs.Timing.{on_segment}
 use Rattle.lists.proofs.segment.clip_time.Goals as goal
 

@@ -1,6 +1,5 @@
 -- `lists::segment::segment_at` meets its contract. Assumes nothing.
 use mathlib.Core.Path.{ap₂}
-use borrow.Author.Rules.{rules}
 use Rattle.definitions.specs.declared.Knot.{Knot}
 use Rattle.definitions.specs.declared.Segment.{Segment}
 use Rattle.lists.proofs.segment.segment_at.Goals as goal

@@ -1,11 +1,8 @@
 -- `lists::writing::copy` meets its contract: the first i entries are copied. Assumes nothing.
 use Prim.Native.Nat.{◌-◌}
-use mathlib.Core.Path.{◌≡◌, refl, ◌∙◌}
-use native.Mathlib.Omega.{arith}
-use borrow.Author.Rules.{rules}
-use lib.ListN.{length, length-set}
-use lib.Ieee.{nan}
-use Rattle.lists.proofs.Filled.{Filled, fill_start, fill-next, fill-whole}
+use mathlib.Core.Path.{◌≡◌}
+use lib.ListN.{length}
+use Rattle.lists.proofs.Filled.{Filled}
 use Rattle.lists.proofs.writing.copy.Given as goal
 
 abbrev pub invariant-loop-i : goal.invariant-loop-i

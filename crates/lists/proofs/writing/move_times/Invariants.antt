@@ -1,11 +1,8 @@
 -- `lists::writing::move_times` meets its contract: the first i times are moved, the others as they were. Assumes nothing.
 use Prim.Native.Nat.{◌-◌}
-use native.Mathlib.Omega.{arith}
-use borrow.Author.Rules.{rules}
 use lib.ListN.{length}
-use lib.Ieee.{nan}
 use Rattle.definitions.specs.Retime.{apply}
-use Rattle.lists.proofs.Filled.{Changed, change-start, change-next, change-end}
+use Rattle.lists.proofs.Filled.{Changed}
 use Rattle.lists.proofs.writing.move_times.Given as goal
 
 abbrev pub invariant-loop-i : goal.invariant-loop-i

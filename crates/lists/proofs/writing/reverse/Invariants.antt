@@ -1,10 +1,7 @@
 -- `lists::writing::reverse` meets its contract: i entries at each end have changed places. Assumes nothing.
-use Prim.Native.Nat.{◌-◌, ◌<◌}
-use native.Mathlib.Omega.{arith}
-use borrow.Author.Rules.{rules}
-use lib.ListN.{length, length-set}
+use Prim.Native.Nat.{◌-◌}
 use lib.Ieee.{nan}
-use Rattle.lists.proofs.Reversed.{Turned, turned_none, turned-next, turned-all}
+use Rattle.lists.proofs.Reversed.{Turned}
 use Rattle.lists.proofs.writing.reverse.Given as goal
 
 abbrev pub invariant-loop-i : goal.invariant-loop-i

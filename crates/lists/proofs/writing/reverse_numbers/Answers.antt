@@ -1,9 +1,8 @@
 -- `lists::writing::reverse_numbers` meets its contract: i entries at each end have changed places. Assumes nothing.
 use Prim.Native.Nat.{◌-◌, ◌<◌}
 use native.Mathlib.Omega.{arith}
-use borrow.Author.Rules.{rules}
 use lib.ListN.{length, length-set}
-use Rattle.lists.proofs.Reversed.{Turned, turned_none, turned-next, turned-all}
+use Rattle.lists.proofs.Reversed.{turned_none, turned-next, turned-all}
 use Rattle.lists.proofs.writing.reverse_numbers.Goals as goal
 
 pub loop-i-init : goal.loop-i-init

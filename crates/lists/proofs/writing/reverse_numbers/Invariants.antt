@@ -1,9 +1,6 @@
 -- `lists::writing::reverse_numbers` meets its contract: i entries at each end have changed places. Assumes nothing.
-use Prim.Native.Nat.{◌-◌, ◌<◌}
-use native.Mathlib.Omega.{arith}
-use borrow.Author.Rules.{rules}
-use lib.ListN.{length, length-set}
-use Rattle.lists.proofs.Reversed.{Turned, turned_none, turned-next, turned-all}
+use Prim.Native.Nat.{◌-◌}
+use Rattle.lists.proofs.Reversed.{Turned}
 use Rattle.lists.proofs.writing.reverse_numbers.Given as goal
 
 abbrev pub invariant-loop-i : goal.invariant-loop-i

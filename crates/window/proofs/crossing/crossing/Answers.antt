@@ -1,10 +1,8 @@
 -- `window::crossing::crossing` meets its contract. Assumes nothing.
 use native.Mathlib.Omega.{arith}
-use borrow.Author.Tests.{not-true, not-false}
 use Rattle.definitions.specs.Explicit.{knot}
 use Rattle.window.specs.nearest.Crossings.{is_beyond}
 use Rattle.window.proofs.nearest.CrossingLaws.{turn-next}
-use borrow.Author.Rules.{rules}
 use Rattle.window.proofs.crossing.crossing.Goals as goal
 
 pub overflow_add-next : goal.overflow_add-next

@@ -8,7 +8,6 @@ use lib.Ieee.{nan}
 use borrow.Author.Tests.{not-true}
 use Rattle.definitions.specs.Explicit.{knot}
 use Rattle.window.specs.nearest.Crossings.{is_beyond}
-use borrow.Author.Rules.{rules}
 use Rattle.window.proofs.crossing.ends_before.Goals as goal
 
 pub returns-then-cs-n : goal.returns-then-cs-n

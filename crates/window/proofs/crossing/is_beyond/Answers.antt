@@ -2,7 +2,6 @@
 use mathlib.Core.Path.{ap}
 use lib.Ieee.{Float, lt, le}
 use Rattle.window.specs.nearest.Crossings.{is_beyond}
-use borrow.Author.Rules.{rules}
 use Rattle.window.proofs.crossing.is_beyond.Goals as goal
 
 pub returns-then-cb-c : goal.returns-then-cb-c

@@ -1,13 +1,11 @@
 -- `window::crossing::search_crossing` meets its contract: the sample before lo is not beyond, the one at hi is, and hi - lo falls. Assumes nothing.
-use Prim.Native.Nat.{ℕ, suc, ◌+◌, ◌-◌, ◌/◌, ◌≤◌, ◌<◌}
-use mathlib.Core.Path.{◌≡◌, sym, ◌∙◌, subst}
+use Prim.Native.Nat.{ℕ, suc, ◌-◌, ◌≤◌, ◌<◌}
+use mathlib.Core.Path.{◌≡◌}
 use mathlib.Core.Bool.{true, false}
-use native.Mathlib.Omega.{arith}
 use lib.ListN.{length, get_or}
 use lib.Ieee.{nan}
 use Rattle.definitions.specs.Explicit.{knot}
 use Rattle.window.specs.nearest.Crossings.{is_beyond}
-use borrow.Author.Rules.{rules}
 use Rattle.window.proofs.crossing.search_crossing.Given as goal
 
 abbrev pub invariant-loop-lo : goal.invariant-loop-lo

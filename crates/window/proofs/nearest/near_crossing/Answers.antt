@@ -1,7 +1,6 @@
 -- `window::nearest::near_crossing` meets its contract. Assumes nothing.
 use native.Mathlib.Omega.{arith}
 use Rattle.window.proofs.nearest.CrossingLaws.{before_here, before-none, turn-searched}
-use borrow.Author.Rules.{rules}
 use Rattle.window.proofs.nearest.near_crossing.Goals as goal
 
 pub returns-then-n-eq0 : goal.returns-then-n-eq0

@@ -7,7 +7,6 @@ use Rattle.window.specs.declared.Neighbours.{Neighbours}
 use Rattle.window.specs.Bounds.{inside}
 use Rattle.window.specs.nearest.Nearest.{Searched, with_inside}
 use Rattle.window.proofs.nearest.CrossingLaws.{pair_inside, pair-outside}
-use borrow.Author.Rules.{rules}
 use Rattle.window.proofs.nearest.near_inverse.Goals as goal
 
 pub returns-then-spans : goal.returns-then-spans

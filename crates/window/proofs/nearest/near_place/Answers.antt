@@ -1,7 +1,6 @@
 -- `window::nearest::near_place` meets its contract. Assumes nothing.
 use borrow.Author.Tests.{lt-ltb, le-ltb}
 use Rattle.window.specs.nearest.Beside.{with_place}
-use borrow.Author.Rules.{rules}
 use Rattle.window.proofs.nearest.near_place.Goals as goal
 
 pub returns-then-i-xs : goal.returns-then-i-xs

@@ -1,6 +1,5 @@
 -- `window::nearest::near_sample` meets its contract. Assumes nothing.
 use Rattle.window.proofs.nearest.CrossingLaws.{sample-here, sample-none}
-use borrow.Author.Rules.{rules}
 use Rattle.window.proofs.nearest.near_sample.Goals as goal
 
 pub returns-then-i-cs : goal.returns-then-i-cs

@@ -8,7 +8,6 @@ use Rattle.window.specs.Bounds.{inside}
 use Rattle.window.specs.nearest.Nearest.{Searched}
 use Rattle.window.specs.nearest.Beside.{with_place}
 use Rattle.window.proofs.nearest.Beside.{beside-searched, last-small}
-use borrow.Author.Rules.{rules}
 use Rattle.window.proofs.nearest.near_times.Goals as goal
 
 pub overflow_add-i : goal.overflow_add-i

@@ -1,7 +1,6 @@
 -- `window::search::is_past` meets its contract. Assumes nothing.
 use mathlib.Core.Bool.{false≢true}
 use Rattle.window.proofs.search.Reaches.{past_all}
-use borrow.Author.Rules.{rules}
 use Rattle.window.proofs.search.is_past.Goals as goal
 
 pub returns-in-At : goal.returns-in-At

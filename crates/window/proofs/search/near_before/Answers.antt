@@ -1,8 +1,7 @@
 -- `window::search::near_before` meets its contract: the segments from j up to `to` are searched. Assumes nothing.
-use Prim.Native.Nat.{ℕ, ◌-◌, ◌≤◌}
+use Prim.Native.Nat.{ℕ, ◌-◌}
 use mathlib.Core.Path.{◌≡◌, subst}
 use native.Mathlib.Omega.{arith}
-use borrow.Author.Rules.{rules}
 use Rattle.window.specs.search.Reaches.{Reached}
 use Rattle.window.specs.search.Windowed.{bounds_of}
 use Rattle.window.proofs.search.Reaches.{reached-none, reached-one, reached-past}
@@ -22,7 +21,7 @@ returns-then-is_past c =
     let k = u in
     let s = k in
     let a = s.args in
-            reached-past a.t a.w a.xs.now a.ys.now a.cs.now s.requires.searchable_1.faces s.requires.searchable_1.time s.requires.searchable_1.knots s.requires.searchable_1.paired s.requires.searchable_1.segments a.i s.requires.searchable_4 s.requires.searchable_3 a.to k.loop-j.j k.loop-j.invariant.0 s.requires.to_in_bounds
+    reached-past a.t a.w a.xs.now a.ys.now a.cs.now s.requires.searchable_1.faces s.requires.searchable_1.time s.requires.searchable_1.knots s.requires.searchable_1.paired s.requires.searchable_1.segments a.i s.requires.searchable_4 s.requires.searchable_3 a.to k.loop-j.j k.loop-j.invariant.0 s.requires.to_in_bounds
     u.latest_before.result u.latest_before.ensures (c.is_past.ensures c.if-is_past.true) k.loop-j.invariant.1
 
 pub overflow_sub-j : goal.overflow_sub-j

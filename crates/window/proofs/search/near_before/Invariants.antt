@@ -1,11 +1,7 @@
 -- `window::search::near_before` meets its contract: the segments from j up to `to` are searched. Assumes nothing.
-use Prim.Native.Nat.{ℕ, ◌-◌, ◌≤◌}
-use mathlib.Core.Path.{◌≡◌, subst}
-use native.Mathlib.Omega.{arith}
-use borrow.Author.Rules.{rules}
+use Prim.Native.Nat.{◌≤◌}
 use Rattle.window.specs.search.Reaches.{Reached}
 use Rattle.window.specs.search.Windowed.{bounds_of}
-use Rattle.window.proofs.search.Reaches.{reached-none, reached-one, reached-past}
 use Rattle.window.proofs.search.near_before.Given as goal
 
 abbrev pub invariant-loop-j : goal.invariant-loop-j

@@ -8,7 +8,6 @@ use Rattle.window.specs.SoundSegments.{SoundSegment}
 use Rattle.window.specs.nearest.Nearest.{Searched}
 use Rattle.window.specs.search.Windowed.{bounds_of}
 use Rattle.window.proofs.search.LatestLaws.{segment-here}
-use borrow.Author.Rules.{rules}
 use Rattle.window.proofs.search.near_segment.Goals as goal
 
 pub segment_at-s-requires : goal.segment_at-s-requires
@@ -18,7 +17,7 @@ pub near_crossing-found-requires : goal.near_crossing-found-requires
 near_crossing-found-requires c =
     let m = c in
     let s = m in
-        record { fact_1 = subst (λ (q : Segment). SoundSegment (q.a, q.b)) (sym m.segment_at-s.ensures) (segment-here s.args.xs.now s.args.ys.now s.requires.fact_1.paired s.requires.fact_1.segments s.args.j s.requires.fact_2); fact_2 = s.requires.fact_1.samples; fact_3 = s.requires.fact_1.faces; fact_4 = c.crossing-n.ensures }
+    record { fact_1 = subst (λ (q : Segment). SoundSegment (q.a, q.b)) (sym m.segment_at-s.ensures) (segment-here s.args.xs.now s.args.ys.now s.requires.fact_1.paired s.requires.fact_1.segments s.args.j s.requires.fact_2); fact_2 = s.requires.fact_1.samples; fact_3 = s.requires.fact_1.faces; fact_4 = c.crossing-n.ensures }
 
 pub returns : goal.returns
 returns c =

@@ -1,7 +1,6 @@
 -- `window::search::near_starts` meets its contract. Assumes nothing.
 use lib.Ieee.{of_bits, div}
 use Rattle.window.proofs.search.Windowed.{starts-two, starts-one}
-use borrow.Author.Rules.{rules}
 use Rattle.window.proofs.search.near_starts.Goals as goal
 
 pub returns-then-max : goal.returns-then-max

@@ -1,6 +1,5 @@
 -- `window::nearest::candidate::greater` meets its contract. Assumes nothing.
 use Rattle.window.proofs.nearest.Nearest.{greater-keeps, greater-takes, greater-first}
-use borrow.Author.Rules.{rules}
 use Rattle.window.proofs.nearest.candidate.greater.Goals as goal
 
 pub returns-then-x-y : goal.returns-then-x-y

@@ -1,6 +1,5 @@
 -- `window::nearest::candidate::lesser` meets its contract. Assumes nothing.
 use Rattle.window.proofs.nearest.Nearest.{lesser-keeps, lesser-takes, lesser-first}
-use borrow.Author.Rules.{rules}
 use Rattle.window.proofs.nearest.candidate.lesser.Goals as goal
 
 pub returns-then-y-x : goal.returns-then-y-x

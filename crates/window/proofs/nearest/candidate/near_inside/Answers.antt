@@ -1,7 +1,6 @@
 -- `window::nearest::candidate::near_inside` meets its contract. Assumes nothing.
 use mathlib.Core.Path.{sym, ◌∙◌}
 use Rattle.window.specs.nearest.Nearest.{with_inside}
-use borrow.Author.Rules.{rules}
 use Rattle.window.proofs.nearest.candidate.near_inside.Goals as goal
 
 pub returns-then-contains : goal.returns-then-contains

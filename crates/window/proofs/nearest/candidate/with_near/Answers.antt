@@ -2,7 +2,6 @@
 use mathlib.Core.Path.{ap}
 use Rattle.window.specs.Bounds.{with_lower, with_upper}
 use Rattle.window.specs.nearest.Nearest.{with_near}
-use borrow.Author.Rules.{rules}
 use Rattle.window.proofs.nearest.candidate.with_near.Goals as goal
 
 pub returns-then-x-t : goal.returns-then-x-t

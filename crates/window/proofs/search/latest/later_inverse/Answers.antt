@@ -3,7 +3,6 @@ use mathlib.Core.Path.{sym, ap, ◌∙◌, subst}
 use lib.Ieee.{Float, lt}
 use Rattle.window.specs.search.Latest.{LaterInverse}
 use Rattle.window.proofs.search.LatestLaws.{top-flat, top-higher, top-lower}
-use borrow.Author.Rules.{rules}
 use Rattle.window.proofs.search.latest.later_inverse.Goals as goal
 
 pub returns-then-s-cb : goal.returns-then-s-cb

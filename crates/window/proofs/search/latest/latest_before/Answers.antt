@@ -5,7 +5,6 @@ use native.Mathlib.Omega.{arith}
 use lib.ListN.{get_or}
 use lib.Ieee.{nan}
 use Rattle.window.specs.search.Latest.{LatestBefore}
-use borrow.Author.Rules.{rules}
 use Rattle.window.proofs.search.latest.latest_before.Goals as goal
 
 pub returns-then-last-latest : goal.returns-then-last-latest

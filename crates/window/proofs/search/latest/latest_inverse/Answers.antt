@@ -1,5 +1,5 @@
 -- `window::search::latest::latest_inverse` meets its contract: top stands for the segments before k. Assumes nothing.
-use Prim.Native.Nat.{ℕ, ◌-◌, ◌≤◌}
+use Prim.Native.Nat.{ℕ}
 use mathlib.Core.Path.{◌≡◌, sym, subst}
 use native.Mathlib.Omega.{arith}
 use lib.Ieee.{of_bits, neg, div, fits, is_nan}

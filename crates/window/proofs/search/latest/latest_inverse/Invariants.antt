@@ -1,12 +1,6 @@
 -- `window::search::latest::latest_inverse` meets its contract: top stands for the segments before k. Assumes nothing.
-use Prim.Native.Nat.{ℕ, ◌-◌, ◌≤◌}
-use mathlib.Core.Path.{◌≡◌, sym, subst}
-use native.Mathlib.Omega.{arith}
-use lib.Ieee.{of_bits, neg, div, fits, is_nan}
-use Rattle.definitions.specs.declared.Segment.{Segment}
-use Rattle.window.specs.SoundSegments.{SoundSegment}
-use Rattle.window.specs.search.Latest.{LaterInverse, LatestBefore}
-use Rattle.window.proofs.search.LatestLaws.{reach-none, reach-next, segment-here}
+use Prim.Native.Nat.{◌-◌, ◌≤◌}
+use Rattle.window.specs.search.Latest.{LatestBefore}
 use Rattle.window.proofs.search.latest.latest_inverse.Given as goal
 
 abbrev pub invariant-loop-k : goal.invariant-loop-k

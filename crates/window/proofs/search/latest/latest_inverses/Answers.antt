@@ -1,14 +1,11 @@
 -- `window::search::latest::latest_inverses` meets its contract: the latest of the segments before i stand. Assumes nothing.
-use Prim.Native.Nat.{◌-◌, ◌≤◌}
 use mathlib.Core.Path.{sym, subst}
 use native.Mathlib.Omega.{arith}
-use lib.ListN.{length}
 use lib.Ieee.{of_bits, neg, div, fits, is_nan}
 use Rattle.definitions.specs.declared.Segment.{Segment}
 use Rattle.window.specs.SoundSegments.{SoundSegment}
 use Rattle.window.specs.search.Latest.{LaterInverse}
-use Rattle.window.proofs.search.LatestLaws.{TopsTo, latest-none, latest-next, latest-all, segment-here}
-use borrow.Author.Rules.{rules}
+use Rattle.window.proofs.search.LatestLaws.{latest-none, latest-next, latest-all, segment-here}
 use Rattle.window.proofs.search.latest.latest_inverses.Goals as goal
 
 pub loop-i-init : goal.loop-i-init
