@@ -4,7 +4,6 @@ use mathlib.Core.Path.{◌≡◌, refl}
 use mathlib.Core.List.{List}
 use lib.Ieee.{Float}
 use Rattle.definitions.specs.declared.Missing.{Missing}
-use Rattle.definitions.specs.ClipSet as Definitions
 use Rattle.definitions.specs.ClipSet.{max_active, max_knots, max_blocks, sort_active, sort_knots, beyond_limits, equal_starts, equal_knots}
 use Rattle.definitions.specs.Retime.{sorted}
 use Rattle.laws.specs.cell.Lent.{active_of, knots_of, set_of}

@@ -13,8 +13,7 @@ ghost use Rattle.clip.specs.Holding.{Room};
 ghost use Rattle.value.specs.Untimed.{untimed_of};
 ghost use Rattle.track.specs.Bakes.{track_of, BakeIs};
 ghost use Rattle.standing.specs.Lists.{count_of, ListsTimes, ListsSamples};
-ghost use Rattle.standing.specs.Standing.{Asked, TimesAsked, lent_times, SamplesAsked, answered};
-ghost use Rattle.standing.specs.Standing.{lent_set, lent_unblocked};
+ghost use Rattle.standing.specs.Standing.{lent_set, lent_unblocked, Asked, TimesAsked, lent_times, SamplesAsked, answered};
 
 use crate::Counts;
 use definitions::{ClipTime, Missing, StageTime, ValueRead, ValueState, refusal};

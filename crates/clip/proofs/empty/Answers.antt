@@ -1,5 +1,4 @@
 -- `clip::empty` meets its contract. Assumes nothing.
-use borrow.Author.Rules.{rules}
 use lib.Ieee.{of_bits}
 use Rattle.clip.proofs.empty.Goals as goal
 

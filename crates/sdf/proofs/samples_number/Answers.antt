@@ -2,7 +2,6 @@
 use Prim.Native.Nat.{ℕ}
 use mathlib.Core.Path.{◌≡◌, sym, ◌∙◌}
 use mathlib.Core.Bool.{Bool, false}
-use borrow.Author.Tests.{not-true, not-false}
 use lib.ListN.{length}
 use Rattle.definitions.specs.Lists.{any, zip_with}
 use Rattle.definitions.specs.ClipSet.{ClipSet}
@@ -11,7 +10,6 @@ use Rattle.laws.specs.cell.Lent.{samples_of}
 use Rattle.sdf.proofs.Lent.{every-fits, paired}
 use Rattle.sdf.specs.Judged.{Judged}
 use Rattle.sdf.proofs.Numbers.{unlike, other-clips, a-nan, unstorable, unsound, a-mark, none-applies}
-use borrow.Author.Rules.{rules}
 use Rattle.sdf.proofs.samples_number.Goals.{After-unlike_lengths, Else-any_nan, Else-ends-clips, Else-unlike_lengths}
 use Rattle.sdf.proofs.samples_number.Goals as goal
 

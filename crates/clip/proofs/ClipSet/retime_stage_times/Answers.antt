@@ -2,13 +2,11 @@
 use mathlib.Core.Path.{◌≡◌, sym, subst, ◌∙◌}
 use mathlib.Core.Bool.{true, ◌&&◌}
 use native.Mathlib.Omega.{arith}
-use borrow.Author.Rules.{rules}
 use lib.Dec.{T}
 use lib.ListN.{length-take}
 use lib.Seq.{length-take-le}
 use lib.Ieee.Scale.{finite}
 use Rattle.laws.specs.list.Places.{Fits}
-use Rattle.clip.proofs.Laws.{untrue, holding}
 use Rattle.clip.proofs.Retimed.{retime-refuses, retime-identity, retime-settles}
 use Rattle.clip.proofs.ClipSet.retime_stage_times.Goals.{Else-not-is_finite, Start as At-start}
 use Rattle.clip.proofs.ClipSet.retime_stage_times.Goals as goal
@@ -47,13 +45,16 @@ slice_bounds-retime_lists-end-5 c = simp length-take (omega arith)
 
 pub retime_lists-requires : goal.retime_lists-requires
 retime_lists-requires c =
-    let h = c.requires.held in record { fact_1 = h; fact_2 = record {
+    let h = c.requires.held in record {
+      fact_1 = h;
+      fact_2 = record {
         times = length-take-le _ _ h.active.few;
         numbers = length-take-le _ _ h.active.few;
         xs = length-take-le _ _ h.knots.few;
         ys = length-take-le _ _ h.knots.few;
         blocks = length-take-le _ _ h.blocks.few;
-      } }
+      };
+    }
 
 pub returns : goal.returns
 returns c =

@@ -1,7 +1,6 @@
 -- `clip::retiming::retime_lists` meets its contract. Assumes nothing.
 use mathlib.Core.Path.{◌≡◌, refl, sym, ap, subst, ◌∙◌}
 use native.Mathlib.Omega.{arith}
-use borrow.Author.Rules.{rules}
 use Rattle.definitions.specs.ClipSet as Definitions
 use Rattle.laws.specs.cell.Lent.{set_of}
 use Rattle.clip.specs.Holding.{clip_set_of, manifest_of}
@@ -20,7 +19,7 @@ retimed s = moved_and_sorted s.args.o (clip_set_of s.args.set)
 -- the lists as they are stored, and their lengths
 abbrev lists : After-sort_turned → Definitions.ClipSet
 lists c =
-            let set = c.args.set in
+    let set = c.args.set in
     set_of set.clips c.sort_turned.new.times c.sort_turned.new.numbers c.sort_turned.new.xs c.sort_turned.new.ys c.unpack_moved.new.blocks (manifest_of set)
 
 lists-are : (c : After-sort_turned) → lists c ≡ retimed (goal.at.After-sort_turned c).Start
@@ -33,7 +32,7 @@ lists-are c =
 
 fitting : (c : After-sort_turned) → Fitting c.sort_turned.new.times c.sort_turned.new.numbers c.sort_turned.new.xs c.sort_turned.new.ys c.unpack_moved.new.blocks
 fitting c =
-                let times = c.sort_turned.auto.times ∙ c.unpack_moved.auto.times ∙ c.requires.fact_2.times in
+    let times = c.sort_turned.auto.times ∙ c.unpack_moved.auto.times ∙ c.requires.fact_2.times in
     let numbers = c.sort_turned.auto.numbers ∙ c.unpack_moved.auto.numbers ∙ c.requires.fact_2.numbers in
     let xs = c.sort_turned.auto.xs ∙ c.unpack_moved.auto.xs ∙ c.requires.fact_2.xs in
     let ys = c.sort_turned.auto.ys ∙ c.unpack_moved.auto.ys ∙ c.requires.fact_2.ys in
@@ -42,7 +41,7 @@ fitting c =
 
 number_is : (c : After-lists_number-number) → c.lists_number-number.result ≡ settle_number (retimed (goal.at.After-lists_number-number c).Start)
 number_is c =
-            let set = c.args.set in
+    let set = c.args.set in
     c.lists_number-number.ensures ∙ lists-number-is set.clips c.sort_turned.new.times c.sort_turned.new.numbers c.sort_turned.new.xs c.sort_turned.new.ys c.unpack_moved.new.blocks (manifest_of set) (fitting (goal.at.After-lists_number-number c).After-sort_turned) ∙ ap settle_number (lists-are (goal.at.After-lists_number-number c).After-sort_turned)
 
 pub returns-then-number-ne0 : goal.returns-then-number-ne0

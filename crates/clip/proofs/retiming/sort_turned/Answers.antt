@@ -1,6 +1,5 @@
 -- `clip::retiming::sort_turned` meets its contract. Assumes nothing.
 use mathlib.Core.Path.{refl}
-use borrow.Author.Rules.{rules}
 use lib.Ieee.{of_bits}
 use Rattle.clip.proofs.retiming.sort_turned.Goals as goal
 

@@ -1,5 +1,4 @@
 -- `clip::retiming::unpack_moved` meets its contract. Assumes nothing.
-use borrow.Author.Rules.{rules}
 use Rattle.clip.proofs.Moved.{moved-is}
 use Rattle.clip.proofs.retiming.unpack_moved.Goals as goal
 

@@ -1,16 +1,10 @@
 -- `clip::storage::pack_active` meets its contract: the first i entries are written. Assumes nothing.
 use Prim.Native.Nat.{◌-◌}
-use mathlib.Core.Path.{◌≡◌, sym, ◌∙◌}
-use native.Mathlib.Omega.{arith}
-use borrow.Author.Rules.{rules}
-use lib.ListN.{length, length-set}
-use lib.Ieee.{nan}
-use Rattle.laws.proofs.list.Every.{zip-at}
+use mathlib.Core.Path.{◌≡◌}
+use lib.ListN.{length}
 use Rattle.definitions.specs.ClipSet.{max_active}
-use Rattle.laws.specs.cell.Lent.{start, active_of}
-use Rattle.laws.proofs.cell.Lent.{zip_length}
-use Rattle.lists.proofs.Filled.{Filled, fill_start, fill-next}
-use Rattle.clip.proofs.Packing.{packed}
+use Rattle.laws.specs.cell.Lent.{active_of}
+use Rattle.lists.proofs.Filled.{Filled}
 use Rattle.clip.proofs.storage.pack_active.Given as goal
 
 abbrev pub invariant-loop-i : goal.invariant-loop-i

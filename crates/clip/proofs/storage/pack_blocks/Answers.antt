@@ -1,12 +1,10 @@
 -- `clip::storage::pack_blocks` meets its contract: the first i times are written. Assumes nothing.
-use Prim.Native.Nat.{◌-◌}
-use mathlib.Core.Path.{◌≡◌, refl, ◌∙◌}
+use mathlib.Core.Path.{refl, ◌∙◌}
 use native.Mathlib.Omega.{arith}
-use borrow.Author.Rules.{rules}
-use lib.ListN.{length, length-set}
+use lib.ListN.{length-set}
 use lib.Ieee.{nan}
 use Rattle.definitions.specs.ClipSet.{max_blocks}
-use Rattle.lists.proofs.Filled.{Filled, fill_start, fill-next}
+use Rattle.lists.proofs.Filled.{fill_start, fill-next}
 use Rattle.clip.proofs.Packing.{packed}
 use Rattle.clip.proofs.storage.pack_blocks.Goals as goal
 

@@ -1,13 +1,9 @@
 -- `clip::storage::pack_blocks` meets its contract: the first i times are written. Assumes nothing.
 use Prim.Native.Nat.{◌-◌}
-use mathlib.Core.Path.{◌≡◌, refl, ◌∙◌}
-use native.Mathlib.Omega.{arith}
-use borrow.Author.Rules.{rules}
-use lib.ListN.{length, length-set}
-use lib.Ieee.{nan}
+use mathlib.Core.Path.{◌≡◌}
+use lib.ListN.{length}
 use Rattle.definitions.specs.ClipSet.{max_blocks}
-use Rattle.lists.proofs.Filled.{Filled, fill_start, fill-next}
-use Rattle.clip.proofs.Packing.{packed}
+use Rattle.lists.proofs.Filled.{Filled}
 use Rattle.clip.proofs.storage.pack_blocks.Given as goal
 
 abbrev pub invariant-loop-i : goal.invariant-loop-i

@@ -1,16 +1,14 @@
 -- `clip::storage::pack_knots` meets its contract: the first i entries are written. Assumes nothing.
-use Prim.Native.Nat.{◌-◌}
-use mathlib.Core.Path.{◌≡◌, sym, ◌∙◌}
+use mathlib.Core.Path.{sym, ◌∙◌}
 use native.Mathlib.Omega.{arith}
-use borrow.Author.Rules.{rules}
-use lib.ListN.{length, length-set}
+use lib.ListN.{length-set}
 use lib.Ieee.{nan}
 use Rattle.laws.proofs.list.Every.{zip-at}
 use Rattle.definitions.specs.Explicit.{knot}
 use Rattle.definitions.specs.ClipSet.{max_knots}
 use Rattle.laws.specs.cell.Lent.{knots_of}
 use Rattle.laws.proofs.cell.Lent.{zip_length}
-use Rattle.lists.proofs.Filled.{Filled, fill_start, fill-next}
+use Rattle.lists.proofs.Filled.{fill_start, fill-next}
 use Rattle.clip.proofs.Packing.{packed}
 use Rattle.clip.proofs.storage.pack_knots.Goals as goal
 

@@ -1,15 +1,14 @@
 -- `clip::storage::unpack_active` meets its contract: the first i entries are written. Assumes nothing.
-use Prim.Native.Nat.{◌-◌, ◌≤◌}
-use mathlib.Core.Path.{◌≡◌, sym, ◌∙◌}
+use Prim.Native.Nat.{◌≤◌}
+use mathlib.Core.Path.{sym, ◌∙◌}
 use native.Mathlib.Omega.{arith}
-use borrow.Author.Rules.{rules}
 use lib.ListN.{length, length-set}
 use lib.Ieee.{nan}
 use Rattle.definitions.specs.declared.Start.{Start}
 use Rattle.definitions.specs.ClipSet.{active_times}
 use Rattle.laws.specs.cell.Lent.{start}
 use Rattle.clip.specs.Holding.{active_in, active_clips}
-use Rattle.lists.proofs.Filled.{Filled, fill_start, fill-next, fill-whole}
+use Rattle.lists.proofs.Filled.{fill_start, fill-next, fill-whole}
 use Rattle.clip.proofs.Packing.{unpacked-length, unpacked-at}
 use Rattle.clip.proofs.storage.unpack_active.Goals.{Start as At-start}
 use Rattle.clip.proofs.storage.unpack_active.Goals as goal

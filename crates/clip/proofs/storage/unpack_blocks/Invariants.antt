@@ -1,12 +1,8 @@
 -- `clip::storage::unpack_blocks` meets its contract: the first i times are written. Assumes nothing.
 use Prim.Native.Nat.{◌-◌}
-use mathlib.Core.Path.{◌≡◌, sym, ◌∙◌}
-use native.Mathlib.Omega.{arith}
-use borrow.Author.Rules.{rules}
-use lib.ListN.{length, length-set}
-use lib.Ieee.{nan}
-use lib.Seq.{length-take-le, get_or-take}
-use Rattle.lists.proofs.Filled.{Filled, fill_start, fill-next, fill-whole}
+use mathlib.Core.Path.{◌≡◌}
+use lib.ListN.{length}
+use Rattle.lists.proofs.Filled.{Filled}
 use Rattle.clip.specs.Holding.{blocks_in}
 use Rattle.clip.proofs.storage.unpack_blocks.Given as goal
 

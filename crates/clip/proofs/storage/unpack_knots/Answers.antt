@@ -1,8 +1,7 @@
 -- `clip::storage::unpack_knots` meets its contract: the first i entries are written. Assumes nothing.
-use Prim.Native.Nat.{◌-◌, ◌≤◌}
-use mathlib.Core.Path.{◌≡◌, sym, ◌∙◌}
+use Prim.Native.Nat.{◌≤◌}
+use mathlib.Core.Path.{sym, ◌∙◌}
 use native.Mathlib.Omega.{arith}
-use borrow.Author.Rules.{rules}
 use lib.ListN.{length, length-set}
 use lib.Ieee.{nan}
 use Rattle.definitions.specs.declared.Knot.{Knot}
@@ -10,7 +9,7 @@ use Rattle.definitions.specs.ClipSet.{knot_times}
 use Rattle.definitions.specs.Explicit.{knot}
 use Rattle.laws.specs.set.Sound.{knot_values}
 use Rattle.clip.specs.Holding.{knots_in}
-use Rattle.lists.proofs.Filled.{Filled, fill_start, fill-next, fill-whole}
+use Rattle.lists.proofs.Filled.{fill_start, fill-next, fill-whole}
 use Rattle.clip.proofs.Packing.{unpacked-length, unpacked-at}
 use Rattle.clip.proofs.storage.unpack_knots.Goals.{Start as At-start}
 use Rattle.clip.proofs.storage.unpack_knots.Goals as goal

@@ -1,17 +1,11 @@
 -- `clip::storage::unpack_knots` meets its contract: the first i entries are written. Assumes nothing.
-use Prim.Native.Nat.{◌-◌, ◌≤◌}
-use mathlib.Core.Path.{◌≡◌, sym, ◌∙◌}
-use native.Mathlib.Omega.{arith}
-use borrow.Author.Rules.{rules}
-use lib.ListN.{length, length-set}
-use lib.Ieee.{nan}
-use Rattle.definitions.specs.declared.Knot.{Knot}
+use Prim.Native.Nat.{◌-◌}
+use mathlib.Core.Path.{◌≡◌}
+use lib.ListN.{length}
 use Rattle.definitions.specs.ClipSet.{knot_times}
-use Rattle.definitions.specs.Explicit.{knot}
 use Rattle.laws.specs.set.Sound.{knot_values}
 use Rattle.clip.specs.Holding.{knots_in}
-use Rattle.lists.proofs.Filled.{Filled, fill_start, fill-next, fill-whole}
-use Rattle.clip.proofs.Packing.{unpacked-length, unpacked-at}
+use Rattle.lists.proofs.Filled.{Filled}
 use Rattle.clip.proofs.storage.unpack_knots.Given as goal
 
 abbrev pub invariant-loop-i : goal.invariant-loop-i

@@ -1,6 +1,5 @@
 -- `clip::storing::check_and_store` meets its contract. Assumes nothing.
 use mathlib.Core.Path.{◌≡◌, sym, ◌∙◌}
-use borrow.Author.Rules.{rules}
 use Rattle.definitions.specs.ClipSet as Definitions
 use Rattle.laws.specs.cell.Lent.{set_of}
 use Rattle.definitions.specs.Examining.{empty_set}

@@ -1,7 +1,6 @@
 -- `clip::storing::lists_number` meets its contract: one test after the other. Assumes nothing.
 use mathlib.Core.Path.{◌≡◌, sym, ◌∙◌}
 use mathlib.Core.Bool.{false}
-use borrow.Author.Rules.{rules}
 use borrow.Author.Tests.{lt-ltb, le-ltb}
 use Rattle.definitions.specs.Doubles.{two_equal, three_equal}
 use Rattle.definitions.specs.ClipSet.{any_unstorable, bad_default_mark}

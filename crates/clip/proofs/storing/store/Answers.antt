@@ -1,5 +1,4 @@
 -- `clip::storing::store` meets its contract. Assumes nothing.
-use borrow.Author.Rules.{rules}
 use Rattle.clip.proofs.Stored.{packed-is}
 use Rattle.clip.proofs.storing.store.Goals as goal
 

@@ -1,6 +1,5 @@
 -- `sdf::look::marked_at` meets its contract: the test of the mark says which case of `marked` holds. Assumes nothing.
 use Prim.Native.Nat.{◌+◌}
-use borrow.Author.Rules.{rules}
 use Rattle.sdf.proofs.look.ReadsLaws.{marked-value, marked-block}
 use Rattle.sdf.proofs.look.marked_at.Goals as goal
 

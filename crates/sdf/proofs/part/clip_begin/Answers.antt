@@ -5,7 +5,6 @@ use Prim.Native.Nat.{ℕ, zero, suc, ◌-◌}
 use lib.ListN.{get_or}
 use native.Mathlib.Omega.{arith}
 use Rattle.definitions.specs.Samples.{clip_begin}
-use borrow.Author.Rules.{rules}
 use Rattle.sdf.proofs.part.clip_begin.Goals as goal
 
 pub returns-then-clip-eq0 : goal.returns-then-clip-eq0

@@ -1,7 +1,6 @@
 -- `sdf::part::clip_end` meets its contract. Assumes nothing.
 use mathlib.Core.Path.{refl}
 use Rattle.definitions.specs.Samples.{clip_end}
-use borrow.Author.Rules.{rules}
 use Rattle.sdf.proofs.part.clip_end.Goals as goal
 
 pub returns : goal.returns

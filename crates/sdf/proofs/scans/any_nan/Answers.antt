@@ -1,7 +1,6 @@
 -- `sdf::scans::any_nan` meets its contract. Assumes nothing.
 use mathlib.Core.Path.{sym, ◌∙◌}
 use Rattle.sdf.proofs.Scanned.{no_nan}
-use borrow.Author.Rules.{rules}
 use Rattle.sdf.proofs.scans.any_nan.Goals as goal
 
 pub returns : goal.returns

@@ -1,11 +1,10 @@
 -- `sdf::scans::any_nan_beside` meets its contract: those counted and what is left of the two lists answer for the whole. Assumes nothing.
-use Prim.Native.Nat.{ℕ, ◌+◌, ◌-◌, ◌≤◌}
-use mathlib.Core.Path.{◌≡◌, refl, sym, ap, ◌∙◌}
+use Prim.Native.Nat.{ℕ, ◌+◌, ◌≤◌}
+use mathlib.Core.Path.{refl, sym, ap, ◌∙◌}
 use mathlib.Core.Bool.{◌||◌}
 use native.Mathlib.Omega.{arith}
-use borrow.Author.Rules.{rules}
 use lib.Dec.{ltb}
-use lib.ListN.{length, get_or}
+use lib.ListN.{get_or}
 use lib.Ieee.{nan, is_nan}
 use Rattle.lists.proofs.Fronts.{at_most_one}
 use Rattle.sdf.proofs.Beside.{either_from, beside-found, beside-all}

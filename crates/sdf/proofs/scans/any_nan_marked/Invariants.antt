@@ -1,11 +1,8 @@
 -- `sdf::scans::any_nan_marked` meets its contract: what is left of the lists answers for the whole. Assumes nothing.
-use Prim.Native.Nat.{◌-◌, ◌+◌, ◌≤◌}
-use mathlib.Core.Path.{◌≡◌, refl, sym, ap, ◌∙◌}
-use mathlib.Core.Bool.{Bool, ◌||◌}
-use native.Mathlib.Omega.{arith}
-use borrow.Author.Rules.{rules}
+use Prim.Native.Nat.{◌-◌, ◌≤◌}
+use mathlib.Core.Path.{◌≡◌}
 use lib.ListN.{length}
-use Rattle.sdf.proofs.Scanned.{nan_from, nan-on, nan-end}
+use Rattle.sdf.proofs.Scanned.{nan_from}
 use Rattle.sdf.proofs.scans.any_nan_marked.Given as goal
 
 abbrev pub invariant-loop-i : goal.invariant-loop-i

@@ -1,7 +1,6 @@
 -- `sdf::scans::ascending` meets its contract: of an ascending list nothing falls. Assumes nothing.
 use mathlib.Core.Path.{sym, ap, ◌∙◌}
 use Prim.Native.Nat.{ℕ}
-use borrow.Author.Rules.{rules}
 use lib.Dec.{eqb}
 use Rattle.sdf.proofs.Falls.{ascending-falls}
 use Rattle.sdf.proofs.scans.ascending.Goals as goal

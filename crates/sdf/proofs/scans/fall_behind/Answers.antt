@@ -1,7 +1,6 @@
 -- `sdf::scans::fall_behind` meets its contract. Assumes nothing.
 use mathlib.Core.Path.{sym, ◌∙◌}
 use native.Mathlib.Omega.{arith}
-use borrow.Author.Rules.{rules}
 use Rattle.sdf.proofs.Falls.{behind-none, behind-last, behind-here}
 use Rattle.sdf.proofs.scans.fall_behind.Goals as goal
 

@@ -1,14 +1,9 @@
 -- `sdf::scans::falls` meets its contract: those counted, and those from the last time read on. Assumes nothing.
 use Prim.Native.Nat.{◌+◌, ◌-◌, ◌≤◌}
-use mathlib.Core.Path.{◌≡◌, sym, ap}
+use mathlib.Core.Path.{◌≡◌}
 use mathlib.Core.List.{◌∷◌}
-use native.Mathlib.Omega.{arith}
-use borrow.Author.Rules.{rules}
-use lib.ListN.{length, get_or, drop}
-use lib.Ieee.{nan, lt}
+use lib.ListN.{length, drop}
 use Rattle.sdf.specs.Parts as Parts
-use Rattle.lists.proofs.Fronts.{front}
-use Rattle.sdf.proofs.Falls.{one-fall, falls-on, falls-last, falls-end}
 use Rattle.sdf.proofs.scans.falls.Given as goal
 
 abbrev pub invariant-loop-i : goal.invariant-loop-i

@@ -1,12 +1,11 @@
 -- `sdf::scans::sound` meets its contract: the clips before i are walked, and the ends from i on answer whether all close the list. Assumes nothing.
-use Prim.Native.Nat.{ℕ, ◌+◌, ◌-◌, ◌≤◌}
+use Prim.Native.Nat.{ℕ, ◌+◌, ◌≤◌}
 use mathlib.Core.Path.{◌≡◌, refl, sym, ap, ◌∙◌, subst}
 use mathlib.Core.Bool.{Bool, false, not, ◌&&◌}
 use native.Mathlib.Omega.{arith}
-use borrow.Author.Rules.{rules}
 use borrow.Author.Tests.{eq-eqb, ne_eqb}
 use lib.Dec.{eqb}
-use lib.ListN.{length, drop, get_or}
+use lib.ListN.{length, get_or}
 use Rattle.definitions.specs.ClipSet.{any_unstorable}
 use Rattle.definitions.specs.Samples.{closes, clip_begin}
 use Rattle.sdf.specs.Parts.{parts_ascend}

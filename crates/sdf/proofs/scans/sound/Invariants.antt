@@ -1,19 +1,9 @@
 -- `sdf::scans::sound` meets its contract: the clips before i are walked, and the ends from i on answer whether all close the list. Assumes nothing.
-use Prim.Native.Nat.{ℕ, ◌+◌, ◌-◌, ◌≤◌}
-use mathlib.Core.Path.{◌≡◌, refl, sym, ap, ◌∙◌, subst}
-use mathlib.Core.Bool.{Bool, false, not, ◌&&◌}
-use native.Mathlib.Omega.{arith}
-use borrow.Author.Rules.{rules}
-use borrow.Author.Tests.{eq-eqb, ne_eqb}
-use lib.Dec.{eqb}
-use lib.ListN.{length, drop, get_or}
-use Rattle.definitions.specs.ClipSet.{any_unstorable}
+use Prim.Native.Nat.{◌-◌, ◌≤◌}
+use mathlib.Core.Path.{◌≡◌}
+use lib.ListN.{length, drop}
 use Rattle.definitions.specs.Samples.{closes, clip_begin}
-use Rattle.sdf.specs.Parts.{parts_ascend}
-use Rattle.sdf.proofs.Falls.{behind-one}
-use Rattle.sdf.proofs.Lent.{every-fits}
-use Rattle.sdf.proofs.Scanned.{closes_before, closes-beyond, closes-next, closes-end, begin-next, and_no}
-use Rattle.sdf.proofs.Sound.{Walked, none-walked, one-walked, all-walked, bad-bound}
+use Rattle.sdf.proofs.Sound.{Walked}
 use Rattle.sdf.proofs.scans.sound.Given as goal
 
 abbrev pub invariant-loop-i : goal.invariant-loop-i
