@@ -13,7 +13,7 @@ abbrev state : At-start → Resolver
 state s = let a = s.args in lent_state a.shape a.starts.now a.numbers.now a.xs.now a.ys.now a.blocks.now
 
 pub returns-then-not-shape : goal.returns-then-not-shape
-returns-then-not-shape c = let s = c in retimes-20 (state (goal.at.returns-then-not-shape s).Start) s.args.o s.requires c.if-not-shape.true
+returns-then-not-shape c = let s = c in retimes-20 (state (goal.at.returns-then-not-shape s).Start) s.args.o s.requires (not-true _ c.if-not-shape.true)
 
 pub packed-set-requires : goal.packed-set-requires
 packed-set-requires c = c.requires.whole
@@ -22,14 +22,14 @@ pub retime_stage_times-moved-requires : goal.retime_stage_times-moved-requires
 retime_stage_times-moved-requires c =
     let p = c in
     let s = p in
-        record { held = c.packed-set.ensures.held; sound = subst Sound (sym c.packed-set.ensures.is) (stands-sound (state (goal.at.retime_stage_times-moved-requires s).Start) s.requires p.if-not-shape.false) }
+        record { held = c.packed-set.ensures.held; sound = subst Sound (sym c.packed-set.ensures.is) (stands-sound (state (goal.at.retime_stage_times-moved-requires s).Start) s.requires (not-false _ p.if-not-shape.false)) }
 
 pub returns-then-moved-ne0 : goal.returns-then-moved-ne0
 returns-then-moved-ne0 c =
     let k = c in
     let p = k in
     let s = p in
-    retimes (state (goal.at.returns-then-moved-ne0 s).Start) s.args.o _ _ _ p.if-not-shape.false k.packed-set.ensures c.retime_stage_times-moved.ensures (settles-not (state (goal.at.returns-then-moved-ne0 s).Start) _ s.requires c.if-moved-ne0.true)
+    retimes (state (goal.at.returns-then-moved-ne0 s).Start) s.args.o _ _ _ (not-false _ p.if-not-shape.false) k.packed-set.ensures c.retime_stage_times-moved.ensures (settles-not (state (goal.at.returns-then-moved-ne0 s).Start) _ s.requires c.if-moved-ne0.true)
 
 pub install-next-requires : goal.install-next-requires
 install-next-requires c =
@@ -40,4 +40,4 @@ returns c =
     let k = c in
     let p = k in
     let s = p in
-    retimes (state (goal.at.returns s).Start) s.args.o _ _ _ p.if-not-shape.false k.packed-set.ensures c.retime_stage_times-moved.ensures (settles (state (goal.at.returns s).Start) _ _ c.if-moved-ne0.false c.install-next.ensures)
+    retimes (state (goal.at.returns s).Start) s.args.o _ _ _ (not-false _ p.if-not-shape.false) k.packed-set.ensures c.retime_stage_times-moved.ensures (settles (state (goal.at.returns s).Start) _ _ c.if-moved-ne0.false c.install-next.ensures)

@@ -16,20 +16,20 @@ state s = let a = s.args in lent_state a.shape a.starts.now a.numbers.now a.xs.n
 
 pub returns-then-not-shape : goal.returns-then-not-shape
 unfolding ask_active_clip
-returns-then-not-shape c = asked-20 _ (state (goal.at.returns-then-not-shape c).Start) c.if-not-shape.true
+returns-then-not-shape c = asked-20 _ (state (goal.at.returns-then-not-shape c).Start) (not-true _ c.if-not-shape.true)
 
 pub returns-then-not-is_finite : goal.returns-then-not-is_finite
 unfolding ask_active_clip
 returns-then-not-is_finite c =
     let p = c in
     let s = p in
-    not_finite s.args.t _ (sym c.is_finite.ensures ∙ c.if-not-is_finite.true) ∙ asked _ (state (goal.at.returns-then-not-is_finite s).Start) p.if-not-shape.false
+    not_finite s.args.t _ (sym c.is_finite.ensures ∙ c.if-not-is_finite.true) ∙ asked _ (state (goal.at.returns-then-not-is_finite s).Start) (not-false _ p.if-not-shape.false)
 
 pub active_clip-active-requires : goal.active_clip-active-requires
 active_clip-active-requires c =
     let p = c in
     let s = p in
-    record { fact_1 = s.requires.whole.in-starts; fact_2 = s.requires.whole.in-numbers; fact_3 = starts-ascend (state (goal.at.active_clip-active-requires s).Start) s.requires p.if-not-shape.false }
+    record { fact_1 = s.requires.whole.in-starts; fact_2 = s.requires.whole.in-numbers; fact_3 = starts-ascend (state (goal.at.active_clip-active-requires s).Start) s.requires (not-false _ p.if-not-shape.false) }
 
 pub returns-in-Clip : goal.returns-in-Clip
 unfolding ask_active_clip active_clip set_of
@@ -39,7 +39,7 @@ returns-in-Clip c =
     let s = p in
     clip-told _ _ (sym c.in-Clip.is ∙ m.active_clip-active.ensures)
     ∙ is_finite s.args.t _ (sym p.is_finite.ensures ∙ p.if-not-is_finite.false)
-    ∙ asked _ (state (goal.at.returns-in-Clip s).Start) p.if-not-shape.false
+    ∙ asked _ (state (goal.at.returns-in-Clip s).Start) (not-false _ p.if-not-shape.false)
 
 pub returns-in-NoClip : goal.returns-in-NoClip
 unfolding ask_active_clip active_clip set_of
@@ -49,4 +49,4 @@ returns-in-NoClip c =
     let s = p in
     none_told _ (sym c.in-NoClip.is ∙ m.active_clip-active.ensures)
     ∙ is_finite s.args.t _ (sym p.is_finite.ensures ∙ p.if-not-is_finite.false)
-    ∙ asked _ (state (goal.at.returns-in-NoClip s).Start) p.if-not-shape.false
+    ∙ asked _ (state (goal.at.returns-in-NoClip s).Start) (not-false _ p.if-not-shape.false)

@@ -23,23 +23,23 @@ before s = outputs s.args.outtimes.now s.args.outvalues.now s.args.outmarks.now
 pub returns-then-not-shape : goal.returns-then-not-shape
 returns-then-not-shape c =
     let s = c in
-    bakes-code (bakes-20 (state (goal.at.returns-then-not-shape s).Start) (lent (goal.at.returns-then-not-shape s).Start) (before (goal.at.returns-then-not-shape s).Start) c.if-not-shape.true) c.refused_bake.ensures
+    bakes-code (bakes-20 (state (goal.at.returns-then-not-shape s).Start) (lent (goal.at.returns-then-not-shape s).Start) (before (goal.at.returns-then-not-shape s).Start) (not-true _ c.if-not-shape.true)) c.refused_bake.ensures
 
 pub returns-then-number-ne0 : goal.returns-then-number-ne0
 returns-then-number-ne0 c =
     let p = c in
     let s = p in
-    bakes-code (bakes-refused (state (goal.at.returns-then-number-ne0 s).Start) (lent (goal.at.returns-then-number-ne0 s).Start) (before (goal.at.returns-then-number-ne0 s).Start) _ p.if-not-shape.false (judged-number (state (goal.at.returns-then-number-ne0 s).Start) p.samples_number-number.ensures) p.if-number-ne0.true) c.refused_bake-then-number-ne0.ensures
+    bakes-code (bakes-refused (state (goal.at.returns-then-number-ne0 s).Start) (lent (goal.at.returns-then-number-ne0 s).Start) (before (goal.at.returns-then-number-ne0 s).Start) _ (not-false _ p.if-not-shape.false) (judged-number (state (goal.at.returns-then-number-ne0 s).Start) p.samples_number-number.ensures) p.if-number-ne0.true) c.refused_bake-then-number-ne0.ensures
 
 pub bake-requires : goal.bake-requires
 bake-requires c =
     let p = c in
     let s = p in
-    is-asked (state (goal.at.bake-requires s).Start) s.requires p.if-not-shape.false p.samples_number-number.ensures p.if-number-ne0.false
+    is-asked (state (goal.at.bake-requires s).Start) s.requires (not-false _ p.if-not-shape.false) p.samples_number-number.ensures p.if-number-ne0.false
 
 pub returns : goal.returns
 returns c =
     let w = c in
     let p = w in
     let s = p in
-    bakes-set (state (goal.at.returns s).Start) s.requires p.if-not-shape.false p.samples_number-number.ensures p.if-number-ne0.false _ _ _ w.bake.ensures
+    bakes-set (state (goal.at.returns s).Start) s.requires (not-false _ p.if-not-shape.false) p.samples_number-number.ensures p.if-number-ne0.false _ _ _ w.bake.ensures

@@ -18,16 +18,16 @@ abbrev lent : At-start → Samples
 lent s = samples_of s.args.times.now s.args.values.now s.args.marks.now s.args.ends.now
 
 pub returns-then-not-shape : goal.returns-then-not-shape
-returns-then-not-shape c = let s = c in counts-code (counts-20 (state (goal.at.returns-then-not-shape s).Start) (lent (goal.at.returns-then-not-shape s).Start) c.if-not-shape.true) c.refused_list.ensures
+returns-then-not-shape c = let s = c in counts-code (counts-20 (state (goal.at.returns-then-not-shape s).Start) (lent (goal.at.returns-then-not-shape s).Start) (not-true _ c.if-not-shape.true)) c.refused_list.ensures
 
 pub returns-then-judged-ne0 : goal.returns-then-judged-ne0
 returns-then-judged-ne0 c =
     let p = c in
     let s = p in
-    counts-code (counts-refused (state (goal.at.returns-then-judged-ne0 s).Start) (lent (goal.at.returns-then-judged-ne0 s).Start) _ p.if-not-shape.false (judged-number (state (goal.at.returns-then-judged-ne0 s).Start) p.samples_number-judged.ensures) p.if-judged-ne0.true) c.refused_list-then-judged-ne0.ensures
+    counts-code (counts-refused (state (goal.at.returns-then-judged-ne0 s).Start) (lent (goal.at.returns-then-judged-ne0 s).Start) _ (not-false _ p.if-not-shape.false) (judged-number (state (goal.at.returns-then-judged-ne0 s).Start) p.samples_number-judged.ensures) p.if-judged-ne0.true) c.refused_list-then-judged-ne0.ensures
 
 pub change_count-changes-requires : goal.change_count-changes-requires
-change_count-changes-requires c = let s = c in is-asked (state (goal.at.change_count-changes-requires s).Start) s.requires c.if-not-shape.false c.samples_number-judged.ensures c.if-judged-ne0.false
+change_count-changes-requires c = let s = c in is-asked (state (goal.at.change_count-changes-requires s).Start) s.requires (not-false _ c.if-not-shape.false) c.samples_number-judged.ensures c.if-judged-ne0.false
 
 pub returns : goal.returns
 returns c =
@@ -35,6 +35,6 @@ returns c =
     let s = p in
     record {
       reply = replied c.change_count-changes.result;
-      counts = counts-set (state (goal.at.returns s).Start) s.requires p.if-not-shape.false p.samples_number-judged.ensures p.if-judged-ne0.false _ c.change_count-changes.ensures;
+      counts = counts-set (state (goal.at.returns s).Start) s.requires (not-false _ p.if-not-shape.false) p.samples_number-judged.ensures p.if-judged-ne0.false _ c.change_count-changes.ensures;
       code = refl;
     }

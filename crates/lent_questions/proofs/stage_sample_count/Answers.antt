@@ -29,7 +29,7 @@ many s set = length (stage_sample_times set (lent s))
 
 pub returns-then-not-shape : goal.returns-then-not-shape
 unfolding ask_stage_sample_count
-returns-then-not-shape c = count-refused c.refused_list.ensures (asked-20 _ (state (goal.at.returns-then-not-shape c).Start) c.if-not-shape.true)
+returns-then-not-shape c = count-refused c.refused_list.ensures (asked-20 _ (state (goal.at.returns-then-not-shape c).Start) (not-true _ c.if-not-shape.true))
 
 pub returns-then-refused-ne0 : goal.returns-then-refused-ne0
 unfolding ask_stage_sample_count
@@ -37,19 +37,19 @@ returns-then-refused-ne0 c =
     let p = c in
     let s = p in
     count-refused c.refused_list-then-refused-ne0.ensures
-    (plainly-refused (lent (goal.at.returns-then-refused-ne0 s).Start) (many (goal.at.returns-then-refused-ne0 s).Start) (state (goal.at.returns-then-refused-ne0 s).Start) p.if-not-shape.false _ (judged-number (state (goal.at.returns-then-refused-ne0 s).Start) p.samples_number-refused.ensures) p.if-refused-ne0.true)
+    (plainly-refused (lent (goal.at.returns-then-refused-ne0 s).Start) (many (goal.at.returns-then-refused-ne0 s).Start) (state (goal.at.returns-then-refused-ne0 s).Start) (not-false _ p.if-not-shape.false) _ (judged-number (state (goal.at.returns-then-refused-ne0 s).Start) p.samples_number-refused.ensures) p.if-refused-ne0.true)
 
 pub stage_sample_count-samples-requires : goal.stage_sample_count-samples-requires
 stage_sample_count-samples-requires c =
     let s = c in
-    times-asked (is-asked (state (goal.at.stage_sample_count-samples-requires s).Start) s.requires c.if-not-shape.false c.samples_number-refused.ensures c.if-refused-ne0.false)
+    times-asked (is-asked (state (goal.at.stage_sample_count-samples-requires s).Start) s.requires (not-false _ c.if-not-shape.false) c.samples_number-refused.ensures c.if-refused-ne0.false)
 
 pub returns : goal.returns
 unfolding ask_stage_sample_count
 returns c =
     let p = c in
     let s = p in
-    let stands = p.if-not-shape.false in
+    let stands = not-false _ p.if-not-shape.false in
     ap count_code
     (ap replied
     (c.stage_sample_count-samples.ensures

@@ -26,7 +26,7 @@ pub returns-then-not-shape : goal.returns-then-not-shape
 unfolding ask_stage_sample_times
 returns-then-not-shape c =
     let s = c in
-    times-refused (state (goal.at.returns-then-not-shape s).Start) (lent (goal.at.returns-then-not-shape s).Start) s.args.out.now _ 20 c.refused_list.ensures (λ z. omega arith) (asked-20 _ (state (goal.at.returns-then-not-shape s).Start) c.if-not-shape.true)
+    times-refused (state (goal.at.returns-then-not-shape s).Start) (lent (goal.at.returns-then-not-shape s).Start) s.args.out.now _ 20 c.refused_list.ensures (λ z. omega arith) (asked-20 _ (state (goal.at.returns-then-not-shape s).Start) (not-true _ c.if-not-shape.true))
 
 pub returns-then-number-ne0 : goal.returns-then-number-ne0
 unfolding ask_stage_sample_times
@@ -34,13 +34,13 @@ returns-then-number-ne0 c =
     let p = c in
     let s = p in
     times-refused (state (goal.at.returns-then-number-ne0 s).Start) (lent (goal.at.returns-then-number-ne0 s).Start) s.args.out.now _ _ c.refused_list-then-number-ne0.ensures p.if-number-ne0.true
-    (samples-refused (lent (goal.at.returns-then-number-ne0 s).Start) (λ (x : ClipSet). room_number (length s.args.out.now) (length (stage_sample_times x (lent (goal.at.returns-then-number-ne0 s).Start)))) (λ (x : ClipSet). stage_sample_times x (lent (goal.at.returns-then-number-ne0 s).Start)) (state (goal.at.returns-then-number-ne0 s).Start) p.if-not-shape.false _ (judged-number (state (goal.at.returns-then-number-ne0 s).Start) p.samples_number-number.ensures) p.if-number-ne0.true)
+    (samples-refused (lent (goal.at.returns-then-number-ne0 s).Start) (λ (x : ClipSet). room_number (length s.args.out.now) (length (stage_sample_times x (lent (goal.at.returns-then-number-ne0 s).Start)))) (λ (x : ClipSet). stage_sample_times x (lent (goal.at.returns-then-number-ne0 s).Start)) (state (goal.at.returns-then-number-ne0 s).Start) (not-false _ p.if-not-shape.false) _ (judged-number (state (goal.at.returns-then-number-ne0 s).Start) p.samples_number-number.ensures) p.if-number-ne0.true)
 
 pub stage_sample_times-requires : goal.stage_sample_times-requires
 stage_sample_times-requires c =
     let p = c in
     let s = p in
-    times-asked (is-asked (state (goal.at.stage_sample_times-requires s).Start) s.requires p.if-not-shape.false p.samples_number-number.ensures p.if-number-ne0.false)
+    times-asked (is-asked (state (goal.at.stage_sample_times-requires s).Start) s.requires (not-false _ p.if-not-shape.false) p.samples_number-number.ensures p.if-number-ne0.false)
 
 pub returns : goal.returns
 unfolding ask_stage_sample_times
@@ -48,7 +48,7 @@ returns c =
     let w = c in
     let p = w in
     let s = p in
-    let stands = p.if-not-shape.false in
+    let stands = not-false _ p.if-not-shape.false in
     times-replied (state (goal.at.returns s).Start) (lent (goal.at.returns s).Start) _ _ _ _ _
     (times-are (is-asked (state (goal.at.returns s).Start) s.requires stands p.samples_number-number.ensures p.if-number-ne0.false)
     ∙ ap (λ (x : ClipSet). stage_sample_times x (lent (goal.at.returns s).Start)) (lent-is (state (goal.at.returns s).Start) s.requires stands p.samples_number-number.ensures p.if-number-ne0.false))

@@ -26,7 +26,7 @@ pub returns-then-not-shape : goal.returns-then-not-shape
 unfolding ask_stage_samples
 returns-then-not-shape c =
     let s = c in
-    list-refused (state (goal.at.returns-then-not-shape s).Start) (lent (goal.at.returns-then-not-shape s).Start) s.args.outtimes.now s.args.outmarks.now _ 20 c.refused_list.ensures (asked-20 _ (state (goal.at.returns-then-not-shape s).Start) c.if-not-shape.true)
+    list-refused (state (goal.at.returns-then-not-shape s).Start) (lent (goal.at.returns-then-not-shape s).Start) s.args.outtimes.now s.args.outmarks.now _ 20 c.refused_list.ensures (asked-20 _ (state (goal.at.returns-then-not-shape s).Start) (not-true _ c.if-not-shape.true))
 
 pub returns-then-number-ne0 : goal.returns-then-number-ne0
 unfolding ask_stage_samples
@@ -34,13 +34,13 @@ returns-then-number-ne0 c =
     let p = c in
     let s = p in
     list-refused (state (goal.at.returns-then-number-ne0 s).Start) (lent (goal.at.returns-then-number-ne0 s).Start) s.args.outtimes.now s.args.outmarks.now _ _ c.refused_list-then-number-ne0.ensures
-    (samples-refused (lent (goal.at.returns-then-number-ne0 s).Start) (λ (x : ClipSet). room_number (min (length s.args.outtimes.now) (length s.args.outmarks.now)) (length (stage_samples x (lent (goal.at.returns-then-number-ne0 s).Start)))) (λ (x : ClipSet). stage_samples x (lent (goal.at.returns-then-number-ne0 s).Start)) (state (goal.at.returns-then-number-ne0 s).Start) p.if-not-shape.false _ (judged-number (state (goal.at.returns-then-number-ne0 s).Start) p.samples_number-number.ensures) p.if-number-ne0.true)
+    (samples-refused (lent (goal.at.returns-then-number-ne0 s).Start) (λ (x : ClipSet). room_number (min (length s.args.outtimes.now) (length s.args.outmarks.now)) (length (stage_samples x (lent (goal.at.returns-then-number-ne0 s).Start)))) (λ (x : ClipSet). stage_samples x (lent (goal.at.returns-then-number-ne0 s).Start)) (state (goal.at.returns-then-number-ne0 s).Start) (not-false _ p.if-not-shape.false) _ (judged-number (state (goal.at.returns-then-number-ne0 s).Start) p.samples_number-number.ensures) p.if-number-ne0.true)
 
 pub stage_samples-requires : goal.stage_samples-requires
 stage_samples-requires c =
     let p = c in
     let s = p in
-    samples-asked (is-asked (state (goal.at.stage_samples-requires s).Start) s.requires p.if-not-shape.false p.samples_number-number.ensures p.if-number-ne0.false)
+    samples-asked (is-asked (state (goal.at.stage_samples-requires s).Start) s.requires (not-false _ p.if-not-shape.false) p.samples_number-number.ensures p.if-number-ne0.false)
 
 pub returns : goal.returns
 unfolding ask_stage_samples
@@ -49,7 +49,7 @@ returns c =
     let p = w in
     let s = p in
     let a = s.args in
-    let stands = p.if-not-shape.false in
+    let stands = not-false _ p.if-not-shape.false in
     list-replied (state (goal.at.returns s).Start) (lent (goal.at.returns s).Start) _ _ _ _ _ _ _
     (samples-are a.shape.counts a.starts.now a.numbers.now a.xs.now a.ys.now a.blocks.now a.shape.manifest a.ends.now (lent (goal.at.returns s).Start)
     ∙ ap (λ (x : ClipSet). stage_samples x (lent (goal.at.returns s).Start)) (lent-is (state (goal.at.returns s).Start) s.requires stands p.samples_number-number.ensures p.if-number-ne0.false))

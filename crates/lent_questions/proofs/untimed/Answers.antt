@@ -22,25 +22,25 @@ lent s = samples_of s.args.times.now s.args.values.now s.args.marks.now s.args.e
 
 pub returns-then-not-shape : goal.returns-then-not-shape
 unfolding ask_untimed
-returns-then-not-shape c = asked-20 _ (state (goal.at.returns-then-not-shape c).Start) c.if-not-shape.true
+returns-then-not-shape c = asked-20 _ (state (goal.at.returns-then-not-shape c).Start) (not-true _ c.if-not-shape.true)
 
 pub returns-then-number-ne0 : goal.returns-then-number-ne0
 unfolding ask_untimed
 returns-then-number-ne0 c =
     let s = c in
-    plainly-refused (lent (goal.at.returns-then-number-ne0 s).Start) (λ (x : ClipSet). untimed_answer x (lent (goal.at.returns-then-number-ne0 s).Start)) (state (goal.at.returns-then-number-ne0 s).Start) c.if-not-shape.false _ (judged-number (state (goal.at.returns-then-number-ne0 s).Start) c.samples_number-number.ensures) c.if-number-ne0.true
+    plainly-refused (lent (goal.at.returns-then-number-ne0 s).Start) (λ (x : ClipSet). untimed_answer x (lent (goal.at.returns-then-number-ne0 s).Start)) (state (goal.at.returns-then-number-ne0 s).Start) (not-false _ c.if-not-shape.false) _ (judged-number (state (goal.at.returns-then-number-ne0 s).Start) c.samples_number-number.ensures) c.if-number-ne0.true
 
 pub untimed-requires : goal.untimed-requires
 untimed-requires c =
     let s = c in
-    record { fact_1 = s.requires.whole.in-numbers; fact_2 = clips-asked (is-asked (state (goal.at.untimed-requires s).Start) s.requires c.if-not-shape.false c.samples_number-number.ensures c.if-number-ne0.false) }
+    record { fact_1 = s.requires.whole.in-numbers; fact_2 = clips-asked (is-asked (state (goal.at.untimed-requires s).Start) s.requires (not-false _ c.if-not-shape.false) c.samples_number-number.ensures c.if-number-ne0.false) }
 
 pub returns : goal.returns
 unfolding ask_untimed
 returns c =
     let p = c in
     let s = p in
-    let stands = p.if-not-shape.false in
+    let stands = not-false _ p.if-not-shape.false in
     ap replied
     (c.untimed.ensures
     ∙ untimed-told (is-asked (state (goal.at.returns s).Start) s.requires stands p.samples_number-number.ensures p.if-number-ne0.false)

@@ -22,13 +22,13 @@ lent s = samples_of s.args.times.now s.args.values.now s.args.marks.now s.args.e
 
 pub returns-then-not-shape : goal.returns-then-not-shape
 unfolding ask_value
-returns-then-not-shape c = asked-20 _ (state (goal.at.returns-then-not-shape c).Start) c.if-not-shape.true
+returns-then-not-shape c = asked-20 _ (state (goal.at.returns-then-not-shape c).Start) (not-true _ c.if-not-shape.true)
 
 pub returns-then-number-ne0 : goal.returns-then-number-ne0
 unfolding ask_value
 returns-then-number-ne0 c =
     let s = c in
-    samples-refused (lent (goal.at.returns-then-number-ne0 s).Start) (λ (x : ClipSet). stage_time_number s.args.t) (λ (x : ClipSet). value_read x (lent (goal.at.returns-then-number-ne0 s).Start) s.args.t) (state (goal.at.returns-then-number-ne0 s).Start) c.if-not-shape.false
+    samples-refused (lent (goal.at.returns-then-number-ne0 s).Start) (λ (x : ClipSet). stage_time_number s.args.t) (λ (x : ClipSet). value_read x (lent (goal.at.returns-then-number-ne0 s).Start) s.args.t) (state (goal.at.returns-then-number-ne0 s).Start) (not-false _ c.if-not-shape.false)
     _ (judged-number (state (goal.at.returns-then-number-ne0 s).Start) c.samples_number-number.ensures) c.if-number-ne0.true
 
 pub returns-then-not-is_finite : goal.returns-then-not-is_finite
@@ -37,14 +37,14 @@ returns-then-not-is_finite c =
     let p = c in
     let s = p in
     not_finite s.args.t _ (sym c.is_finite.ensures ∙ c.if-not-is_finite.true)
-    ∙ samples-passed (lent (goal.at.returns-then-not-is_finite s).Start) (λ (x : ClipSet). stage_time_number s.args.t) (λ (x : ClipSet). value_read x (lent (goal.at.returns-then-not-is_finite s).Start) s.args.t) (state (goal.at.returns-then-not-is_finite s).Start) p.if-not-shape.false
+    ∙ samples-passed (lent (goal.at.returns-then-not-is_finite s).Start) (λ (x : ClipSet). stage_time_number s.args.t) (λ (x : ClipSet). value_read x (lent (goal.at.returns-then-not-is_finite s).Start) s.args.t) (state (goal.at.returns-then-not-is_finite s).Start) (not-false _ p.if-not-shape.false)
     (sym (judged-number (state (goal.at.returns-then-not-is_finite s).Start) p.samples_number-number.ensures) ∙ p.if-number-ne0.false)
 
 pub value-requires : goal.value-requires
 value-requires c =
     let p = c in
     let s = p in
-    record { fact_1 = is-asked (state (goal.at.value-requires s).Start) s.requires p.if-not-shape.false p.samples_number-number.ensures p.if-number-ne0.false; fact_2 = subst T (sym c.if-not-is_finite.false ∙ c.is_finite.ensures) tt }
+    record { fact_1 = is-asked (state (goal.at.value-requires s).Start) s.requires (not-false _ p.if-not-shape.false) p.samples_number-number.ensures p.if-number-ne0.false; fact_2 = subst T (sym c.if-not-is_finite.false ∙ c.is_finite.ensures) tt }
 
 pub returns : goal.returns
 unfolding ask_value
@@ -52,7 +52,7 @@ returns c =
     let f = c in
     let p = f in
     let s = p in
-    let stands = p.if-not-shape.false in
+    let stands = not-false _ p.if-not-shape.false in
     ap replied (c.value.ensures ∙ ap (λ (x : ClipSet). value_read x (lent (goal.at.returns s).Start) s.args.t) (lent-is (state (goal.at.returns s).Start) s.requires stands p.samples_number-number.ensures p.if-number-ne0.false))
     ∙ is_finite s.args.t _ (sym f.is_finite.ensures ∙ f.if-not-is_finite.false)
     ∙ samples-passed (lent (goal.at.returns s).Start) (λ (x : ClipSet). stage_time_number s.args.t) (λ (x : ClipSet). value_read x (lent (goal.at.returns s).Start) s.args.t) (state (goal.at.returns s).Start) stands

@@ -1,10 +1,7 @@
 -- `set_names::is_before` meets its contract: the bytes before the i-th are the same. Assumes nothing.
 use Prim.Native.Nat.{◌-◌}
-use mathlib.Core.Path.{refl}
-use native.Mathlib.Omega.{arith}
-use borrow.Author.Rules.{rules}
 use lib.ListN.{length}
-use Rattle.set_names.proofs.Before.{Even, shorter, smaller, greater, level, not-longer}
+use Rattle.set_names.proofs.Before.{Even}
 use Rattle.set_names.proofs.is_before.Given as goal
 
 abbrev pub invariant-loop-i : goal.invariant-loop-i

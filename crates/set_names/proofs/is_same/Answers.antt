@@ -1,10 +1,7 @@
 -- `set_names::is_same` meets its contract: the bytes before the i-th are the same. Assumes nothing.
-use Prim.Native.Nat.{◌-◌}
 use mathlib.Core.Path.{refl}
 use native.Mathlib.Omega.{arith}
-use borrow.Author.Rules.{rules}
-use lib.ListN.{length}
-use Rattle.set_names.proofs.Same.{Same, unlike, differ, onward, ended}
+use Rattle.set_names.proofs.Same.{unlike, differ, onward, ended}
 use Rattle.set_names.proofs.is_same.Goals as goal
 
 pub returns-then-a-b : goal.returns-then-a-b

@@ -1,7 +1,6 @@
 -- `sorts::tavitrozy_sorts_knots` meets its contract: each list is read off the knots, whose order is `sort_knots`'s promise. Assumes nothing.
 use mathlib.Core.Path.{◌≡◌, refl, sym, ap, ◌∙◌}
 use Prim.Native.Nat.{◌≤◌}
-use borrow.Author.Rules.{rules}
 use lib.ListN.{length}
 use Rattle.definitions.specs.declared.Knot.{Knot}
 use Rattle.definitions.specs.ClipSet.{knot_times}

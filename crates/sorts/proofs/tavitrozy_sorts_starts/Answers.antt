@@ -1,7 +1,6 @@
 -- `sorts::tavitrozy_sorts_starts` meets its contract: each list is read off the starts, whose order is `sort_starts`'s promise. Assumes nothing.
 use mathlib.Core.Path.{◌≡◌, refl, sym, ap, ◌∙◌}
 use Prim.Native.Nat.{◌≤◌}
-use borrow.Author.Rules.{rules}
 use lib.ListN.{length}
 use Rattle.definitions.specs.declared.Start.{Start}
 use Rattle.definitions.specs.ClipSet.{active_times}
