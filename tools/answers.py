@@ -195,9 +195,14 @@ def groups(text):
             if cur is not None and note == []:
                 cur["lines"].append(line)
             continue
+        if line.startswith("module "):
+            cur = {"name": f"{line} {len(out)}", "mods": "", "lines": [line], "note": note, "module": True}
+            out.append(cur)
+            note = []
+            continue
         if line[0] not in " )]}":
             m = SIG.match(line)
-            if m and not (cur and cur["name"] == m.group(2)):
+            if m and not (cur and (cur["name"] == m.group(2))):
                 cur = {"name": m.group(2), "mods": m.group(1), "lines": [line], "note": note}
                 out.append(cur)
                 note = []
@@ -476,6 +481,8 @@ def turn(folder, module, d):
     # the lemmas over places, and which of their arguments is one
     helpers, params_of = {}, {}
     for g in decls:
+        if g.get("module"):
+            continue
         sig = []
         for j, line in enumerate(g["lines"]):
             if j and (line.startswith("unfolding") or re.match(re.escape(g["name"]) + r"\b", line)):
@@ -505,7 +512,42 @@ def turn(folder, module, d):
                 text = re.sub(rf"(?<= = ){word} ({WORD}(?:\.before)*)(?= in\b|$)", r"\1", text)
         return text
 
+    inner = {}
+    for g in decls:
+        if not g.get("module"):
+            continue
+        text = "\n".join(g["lines"])
+        bs = binders(g["lines"][0][len("module _ ") :].rsplit(" where", 1)[0] + " →")
+        env = {}
+        for n, t in bs:
+            m = re.match(r"^\(?tie\.([A-Z][^\s(){}\[\],;.]*)", t)
+            if m and norm(m.group(1)) in names.index:
+                env[n] = names.index[norm(m.group(1))]
+        g["env"] = env
+        # a place above that the module names
+        while True:
+            m = re.search(rf"\n  (?:abbrev )?({WORD}) : tie\.[A-Z]{WORD}[^\n]*\n  \1 = ({WORD})(?:\.before)*(?=\n|$)", text)
+            if not m or m.group(2) not in env:
+                break
+            text = text[: m.start()] + text[m.end() :]
+            text = re.sub(rf"(?<![^\s(){{}}\[\],;]){re.escape(m.group(1))}(?=[\s(){{}}\[\],;.]|$)", m.group(2), text)
+            if len(bs) == 1:
+                gone.append(m.group(1))
+        g["lines"] = text.split("\n")
+        places_of = {k: env[n] for k, (n, _) in enumerate(bs) if n in env}
+        for m in re.finditer(rf"^  (?:(?:abbrev|pub|unfoldable) )*({WORD}) :(?=\s)([^\n]*)", text, re.M):
+            at = dict(places_of)
+            for k, (_, t) in enumerate(binders(m.group(2))):
+                q = re.match(r"^\(?tie\.([A-Z][^\s(){}\[\],;.]*)", t)
+                if q and norm(q.group(1)) in names.index:
+                    at[len(bs) + k] = names.index[norm(q.group(1))]
+            if at:
+                inner[m.group(1)] = at
+            g.setdefault("inner", []).append(m.group(1))
+
     for g in list(decls):
+        if g.get("module"):
+            continue
         t = projected(re.sub(r"\s+", " ", " ".join(l for l in g["lines"] if not l.startswith("unfolding"))))
         m = re.match(rf"^(?:\w+ )*{re.escape(g['name'])} : (?:\(\w+ : tie\.{WORD}[^()]*\)|tie\.[^→]+) → tie\.{WORD}[^=]* {re.escape(g['name'])} (\S+) = ({WORD})(?:\.before)*$", t)
         if m and m.group(1) == m.group(2):
@@ -514,8 +556,11 @@ def turn(folder, module, d):
     for g in decls:
         g["lines"] = projected("\n".join(g["lines"])).split("\n")
 
+    helpers.update(inner)
     answer_of = {}
     for g in decls:
+        if g.get("module"):
+            continue
         m = re.search(r":\s+tie\.Need-(\S+)", g["lines"][0] + " " + (g["lines"][1].strip() if len(g["lines"]) > 1 else ""))
         if g is spec or not m or g["name"] in kinds or "(" in g["lines"][0].split(" : ")[0]:
             continue
@@ -560,6 +605,13 @@ def turn(folder, module, d):
     def renamed(s):
         return NAME.sub(lambda m: rename.get(m.group(1), m.group(1)), s)
 
+    first = []
+    for line in text.split("\n"):
+        if not line.startswith("--"):
+            break
+        first.append(line)
+    for g in decls:
+        g["note"] = [x for x in g["note"] if x not in first]
     inv, ans = [], []
     # what an invariant cites of the file's own stands with it
     plain = {g["name"]: g for g in decls if g is not spec and g["name"] not in kinds and "tie." not in "\n".join(g["lines"])}
@@ -655,7 +707,7 @@ def turn(folder, module, d):
                     ans += [f"pub {new2} : goal.{new2}", f"{new2} c = {new} c", ""]
             continue
         body = "\n".join(g["lines"])
-        env = {}
+        env = dict(g.get("env", {}))
         for m in re.finditer(r"\(([^():]+) : tie\.([A-Z][^\s(){}\[\],;.]*)", body):
             key = norm(m.group(2))
             if key in names.index:
@@ -667,7 +719,7 @@ def turn(folder, module, d):
                 if k < len(ps):
                     env[ps[k]] = at
         own_name = g["name"]
-        body = turn_body(names, body, env, told, where, {h: v for h, v in helpers.items() if h != own_name}, None)
+        body = turn_body(names, body, env, told, where, {h: v for h, v in helpers.items() if h != own_name and h not in g.get("inner", [])}, None)
         steps = {norm(p[2][1]) for p in names.places}
         known = lambda m: m.group(1) if norm(re.match(r".*\.if-not-(.*?)\.[a-z]+$", m.group(1)).group(1)) in steps else m.group(0)
         if NOT:
@@ -692,12 +744,9 @@ def turn(folder, module, d):
             title.append(line)
         else:
             break
-    if decls and title and decls[0]["note"][: len(title)] == title:
-        d0 = decls[0]["note"]
-        drop = "\n".join(title)
-        for lst in (inv, ans):
-            if lst[: len(title)] == title:
-                del lst[: len(title)]
+    for lst in (inv, ans):
+        if title and lst[: len(title)] == title:
+            del lst[: len(title)]
     if inv:
         with open(os.path.join(folder, "Invariants.antt"), "w", encoding="utf-8") as f:
             f.write("\n".join(title + uses + [f"use {module}.Given as goal", ""] + inv).rstrip("\n") + "\n")

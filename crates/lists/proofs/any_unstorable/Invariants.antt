@@ -9,7 +9,6 @@ use Rattle.gf.specs.Doubles.{storable}
 use Rattle.definitions.specs.Lists.{any}
 use Rattle.lists.proofs.any_unstorable.Given as goal
 
--- `lists::any_unstorable` meets its contract: those counted and what is left of the list answer for the whole. Assumes nothing.
 abbrev pub bad : Float → Bool
 bad t = not (storable t)
 

@@ -8,7 +8,6 @@ use lib.Ieee.{Float, nan, le}
 use Rattle.definitions.specs.Lists.{count_from}
 use Rattle.lists.proofs.count_at_most.Given as goal
 
--- `lists::count_at_most` meets its contract. Those counted and those that are left to count are all. Assumes nothing.
 abbrev pub at_most : List Float → Float → ℕ → Bool
 at_most xs t i = le (get_or xs i nan) t
 

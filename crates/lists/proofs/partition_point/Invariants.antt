@@ -8,7 +8,6 @@ use lib.Ieee.{Float, nan, le}
 use Rattle.definitions.specs.Reading.{by_halves, partition_point}
 use Rattle.lists.proofs.partition_point.Given as goal
 
--- `lists::partition_point` meets its contract. What the search finds from here on is what it finds in the whole list, and ever fewer places are left. Assumes nothing.
 abbrev pub at_most : List Float → Float → ℕ → Bool
 at_most xs t i = le (get_or xs i nan) t
 

@@ -7,7 +7,6 @@ use lib.Ieee.{Float, eq}
 use Rattle.definitions.specs.Lists.{any, pairs}
 use Rattle.lists.proofs.three_equal.Given as goal
 
--- `lists::three_equal` meets its contract: the neighbours that are left answer for all. Assumes nothing.
 abbrev pub equal : (Float × Float) × (Float × Float) → Bool
 equal w = eq w.0.0 w.0.1 && eq w.1.0 w.1.1
 

@@ -7,7 +7,6 @@ use lib.Ieee.{Float, eq}
 use Rattle.definitions.specs.Lists.{any, pairs}
 use Rattle.lists.proofs.two_equal.Given as goal
 
--- `lists::two_equal` meets its contract: the pairs that are left answer for all. Assumes nothing.
 abbrev pub equal : Float × Float → Bool
 equal p = eq p.0 p.1
 

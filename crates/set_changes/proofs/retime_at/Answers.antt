@@ -1,4 +1,3 @@
--- `set_changes::retime_at` meets its contract: refused, nothing is written; else the set is moved in its place. Assumes nothing.
 use mathlib.Core.Path.{sym, subst}
 use Prim.Native.Nat.{◌<◌}
 use native.Mathlib.Omega.{arith}
@@ -11,6 +10,7 @@ use Rattle.set_changes.proofs.Moved.{made-page, refused-at, moved_at-is}
 use Rattle.set_changes.proofs.retime_at.Goals.{After-move_set-settled, Start as At-start}
 use Rattle.set_changes.proofs.retime_at.Goals as goal
 
+-- `set_changes::retime_at` meets its contract: refused, nothing is written; else the set is moved in its place. Assumes nothing.
 abbrev lent : At-start → Pages
 lent s = let a = s.args in pages a.starts.now a.numbers.now a.xs.now a.ys.now a.blocks.now a.defaults.now a.counts.now a.bytes.now
 
@@ -21,23 +21,21 @@ pub move_set-settled-requires : goal.move_set-settled-requires
 move_set-settled-requires c =
     let s = c in
     let l = s.requires.fact_1.long in
-    (record { of-starts = l.of-starts; of-numbers = l.of-numbers; of-xs = l.of-xs; of-ys = l.of-ys; of_blocks = l.of_blocks }, (few (goal.at.move_set-settled-requires s).Start, made-page (lent (goal.at.move_set-settled-requires s).Start) s.requires.fact_1 s.args.i s.requires.fact_2 _ c.shape_at-shape.ensures))
+    record { fact_1 = record { of-starts = l.of-starts; of-numbers = l.of-numbers; of-xs = l.of-xs; of-ys = l.of-ys; of_blocks = l.of_blocks }; fact_2 = few (goal.at.move_set-settled-requires s).Start; fact_3 = made-page (lent (goal.at.move_set-settled-requires s).Start) s.requires.fact_1 s.args.i s.requires.fact_2 _ c.shape_at-shape.ensures }
 
 -- the set as it was moved, or left
 module _ (c : After-move_set-settled) where
-  abbrev entry : At-start
-  entry = c.before.before.before.before.before.before.before.before.before.before.before.before.before.before.before.before.before.before
 
-  moved : MovedAt entry.args.i (shape_in entry.args.defaults.now entry.args.counts.now entry.args.bytes.now entry.args.i) entry.args.o entry.args.starts.now entry.args.numbers.now entry.args.xs.now entry.args.ys.now entry.args.blocks.now
-      c.move-set.result c.move-set.new.0 c.move-set.new.1.0 c.move-set.new.1.1.0 c.move-set.new.1.1.1.0 c.move-set.new.1.1.1.1.0
-  moved = subst (λ (h : Shape). MovedAt entry.args.i h entry.args.o entry.args.starts.now entry.args.numbers.now entry.args.xs.now entry.args.ys.now entry.args.blocks.now
-      c.move-set.result c.move-set.new.0 c.move-set.new.1.0 c.move-set.new.1.1.0 c.move-set.new.1.1.1.0 c.move-set.new.1.1.1.1.0) c.shape_at-shape.ensures c.move-set.ensures
+  moved : MovedAt c.args.i (shape_in c.args.defaults.now c.args.counts.now c.args.bytes.now c.args.i) c.args.o c.args.starts.now c.args.numbers.now c.args.xs.now c.args.ys.now c.args.blocks.now
+      c.move_set-settled.result c.move_set-settled.new.starts c.move_set-settled.new.numbers c.move_set-settled.new.xs c.move_set-settled.new.ys c.move_set-settled.new.blocks
+  moved = subst (λ (h : Shape). MovedAt c.args.i h c.args.o c.args.starts.now c.args.numbers.now c.args.xs.now c.args.ys.now c.args.blocks.now
+      c.move_set-settled.result c.move_set-settled.new.starts c.move_set-settled.new.numbers c.move_set-settled.new.xs c.move_set-settled.new.ys c.move_set-settled.new.blocks) c.shape_at-shape.ensures c.move_set-settled.ensures
 
 pub returns-then-settled-ne0 : goal.returns-then-settled-ne0
 returns-then-settled-ne0 c =
     let k = c in
-    let s = entry k in
-    refused-at (lent s) s.pre.0 s.args.i s.pre.1 s.args.o _ _ _ _ _ _ (moved k) c.if-settled-ne0.true
+    let s = k in
+    refused-at (lent (goal.at.returns-then-settled-ne0 s).Start) s.requires.fact_1 s.args.i s.requires.fact_2 s.args.o _ _ _ _ _ _ (moved (goal.at.returns-then-settled-ne0 k).After-move_set-settled) c.if-settled-ne0.true
 
 pub store_shape-requires : goal.store_shape-requires
 store_shape-requires c = let s = c in record { fact_1 = s.requires.fact_1.long.sizes; fact_2 = few (goal.at.store_shape-requires s).Start }
@@ -45,5 +43,5 @@ store_shape-requires c = let s = c in record { fact_1 = s.requires.fact_1.long.s
 pub returns : goal.returns
 returns c =
     let k = c in
-    let s = entry k in
-    moved_at-is (lent s) s.pre.0 s.args.i s.pre.1 s.args.o _ _ _ _ _ _ (moved k) c.if-settled-ne0.false _ _ _ c.store_shape.ensures
+    let s = k in
+    moved_at-is (lent (goal.at.returns s).Start) s.requires.fact_1 s.args.i s.requires.fact_2 s.args.o _ _ _ _ _ _ (moved (goal.at.returns k).After-move_set-settled) c.if-settled-ne0.false _ _ _ c.store_shape.ensures

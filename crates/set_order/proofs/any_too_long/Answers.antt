@@ -1,12 +1,9 @@
 -- `set_order::any_too_long` meets its contract: the names from i on answer for all. Assumes nothing.
-use Prim.Native.Nat.{◌-◌}
-use mathlib.Core.Path.{◌≡◌, refl, sym, ap, ◌∙◌}
+use mathlib.Core.Path.{refl, sym, ap, ◌∙◌}
 use native.Mathlib.Omega.{arith}
-use borrow.Author.Rules.{rules}
-use lib.ListN.{length, drop}
 use Rattle.definitions.specs.Lists.{any}
-use Rattle.dispatch.specs.SetOrder.{too_long, names_from}
-use Rattle.set_order.proofs.Ends.{Walk, end_after, walk-on, names-end, long-here, long-later}
+use Rattle.dispatch.specs.SetOrder.{too_long}
+use Rattle.set_order.proofs.Ends.{end_after, walk-on, names-end, long-here, long-later}
 use Rattle.set_order.proofs.any_too_long.Goals as goal
 
 pub loop-i-init : goal.loop-i-init

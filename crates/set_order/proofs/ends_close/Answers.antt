@@ -1,10 +1,6 @@
 -- `set_order::ends_close` meets its contract: the ends from i on answer for all. Assumes nothing.
-use Prim.Native.Nat.{◌-◌, ◌≤◌}
-use mathlib.Core.Path.{◌≡◌, refl, sym, ◌∙◌}
+use mathlib.Core.Path.{refl, sym, ◌∙◌}
 use native.Mathlib.Omega.{arith}
-use borrow.Author.Rules.{rules}
-use lib.ListN.{length, drop}
-use Rattle.definitions.specs.Samples.{closes}
 use Rattle.set_order.proofs.Ends.{closes_before, closes-next, closes-end}
 use Rattle.set_order.proofs.ends_close.Goals as goal
 

@@ -1,11 +1,8 @@
 -- `set_order::ends_close` meets its contract: the ends from i on answer for all. Assumes nothing.
 use Prim.Native.Nat.{◌-◌, ◌≤◌}
-use mathlib.Core.Path.{◌≡◌, refl, sym, ◌∙◌}
-use native.Mathlib.Omega.{arith}
-use borrow.Author.Rules.{rules}
+use mathlib.Core.Path.{◌≡◌}
 use lib.ListN.{length, drop}
 use Rattle.definitions.specs.Samples.{closes}
-use Rattle.set_order.proofs.Ends.{closes_before, closes-next, closes-end}
 use Rattle.set_order.proofs.ends_close.Given as goal
 
 abbrev pub invariant-loop-i : goal.invariant-loop-i

@@ -1,8 +1,7 @@
 -- `set_order::first_in_order` meets its contract: no set before the i-th of the order qualifies. Assumes nothing.
-use Prim.Native.Nat.{ℕ, ◌+◌, ◌-◌, ◌≤◌, ◌<◌}
-use mathlib.Core.Path.{◌≡◌, refl, sym, ap, ◌∙◌}
+use Prim.Native.Nat.{ℕ, ◌+◌, ◌<◌}
+use mathlib.Core.Path.{refl, sym, ap, ◌∙◌}
 use native.Mathlib.Omega.{arith}
-use borrow.Author.Rules.{rules}
 use lib.ListN.{length, get_or, drop}
 use Rattle.laws.proofs.list.Every.{every-at}
 use Rattle.dispatch.specs.NamedSets.{first_qualifying}

@@ -1,14 +1,9 @@
 -- `set_order::first_in_order` meets its contract: no set before the i-th of the order qualifies. Assumes nothing.
-use Prim.Native.Nat.{ℕ, ◌+◌, ◌-◌, ◌≤◌, ◌<◌}
-use mathlib.Core.Path.{◌≡◌, refl, sym, ap, ◌∙◌}
-use native.Mathlib.Omega.{arith}
-use borrow.Author.Rules.{rules}
-use lib.ListN.{length, get_or, drop}
-use Rattle.laws.proofs.list.Every.{every-at}
+use Prim.Native.Nat.{◌-◌, ◌≤◌}
+use mathlib.Core.Path.{◌≡◌}
+use lib.ListN.{length, drop}
 use Rattle.dispatch.specs.NamedSets.{first_qualifying}
 use Rattle.set_order.specs.Answered.{fit_in}
-use Rattle.set_order.proofs.Ends.{front, no_front}
-use Rattle.set_order.proofs.Order.{first-here, first-later, first-none}
 use Rattle.set_order.proofs.first_in_order.Given as goal
 
 abbrev pub invariant-loop-i : goal.invariant-loop-i

@@ -1,8 +1,7 @@
 -- `set_order::order_number` meets its contract: each return settles one of the three tests. Assumes nothing.
 use mathlib.Core.Path.{◌≡◌, sym, ◌∙◌}
 use mathlib.Core.Bool.{true}
-use borrow.Author.Rules.{rules}
-use borrow.Author.Tests.{lt-ltb, le-ltb, not-true, not-false}
+use borrow.Author.Tests.{lt-ltb, le-ltb}
 use lib.ListN.{length}
 use Rattle.definitions.specs.Samples.{closes}
 use Rattle.laws.proofs.list.Tests.{holds}

@@ -1,5 +1,4 @@
 -- `set_order::qualifies` meets its contract. Assumes nothing.
-use borrow.Author.Rules.{rules}
 use borrow.Author.Tests.{eq-eqb, ne_eqb}
 use Rattle.set_order.proofs.qualifies.Goals as goal
 

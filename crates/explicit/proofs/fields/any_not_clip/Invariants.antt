@@ -12,7 +12,6 @@ use Rattle.lists.proofs.Fronts.{any_here, any-later, any-end}
 use Rattle.explicit.specs.Parsing.{any_not_clip}
 use Rattle.explicit.proofs.fields.any_not_clip.Given as goal
 
--- `explicit::fields::any_not_clip` meets its contract: what is left of the list answers for the whole. Assumes nothing.
 abbrev pub bad : ℕ → Float → Bool
 bad clips c = not (is_clip_number clips c)
 

@@ -10,7 +10,6 @@ use Rattle.lists.specs.Placed.{Inside}
 use Rattle.lists.proofs.ByPlaces.{gathered_to, gathered_next, gathered-all}
 use Rattle.normal_form.proofs.merging.gather_marks.Given as goal
 
--- `normal_form::merging::gather_marks` meets its contract: the first i slots are written, and the others as they were. Assumes nothing.
 abbrev pub at : List ℕ → ℕ → ℕ
 at source i = get_or source i 0
 

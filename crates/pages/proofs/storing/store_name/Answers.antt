@@ -1,4 +1,3 @@
--- `pages::storing::store_name` meets its contract: the name's part comes back in its place. Assumes nothing.
 use Prim.Native.Nat.{ℕ, ◌+◌, ◌-◌, ◌*◌}
 use mathlib.Core.Path.{◌≡◌, sym, ap, ap₂, ◌∙◌}
 use mathlib.Core.List.{List, ◌++◌}
@@ -7,42 +6,47 @@ use borrow.Author.Rules.{rules}
 use lib.ListN.{length, take, drop, set, length-set}
 use Rattle.pages.specs.Pages.{over}
 use Rattle.pages.proofs.Parts.{span, over-ends, over-long}
-module _ (c : tie.After-copy-bytes) where
-  abbrev entry : tie.Start
-  entry = c.before.before.before.before
+use Rattle.pages.proofs.storing.store_name.Goals.{After-copy_bytes}
+use Rattle.pages.proofs.storing.store_name.Goals as goal
+
+-- `pages::storing::store_name` meets its contract: the name's part comes back in its place. Assumes nothing.
+-- the bytes once the name's part came back
+module _ (c : After-copy_bytes) where
+
   abbrev at : ℕ
-  at = entry.args.i * 256 + 1
+  at = c.args.i * 256 + 1
+
   abbrev put : List ℕ
-  put = take at entry.args.bytes.now ++ (c.copy-bytes.new.1.0 ++ drop (at + length entry.args.name.now - at) (drop at entry.args.bytes.now))
-  put_is : put ≡ over at entry.args.name.now entry.args.bytes.now
+  put = take at c.args.bytes.now ++ (c.copy_bytes.new.to ++ drop (at + length c.args.name.now - at) (drop at c.args.bytes.now))
+
+  put_is : put ≡ over at c.args.name.now c.args.bytes.now
   put_is =
-      over-ends at c.copy-bytes.new.1.0 entry.args.bytes.now (omega (arith, entry.pre.0, entry.pre.1.0)) _ (ap length c.copy-bytes.ensures ∙ sym (span at (length entry.args.name.now)))
-      ∙ ap (λ (l : List ℕ). over at l entry.args.bytes.now) c.copy-bytes.ensures
+      over-ends at c.copy_bytes.new.to c.args.bytes.now (omega (arith, c.requires.fact_1, c.requires.fact_2)) _ (ap length c.copy_bytes.ensures ∙ sym (span at (length c.args.name.now)))
+      ∙ ap (λ (l : List ℕ). over at l c.args.bytes.now) c.copy_bytes.ensures
+
   put-long : length put ≡ 4144
   put-long =
       ap length put_is
-      ∙ over-long at entry.args.name.now entry.args.bytes.now (omega (arith, entry.pre.0, entry.pre.1.0)) (omega (arith, entry.pre.0, entry.pre.1.0, entry.pre.1.1))
-      ∙ entry.pre.0
-use Rattle.pages.proofs.storing.store_name.Goals as goal
+      ∙ over-long at c.args.name.now c.args.bytes.now (omega (arith, c.requires.fact_1, c.requires.fact_2)) (omega (arith, c.requires.fact_1, c.requires.fact_2, c.requires.fact_3))
+      ∙ c.requires.fact_1
 
--- the bytes once the name's part came back
 pub bounds-bytes-at : goal.bounds-bytes-at
-bounds-bytes-at c = let s = entry c.before.before in omega (arith, put-long c.before.before, s.pre.1.0)
+bounds-bytes-at c = let s = c in omega (arith, put-long (goal.at.bounds-bytes-at c).After-copy_bytes, s.requires.fact_2)
 
 pub bounds-bytes-i : goal.bounds-bytes-i
 bounds-bytes-i c =
     let k = c in
-    let s = entry k in
-    omega (arith, put-long k, length-set (put k) (s.args.i * 256) (length s.args.name.now), s.pre.1.0)
+    let s = k in
+    omega (arith, put-long (goal.at.bounds-bytes-i k).After-copy_bytes, length-set (put (goal.at.bounds-bytes-i k).After-copy_bytes) (s.args.i * 256) (length s.args.name.now), s.requires.fact_2)
 
 pub shape_of-bytes : goal.shape_of-bytes
 shape_of-bytes c =
     let k = c in
-    let s = entry k in
-    length-set (set (put k) (s.args.i * 256) (length s.args.name.now)) (4128 + s.args.i) c.bit_of.result ∙ length-set (put k) (s.args.i * 256) (length s.args.name.now) ∙ put-long k ∙ sym s.pre.0
+    let s = k in
+    length-set (set (put (goal.at.shape_of-bytes k).After-copy_bytes) (s.args.i * 256) (length s.args.name.now)) (4128 + s.args.i) c.bit_of.result ∙ length-set (put (goal.at.shape_of-bytes k).After-copy_bytes) (s.args.i * 256) (length s.args.name.now) ∙ put-long (goal.at.shape_of-bytes k).After-copy_bytes ∙ sym s.requires.fact_1
 
 pub returns : goal.returns
 returns c =
     let k = c in
-    let s = entry k in
-    ap₂ (λ (l : List ℕ) (b : ℕ). set (set l (s.args.i * 256) (length s.args.name.now)) (4128 + s.args.i) b) (put_is k) c.bit_of.ensures
+    let s = k in
+    ap₂ (λ (l : List ℕ) (b : ℕ). set (set l (s.args.i * 256) (length s.args.name.now)) (4128 + s.args.i) b) (put_is (goal.at.returns k).After-copy_bytes) c.bit_of.ensures

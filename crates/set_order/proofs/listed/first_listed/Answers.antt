@@ -1,17 +1,16 @@
 -- `set_order::listed::first_listed` meets its contract: the names before the i-th are passed, and those from it on answer for all. Assumes nothing.
-use Prim.Native.Nat.{ℕ, ◌-◌, ◌<◌}
+use Prim.Native.Nat.{ℕ, ◌<◌}
 use mathlib.Core.Path.{◌≡◌, sym, ap, ◌∙◌}
 use mathlib.Core.List.{List}
 use mathlib.Core.Option.{some}
 use native.Mathlib.Omega.{arith}
-use borrow.Author.Rules.{rules}
 use lib.ListN.{length}
 use Rattle.dispatch.specs.SetOrder.{set_number}
 use Rattle.set_names.specs.Pages.{names_in, number_of}
 use Rattle.set_names.proofs.InPages.{names-long}
 use Rattle.set_order.proofs.Ends.{name, end_after, end-within}
 use Rattle.set_order.proofs.Mentions.{found_below}
-use Rattle.set_order.proofs.Passed.{Passed, none_passed, unknown, again, answers, placed, nobody}
+use Rattle.set_order.proofs.Passed.{none_passed, unknown, again, answers, placed, nobody}
 use Rattle.set_order.proofs.listed.first_listed.Goals.{At-loop-i, In-At}
 use Rattle.set_order.proofs.listed.first_listed.Goals as goal
 
@@ -66,7 +65,7 @@ pub returns-then-qualifies : goal.returns-then-qualifies
 returns-then-qualifies c =
     let n = c in
     let k = n.loop-i in
-        answers _ _ _ _ _ k.met k.place k.begin k.i k.invariant (omega arith) (number (goal.at.returns-then-qualifies n).In-At) (is_number (goal.at.returns-then-qualifies n).In-At) c.if-met-k.false n.requires.fact_2 n.requires.fact_3 (is_set (goal.at.returns-then-qualifies n).In-At) (sym c.qualifies.ensures ∙ c.if-qualifies.true)
+    answers _ _ _ _ _ k.met k.place k.begin k.i k.invariant (omega arith) (number (goal.at.returns-then-qualifies n).In-At) (is_number (goal.at.returns-then-qualifies n).In-At) c.if-met-k.false n.requires.fact_2 n.requires.fact_3 (is_set (goal.at.returns-then-qualifies n).In-At) (sym c.qualifies.ensures ∙ c.if-qualifies.true)
 
 pub bounds-met-k-in-loop-i : goal.bounds-met-k-in-loop-i
 bounds-met-k-in-loop-i c = let n = c in omega (arith, is_set (goal.at.bounds-met-k-in-loop-i n).In-At, n.requires.fact_2)
@@ -78,7 +77,7 @@ pub loop-i-preserved : goal.loop-i-preserved
 loop-i-preserved c =
     let n = c in
     let k = n.loop-i in
-        placed _ _ _ _ _ k.met k.place k.begin k.i k.invariant (omega arith) (number (goal.at.loop-i-preserved n).In-At) (is_number (goal.at.loop-i-preserved n).In-At) c.if-met-k.false n.requires.fact_2 n.requires.fact_3 (is_set (goal.at.loop-i-preserved n).In-At) (sym c.qualifies.ensures ∙ c.if-qualifies.false)
+    placed _ _ _ _ _ k.met k.place k.begin k.i k.invariant (omega arith) (number (goal.at.loop-i-preserved n).In-At) (is_number (goal.at.loop-i-preserved n).In-At) c.if-met-k.false n.requires.fact_2 n.requires.fact_3 (is_set (goal.at.loop-i-preserved n).In-At) (sym c.qualifies.ensures ∙ c.if-qualifies.false)
 
 pub returns : goal.returns
 returns c = let k = c.loop-i in nobody _ _ _ _ _ k.met k.place k.begin k.i k.invariant (omega arith)

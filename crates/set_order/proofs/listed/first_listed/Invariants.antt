@@ -1,17 +1,8 @@
 -- `set_order::listed::first_listed` meets its contract: the names before the i-th are passed, and those from it on answer for all. Assumes nothing.
-use Prim.Native.Nat.{ℕ, ◌-◌, ◌<◌}
-use mathlib.Core.Path.{◌≡◌, sym, ap, ◌∙◌}
-use mathlib.Core.List.{List}
-use mathlib.Core.Option.{some}
-use native.Mathlib.Omega.{arith}
-use borrow.Author.Rules.{rules}
+use Prim.Native.Nat.{◌-◌}
 use lib.ListN.{length}
-use Rattle.dispatch.specs.SetOrder.{set_number}
-use Rattle.set_names.specs.Pages.{names_in, number_of}
-use Rattle.set_names.proofs.InPages.{names-long}
-use Rattle.set_order.proofs.Ends.{name, end_after, end-within}
-use Rattle.set_order.proofs.Mentions.{found_below}
-use Rattle.set_order.proofs.Passed.{Passed, none_passed, unknown, again, answers, placed, nobody}
+use Rattle.set_names.specs.Pages.{names_in}
+use Rattle.set_order.proofs.Passed.{Passed}
 use Rattle.set_order.proofs.listed.first_listed.Given as goal
 
 abbrev pub invariant-loop-i : goal.invariant-loop-i

@@ -11,7 +11,6 @@ use Rattle.definitions.specs.Lists.{any}
 use Rattle.lists.proofs.Fronts.{any_found, at_most_one, counted-all}
 use Rattle.value.proofs.direct.blocked_at.Given as goal
 
--- `value::direct::blocked_at` meets its contract: those counted and what is left of the list answer for the whole. Assumes nothing.
 abbrev pub same : Float → Float → Bool
 same start b = eq b start
 
