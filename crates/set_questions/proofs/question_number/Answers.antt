@@ -11,7 +11,7 @@ use Rattle.set_questions.specs.Asking.{order_of}
 use Rattle.pages.proofs.Parts.{part-to}
 use Rattle.set_questions.proofs.Asked.{then-first, then_next, listed-number, unlisted-number}
 use borrow.Author.Rules.{rules}
-use Rattle.set_questions.proofs.question_number.Goals.{Joined-given, Start as At-start}
+use Rattle.set_questions.proofs.question_number.Goals.{Joined-given, Start as At-start, else-given, then-given+else-number-ne0}
 use Rattle.set_questions.proofs.question_number.Goals as goal
 
 abbrev asked : At-start → ℕ
@@ -36,7 +36,10 @@ samples_number-requires c =
 passed : (c : Joined-given) → asked (goal.at.Joined-given c).Start ≡ 0
 passed c =
     let s = c in
-    ⊎_elim (λ t. sym (listed-number s.args.given _ _ _ t.0.taken t.1.ensures) ∙ t.2.left) (λ t. unlisted-number s.args.given _ _ t.left) c.if-given.branch
+    elim c.if-given.branch [
+      | then-given+else-number-ne0 w ↦ sym (listed-number s.args.given _ _ _ w.if-given.true w.order_number-number.ensures) ∙ w.if-number-ne0.false
+      | else-given w ↦ unlisted-number s.args.given _ _ w.if-given.false
+    ]
 
 pub returns : goal.returns
 returns c =
