@@ -1,9 +1,8 @@
 -- `set_samples::own_of` meets its contract: the walk of `parts_number` up to the k-th set, of samples that are accepted. Assumes nothing.
-use Prim.Native.Nat.{ℕ, ◌+◌, ◌-◌, ◌≤◌, ◌<◌}
+use Prim.Native.Nat.{ℕ, ◌+◌, ◌≤◌, ◌<◌}
 use native.Mathlib.Omega.{arith}
 use mathlib.Core.Path.{◌≡◌, subst}
 use mathlib.Core.List.{List}
-use borrow.Author.Rules.{rules}
 use lib.ListN.{length, get_or}
 use Rattle.dispatch.specs.SetSamples.{SetSamples}
 use Rattle.set_samples.specs.Parting.{lent_samples}

@@ -1,14 +1,7 @@
 -- `set_samples::own_of` meets its contract: the walk of `parts_number` up to the k-th set, of samples that are accepted. Assumes nothing.
-use Prim.Native.Nat.{ℕ, ◌+◌, ◌-◌, ◌≤◌, ◌<◌}
-use native.Mathlib.Omega.{arith}
-use mathlib.Core.Path.{◌≡◌, subst}
-use mathlib.Core.List.{List}
-use borrow.Author.Rules.{rules}
-use lib.ListN.{length, get_or}
-use Rattle.dispatch.specs.SetSamples.{SetSamples}
+use Prim.Native.Nat.{◌-◌, ◌≤◌}
 use Rattle.set_samples.specs.Parting.{lent_samples}
-use Rattle.set_samples.proofs.Walk.{Before, before-next, samples-room, ends-room}
-use Rattle.set_samples.proofs.Judged.{starts, found}
+use Rattle.set_samples.proofs.Walk.{Before}
 use Rattle.set_samples.proofs.own_of.Given as goal
 
 abbrev pub invariant-loop-i : goal.invariant-loop-i

@@ -1,13 +1,12 @@
 -- `set_samples::parts_number` meets its contract: each set's own samples are judged as one set's. Assumes nothing.
-use Prim.Native.Nat.{ℕ, ◌+◌, ◌-◌, ◌≤◌}
+use Prim.Native.Nat.{ℕ, ◌+◌, ◌≤◌}
 use native.Mathlib.Omega.{arith}
 use mathlib.Core.List.{List}
-use borrow.Author.Rules.{rules}
 use lib.ListN.{length, get_or}
 use Rattle.dispatch.specs.SetSamples.{SetSamples}
 use Rattle.set_samples.specs.Parting.{lent_samples}
 use Rattle.set_samples.proofs.Walk.{samples-room, ends-room}
-use Rattle.set_samples.proofs.Judged.{Judging, begins, ended, next}
+use Rattle.set_samples.proofs.Judged.{begins, ended, next}
 use Rattle.set_samples.proofs.parts_number.Goals.{At-loop-i, In-loop-i}
 use Rattle.set_samples.proofs.parts_number.Goals as goal
 

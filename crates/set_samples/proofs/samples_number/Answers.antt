@@ -1,7 +1,6 @@
 -- `set_samples::samples_number` meets its contract: the six tests of 1, then the parts. Assumes nothing.
 use mathlib.Core.Path.{sym, ◌∙◌, subst}
 use mathlib.Core.Bool.{true≢false}
-use borrow.Author.Rules.{rules}
 use Rattle.set_samples.specs.declared.Total.TheVariants.{Sum}
 use Rattle.set_samples.specs.Parting.{lent_samples, Totals}
 use Rattle.set_samples.proofs.Misshapen.{parted, refused}
@@ -35,11 +34,14 @@ parts_number-requires c =
     let four = c in
     let three = four in
     let two = three in
-    let s = two in record { fact_1 = s.requires; fact_2 = parted s.args.clips.now (lent_samples s.args.counts.now s.args.ends.now s.args.times.now s.args.values.now s.args.marks.now) record {
+    let s = two in record {
+      fact_1 = s.requires;
+      fact_2 = parted s.args.clips.now (lent_samples s.args.counts.now s.args.ends.now s.args.times.now s.args.values.now s.args.marks.now) record {
         values-alike = two.if-values-times.false;
         marks-alike = two.if-marks-times.false;
         counts-are = three.if-counts-clips.false;
         few = (summed (goal.at.parts_number-requires four).In-Sum).0;
         samples-are = sym (summed (goal.at.parts_number-requires four).In-Sum).1 ∙ four.if-samples-times.false;
         ends-are = c.if-ends-total_clips.false ∙ c.total_clips.ensures;
-      } }
+      };
+    }

@@ -1,9 +1,6 @@
 -- `set_samples::total_samples` meets its contract: the first i counts are added. Assumes nothing.
-use Prim.Native.Nat.{◌-◌}
 use native.Mathlib.Omega.{arith}
-use borrow.Author.Rules.{rules}
-use lib.ListN.{length}
-use Rattle.set_samples.proofs.Sums.{Adding, adding, add-next, add-above, added}
+use Rattle.set_samples.proofs.Sums.{adding, add-next, add-above, added}
 use Rattle.set_samples.proofs.total_samples.Goals as goal
 
 pub loop-i-init : goal.loop-i-init

@@ -1,9 +1,7 @@
 -- `set_samples::total_samples` meets its contract: the first i counts are added. Assumes nothing.
 use Prim.Native.Nat.{◌-◌}
-use native.Mathlib.Omega.{arith}
-use borrow.Author.Rules.{rules}
 use lib.ListN.{length}
-use Rattle.set_samples.proofs.Sums.{Adding, adding, add-next, add-above, added}
+use Rattle.set_samples.proofs.Sums.{Adding}
 use Rattle.set_samples.proofs.total_samples.Given as goal
 
 abbrev pub invariant-loop-i : goal.invariant-loop-i
