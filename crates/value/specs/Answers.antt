@@ -1,5 +1,5 @@
 -- What a source says by the lent lists. Assumes nothing.
-use Rattle.std.specs.Prelude.{List, ℕ, ◌+◌, ◌-◌, ◌<◌, length, get_or, Float}
+use Rattle.std.specs.Prelude.{List, ℕ, ◌+◌, ◌<◌, length, get_or, Float}
 use Rattle.gf.specs.Doubles.{0·0}
 use Rattle.definitions.specs.declared.Missing.{Missing}
 use Rattle.definitions.specs.declared.Source.{Source}

@@ -1,8 +1,7 @@
 -- A segment of the knots that holds a stage time. Assumes nothing.
-use Rattle.std.specs.Prelude.{◌≡◌, Bool, true, ◌&&◌, List, ℕ, ◌+◌, ◌-◌, ◌<◌, ltb, length, get_or, Float}
+use Rattle.std.specs.Prelude.{◌≡◌, Bool, true, ◌&&◌, List, ℕ, ◌+◌, ◌<◌, ltb, length, get_or, Float}
 use Rattle.std.specs.Float.{nan}
 use Rattle.std.specs.Float.Ieee.{lt, le}
-use Rattle.definitions.specs.Explicit.{knot}
 
 -- t lies from the knot at i on and below the next
 pub record OnSegment (xs : List Float) (t : Float) (i : ℕ) : Type 0 where

@@ -3,7 +3,7 @@ use Rattle.std.proofs.Common.{rules}
 use Rattle.cases.proofs.tell.Goals as goal
 
 pub written-session-requires-2 : goal.written-session-requires-2
-written-session-requires-2 c = c.requires.0
+written-session-requires-2 c = c.requires.fact_1
 
 pub returns : goal.returns
-returns c = record { stays = c.written-session-2.ensures; made = c.requires.1 }
+returns c = record { stays = c.written-session-2.ensures; made = c.requires.fact_2 }

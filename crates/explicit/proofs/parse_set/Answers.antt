@@ -1,7 +1,6 @@
 -- `explicit::parse_set` meets its contract: the numbers of its fields, or those of the settled lists. Assumes nothing.
 use mathlib.Core.Path.{◌≡◌, sym, subst, ◌∙◌}
 use native.Mathlib.Omega.{arith}
-use borrow.Author.Rules.{rules}
 use lib.Dec.{T}
 use lib.Seq.{length-take-le}
 use Rattle.definitions.specs.Explicit.{ExplicitFields}
@@ -65,12 +64,15 @@ slice_bounds-parse_lists-end-4 c = sym (length-take-le _ _ (limits (goal.at.slic
 
 pub parse_lists-requires : goal.parse_lists-requires
 parse_lists-requires c =
-    let l = limits (goal.at.parse_lists-requires c).Else-number-ne0 in record { fact_1 = none (goal.at.parse_lists-requires c).Else-number-ne0; fact_2 = record {
+    let l = limits (goal.at.parse_lists-requires c).Else-number-ne0 in record {
+      fact_1 = none (goal.at.parse_lists-requires c).Else-number-ne0;
+      fact_2 = record {
         for-times = length-take-le _ _ l.starts;
         for-indices = length-take-le _ _ l.starts;
         for-xs = length-take-le _ _ l.knots;
         for-ys = length-take-le _ _ l.knots;
-      } }
+      };
+    }
 
 pub returns : goal.returns
 returns c =

@@ -3,7 +3,6 @@ use mathlib.Core.Path.{sym, ◌∙◌}
 use Rattle.definitions.specs.Samples.{samples2}
 use Rattle.normal_form.specs.Normalizes.{listed_number}
 use Rattle.sdf.proofs.Lent.{paired}
-use borrow.Author.Rules.{rules}
 use Rattle.normal_form.proofs.listed_number.Goals as goal
 
 pub returns-then-unlike_lengths : goal.returns-then-unlike_lengths

@@ -6,7 +6,6 @@ use lib.Seq.{length-take-le}
 use Rattle.normal_form.specs.Normalizes.{listed_number}
 use Rattle.normal_form.proofs.Normal.{refused}
 use Rattle.normal_form.proofs.Written.{untouched, long}
-use borrow.Author.Rules.{rules}
 use Rattle.definitions.specs.Moments.{outputs}
 use Rattle.normal_form.proofs.normalize_time_samples.Goals.{Else-number-ne0}
 use Rattle.normal_form.proofs.normalize_time_samples.Goals as goal

@@ -1,10 +1,8 @@
 -- `template::clip_times` meets its contract: 2, 7, 8, 22, else the clip times. Assumes nothing.
 use Prim.Native.Nat.{◌≤◌}
-use mathlib.Core.Path.{◌≡◌, sym, subst, ◌∙◌}
+use mathlib.Core.Path.{◌≡◌, sym, ◌∙◌}
 use mathlib.Core.Bool.{false}
 use native.Mathlib.Omega.{arith}
-use borrow.Author.Rules.{rules}
-use borrow.Author.Tests.{not-false}
 use lib.ListN.{length, take}
 use lib.Seq.{length-take-le}
 use Rattle.definitions.specs.Template.{promoted, times_unstorable, times_disordered}
@@ -68,5 +66,5 @@ returns c =
     let q = r in
     let p = q in
     let a = p.args in
-        let w = c.write_clip_times in
+    let w = c.write_clip_times in
     says_all a.times (offset_of a.times a.offset) a.out.now (finite (goal.at.returns p).Else-is_unstorable) (ordered (goal.at.returns q).Else-is_disordered) (few (goal.at.returns r).Else-count-gt-CLIPS) _ _ _ r.promote-promoted.ensures.count (r.promote-promoted.ensures.list r.if-count-gt-CLIPS.false) w.ensures (omega (arith, f.if-out-count.false, r.promote-promoted.ensures.count))

@@ -3,7 +3,6 @@ use Prim.Native.Nat.{◌≤◌}
 use mathlib.Core.Path.{◌≡◌, sym, ap, subst, ◌∙◌}
 use mathlib.Core.List.{List}
 use native.Mathlib.Omega.{arith}
-use borrow.Author.Rules.{rules}
 use lib.Dec.{T}
 use lib.ListN.{length, take}
 use lib.Seq.{length-take-le}
@@ -97,6 +96,6 @@ returns c =
     let b = c in
     let s = b in
     let f = fields (goal.at.returns s).Start in
-        let r = c.expand_lists in
+    let r = c.expand_lists in
     template-settles f r.result (fitting (goal.at.returns b).After-shared_slice_known-2-1) (none (goal.at.returns b).Else-number-ne0) (omega (arith, b.promote-promoted.ensures.count, few (goal.at.returns b).After-knot_count-m))
     (subst (λ (ts : List Float). Stores empty_set (expanded_set ts s.args.times (active_offset f) s.args.blocks.now (manifest s.args.default s.args.interpolate)) r.result) (b.promote-promoted.ensures.list (few (goal.at.returns b).After-knot_count-m)) r.ensures)

@@ -4,4 +4,4 @@ use Rattle.std.proofs.Common.{rules}
 use Rattle.cases.proofs.named.change.Goals as goal
 
 pub returns : goal.returns
-returns c = (stays_on c.counted.ensures c.told.ensures, c.change-said.ensures.made)
+returns c = record { fact_1 = stays_on c.counted.ensures c.told.ensures; fact_2 = c.change-said.ensures.made }

@@ -8,7 +8,7 @@ use Rattle.cases.proofs.named.renew.Goals as goal
 abbrev lent : At-start → Pages
 lent s = let a = s.args in pages a.starts.now a.numbers.now a.xs.now a.ys.now a.blocks.now a.defaults.now a.counts.now a.bytes.now
 
-sized : (c : After-fresh) → Sized (lent c.before.before.before.before.before.before.before.before.before)
+sized : (c : After-fresh) → Sized (lent (goal.at.After-fresh c).Start)
 sized c = record {
   of-starts = c.fresh-arg-1.given.0.1;
   of-numbers = c.fresh-arg-2-1.given.0.1;
@@ -19,4 +19,4 @@ sized c = record {
 }
 
 pub returns : goal.returns
-returns c = begun {p = lent c.before.before.before.before.before.before.before.before.before} c.fresh.result (sized c) c.fresh.ensures
+returns c = begun {p = lent (goal.at.returns c).Start} c.fresh.result (sized c) c.fresh.ensures

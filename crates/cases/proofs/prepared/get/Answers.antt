@@ -4,4 +4,4 @@ use Rattle.cases.proofs.Slotting.{gets}
 use Rattle.cases.proofs.prepared.get.Goals as goal
 
 pub returns : goal.returns
-returns c = let s = c.before in gets s.args.t1 s.args.slot _ s.requires.0 s.requires.1
+returns c = let s = c in gets s.args.slots s.args.slot _ s.requires.fact_1 s.requires.fact_2

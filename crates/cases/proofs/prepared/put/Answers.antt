@@ -4,4 +4,4 @@ use Rattle.cases.proofs.Slotting.{puts}
 use Rattle.cases.proofs.prepared.put.Goals as goal
 
 pub returns : goal.returns
-returns c = let s = c.before.before in puts s.args.slots s.args.slot s.args.set s.requires.0 s.requires.1.1
+returns c = let s = c in puts s.args.slots s.args.slot s.args.set s.requires.fact_1 s.requires.fact_3

@@ -7,21 +7,20 @@ use Rattle.track.specs.Fills.{CursorIs}
 use Rattle.cases.proofs.track_hash.walk.Goals as goal
 
 pub latest_inverses-latest-requires : goal.latest_inverses-latest-requires
-latest_inverses-latest-requires c = let a = c.before.before.before.before.before.before.before.before.before in (a.requires.0.knots-paired, (few-knots a.requires.0, (ready-readable a.requires.0).segments))
+latest_inverses-latest-requires c = let a = c in record { fact_1 = a.requires.accepted_lists.knots-paired; fact_2 = few-knots a.requires.accepted_lists; fact_3 = (ready-readable a.requires.accepted_lists).segments }
 
 pub loop-m-init : goal.loop-m-init
 loop-m-init c =
-    let a = c.before.before.before.before.before.before.before.before.before.before.before in
-    record { keys = record { low = lit≤ tt; order = lit≤ tt; high = lit≤ tt }; last = a.requires.1; place = no-place-is a.requires.0 c.no_place-place.result c.no_place-place.ensures }
+    let a = c in
+    record { keys = record { low = lit≤ tt; order = lit≤ tt; high = lit≤ tt }; last = a.requires.head_value; place = no-place-is a.requires.accepted_lists c.no_place-place.result c.no_place-place.ensures }
 
 pub walk_page-page-requires : goal.walk_page-page-requires
-walk_page-page-requires c = let b = c.before.before.before in (b.requires.0, (b.latest_inverses-latest.ensures, b.loop.invariant))
+walk_page-page-requires c = let b = c in record { accepted_lists = b.requires.accepted_lists; latest_of = b.latest_inverses-latest.ensures; cursor_is = b.loop-m.invariant }
 
 pub loop-m-smaller : goal.loop-m-smaller
 loop-m-smaller c =
-    let P = c.walk_page-page.ensures in
-    let o = P.onward c.if-filled.false in
-    let u = P.passed.cursor.keys.order in
+    let o = c.walk_page-page.ensures.onward c.if-filled.false in
+    let u = c.walk_page-page.ensures.passed.cursor.keys.order in
     omega arith
 
 pub loop-m-preserved : goal.loop-m-preserved

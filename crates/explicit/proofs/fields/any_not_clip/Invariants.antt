@@ -1,14 +1,11 @@
 -- `explicit::fields::any_not_clip` meets its contract: what is left of the list answers for the whole. Assumes nothing.
 use Prim.Native.Nat.{ℕ, ◌-◌, ◌≤◌}
-use mathlib.Core.Path.{◌≡◌, refl, sym, ap, ◌∙◌}
+use mathlib.Core.Path.{◌≡◌}
 use mathlib.Core.Bool.{Bool, not}
-use native.Mathlib.Omega.{arith}
-use borrow.Author.Rules.{rules}
 use lib.ListN.{length, drop}
-use lib.Ieee.{Float, nan}
+use lib.Ieee.{Float}
 use Rattle.gf.specs.Doubles.{is_clip_number}
 use Rattle.definitions.specs.Lists.{any}
-use Rattle.lists.proofs.Fronts.{any_here, any-later, any-end}
 use Rattle.explicit.specs.Parsing.{any_not_clip}
 use Rattle.explicit.proofs.fields.any_not_clip.Given as goal
 

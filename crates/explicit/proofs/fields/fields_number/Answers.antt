@@ -1,7 +1,6 @@
 -- `explicit::fields::fields_number` meets its contract: one test after the other. Assumes nothing.
 use mathlib.Core.Path.{◌≡◌, sym, ◌∙◌}
 use mathlib.Core.Bool.{false}
-use borrow.Author.Rules.{rules}
 use lib.ListN.{length}
 use Rattle.definitions.specs.ClipSet.{any_unstorable, nan_default}
 use Rattle.definitions.specs.Explicit.{explicit1, explicit2, explicit3}

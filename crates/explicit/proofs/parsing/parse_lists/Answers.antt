@@ -1,7 +1,6 @@
 -- `explicit::parsing::parse_lists` meets its contract. Assumes nothing.
 use mathlib.Core.Path.{sym, subst, ◌∙◌}
 use native.Mathlib.Omega.{arith}
-use borrow.Author.Rules.{rules}
 use Rattle.definitions.specs.ClipSet as Definitions
 use Rattle.definitions.specs.Explicit.{ExplicitFields}
 use Rattle.laws.proofs.set.SoundExplicit.{ExplicitLimits}
@@ -49,7 +48,7 @@ sort_lists-requires c = let f = fitting c in record { times_len = (f.starts, ome
 
 pub check_and_store-requires : goal.check_and_store-requires
 check_and_store-requires c =
-        let f = fitting (goal.at.check_and_store-requires c).After-sort_lists-arg-4-1 in
+    let f = fitting (goal.at.check_and_store-requires c).After-sort_lists-arg-4-1 in
     record {
       starts = c.sort_lists.auto.times ∙ f.starts ∙ sym c.sort_lists.auto.numbers;
       knots = c.sort_lists.auto.xs ∙ f.knots ∙ sym c.sort_lists.auto.ys;

@@ -1,10 +1,7 @@
 -- `normal_form::merging::gather_marks` meets its contract: the first i slots are written, and the others as they were. Assumes nothing.
-use Prim.Native.Nat.{ℕ, ◌-◌, ◌≤◌}
 use mathlib.Core.Path.{◌≡◌, refl, ap, ◌∙◌}
-use mathlib.Core.List.{List}
 use native.Mathlib.Omega.{arith}
-use borrow.Author.Rules.{rules}
-use lib.ListN.{length, get_or, length-set}
+use lib.ListN.{length, length-set}
 use Rattle.laws.proofs.list.Every.{every-at}
 use Rattle.lists.specs.Placed.{Inside}
 use Rattle.lists.proofs.ByPlaces.{gathered_to, gathered_next, gathered-all}

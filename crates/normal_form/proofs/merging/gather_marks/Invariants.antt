@@ -1,13 +1,9 @@
 -- `normal_form::merging::gather_marks` meets its contract: the first i slots are written, and the others as they were. Assumes nothing.
 use Prim.Native.Nat.{ℕ, ◌-◌, ◌≤◌}
-use mathlib.Core.Path.{◌≡◌, refl, ap, ◌∙◌}
+use mathlib.Core.Path.{◌≡◌}
 use mathlib.Core.List.{List}
-use native.Mathlib.Omega.{arith}
-use borrow.Author.Rules.{rules}
-use lib.ListN.{length, get_or, length-set}
-use Rattle.laws.proofs.list.Every.{every-at}
-use Rattle.lists.specs.Placed.{Inside}
-use Rattle.lists.proofs.ByPlaces.{gathered_to, gathered_next, gathered-all}
+use lib.ListN.{length, get_or}
+use Rattle.lists.proofs.ByPlaces.{gathered_to}
 use Rattle.normal_form.proofs.merging.gather_marks.Given as goal
 
 abbrev pub at : List ℕ → ℕ → ℕ

@@ -6,7 +6,6 @@ use lib.ListN.{length}
 use Rattle.laws.specs.list.Every.{Every}
 use Rattle.lists.specs.Placed.{Inside}
 use Rattle.normal_form.proofs.Written.{long, storable, order-inside, order-length, in-runs}
-use borrow.Author.Rules.{rules}
 use Rattle.normal_form.proofs.merging.normalize_into.Goals as goal
 
 pub order-requires : goal.order-requires

@@ -5,7 +5,6 @@ use Rattle.definitions.specs.Track.{Outputs}
 use Rattle.definitions.specs.Moments.{outputs}
 use Rattle.normal_form.proofs.Normal.{short-times, short-values, short-marks}
 use Rattle.normal_form.proofs.Written.{first-length, last-length, first-inside, last-values, last-marks, no_room, written}
-use borrow.Author.Rules.{rules}
 use Rattle.normal_form.proofs.merging.write.Goals.{Start as At-start}
 use Rattle.normal_form.proofs.merging.write.Goals as goal
 

@@ -1,7 +1,6 @@
 -- `template::expanding::expand_lists` meets its contract. Assumes nothing.
 use mathlib.Core.Path.{sym, subst, ◌∙◌}
 use native.Mathlib.Omega.{arith}
-use borrow.Author.Rules.{rules}
 use lib.ListN.{length}
 use Rattle.definitions.specs.ClipSet as Definitions
 use Rattle.definitions.specs.Examining.{empty_set}
@@ -21,7 +20,7 @@ fitting c =
     let k = v in
     let h = k in
     let s = h in
-        let t = h.write_starts.auto.to ∙ s.requires.for-times in
+    let t = h.write_starts.auto.to ∙ s.requires.for-times in
     let n = k.write_numbers.auto.to ∙ s.requires.for-numbers in
     let x = v.write_knots.auto.xs ∙ s.requires.for-xs in
     let y = w.copy.auto.to ∙ s.requires.for-ys in
@@ -32,7 +31,7 @@ sort_lists-requires c = let f = fitting c in record { times_len = (f.starts, ome
 
 pub check_and_store-requires : goal.check_and_store-requires
 check_and_store-requires c =
-        let f = fitting (goal.at.check_and_store-requires c).After-sort_lists-arg-4-1 in
+    let f = fitting (goal.at.check_and_store-requires c).After-sort_lists-arg-4-1 in
     record {
       starts = c.sort_lists.auto.times ∙ f.starts ∙ sym c.sort_lists.auto.numbers;
       knots = c.sort_lists.auto.xs ∙ f.knots ∙ sym c.sort_lists.auto.ys;

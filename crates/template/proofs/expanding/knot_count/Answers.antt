@@ -1,5 +1,4 @@
 -- `template::expanding::knot_count` meets its contract. Assumes nothing.
-use borrow.Author.Rules.{rules}
 use Rattle.template.proofs.expanding.knot_count.Goals as goal
 
 pub returns-then-offset : goal.returns-then-offset

@@ -1,12 +1,11 @@
 -- `template::expanding::promote` meets its contract: the times before t are written, and t begins the rest. Assumes nothing.
-use Prim.Native.Nat.{ℕ, ◌-◌}
+use Prim.Native.Nat.{ℕ}
 use mathlib.Core.Path.{◌≡◌, sym, ap, ◌∙◌}
 use native.Mathlib.Omega.{arith}
-use borrow.Author.Rules.{rules}
 use lib.ListN.{take}
 use lib.Ieee.{of_bits}
 use Rattle.gf.specs.Doubles.{◌⊕◌, ◌⊗◌, 0·5, 10000·0}
-use Rattle.template.proofs.Promotion.{Promoting, promote-start, promote-next, promote-ends, promote-length, promote-more, promotes}
+use Rattle.template.proofs.Promotion.{promote-start, promote-next, promote-ends, promote-length, promote-more, promotes}
 use Rattle.template.proofs.expanding.promote.Goals as goal
 
 pub loop-i-init : goal.loop-i-init

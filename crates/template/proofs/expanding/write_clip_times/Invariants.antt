@@ -1,14 +1,11 @@
 -- `template::expanding::write_clip_times` meets its contract: the first i entries are written. Assumes nothing.
 use Prim.Native.Nat.{◌-◌}
-use mathlib.Core.Path.{◌≡◌, sym, ◌∙◌}
+use mathlib.Core.Path.{◌≡◌}
 use mathlib.Core.List.{map}
-use native.Mathlib.Omega.{arith}
-use borrow.Author.Rules.{rules}
-use lib.ListN.{length, length-set, length-map}
-use lib.Ieee.{Float, nan, of_bits}
+use lib.ListN.{length}
+use lib.Ieee.{Float}
 use Rattle.gf.specs.Doubles.{◌⊘◌, 10000·0}
-use Rattle.lists.proofs.Filled.{Filled, fill_start, fill-next, fill-whole}
-use Rattle.clip.proofs.Laws.{mapped_at}
+use Rattle.lists.proofs.Filled.{Filled}
 use Rattle.template.proofs.expanding.write_clip_times.Given as goal
 
 abbrev pub invariant-loop-i : goal.invariant-loop-i

@@ -1,7 +1,6 @@
 -- `template::expanding::write_knots` meets its contract. Assumes nothing.
 use mathlib.Core.Path.{ap, ◌∙◌}
 use mathlib.Core.Bool.{Bool}
-use borrow.Author.Rules.{rules}
 use lib.ListN.{length}
 use Rattle.template.specs.Expanding.{knot_count}
 use Rattle.template.proofs.Expansion.{with-bounds, without-bounds}

@@ -1,11 +1,9 @@
 -- `template::expanding::write_numbers` meets its contract: the first i numbers are written. Assumes nothing.
-use Prim.Native.Nat.{◌-◌}
-use mathlib.Core.Path.{◌≡◌, refl, sym, ◌∙◌}
+use mathlib.Core.Path.{refl, sym, ◌∙◌}
 use native.Mathlib.Omega.{arith}
-use borrow.Author.Rules.{rules}
-use lib.ListN.{length, length-set}
+use lib.ListN.{length-set}
 use Rattle.template.specs.Expanding.{numbered}
-use Rattle.lists.proofs.Filled.{Filled, fill_start, fill-next, fill-whole}
+use Rattle.lists.proofs.Filled.{fill_start, fill-next, fill-whole}
 use Rattle.template.proofs.Expansion.{numbered-length, numbered-at}
 use Rattle.template.proofs.expanding.write_numbers.Goals as goal
 

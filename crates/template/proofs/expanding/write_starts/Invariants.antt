@@ -1,15 +1,11 @@
 -- `template::expanding::write_starts` meets its contract: the first i entries are written. Assumes nothing.
 use Prim.Native.Nat.{◌-◌}
-use mathlib.Core.Path.{◌≡◌, sym, ◌∙◌}
+use mathlib.Core.Path.{◌≡◌}
 use mathlib.Core.List.{map}
-use native.Mathlib.Omega.{arith}
-use borrow.Author.Rules.{rules}
-use lib.ListN.{length, length-set, length-map}
-use lib.Ieee.{nan, of_bits}
+use lib.ListN.{length}
 use Rattle.definitions.specs.Template.{stage_time}
 use Rattle.template.specs.Expanding.{offset_of}
-use Rattle.lists.proofs.Filled.{Filled, fill_start, fill-next, fill-whole}
-use Rattle.clip.proofs.Laws.{mapped_at}
+use Rattle.lists.proofs.Filled.{Filled}
 use Rattle.template.proofs.expanding.write_starts.Given as goal
 
 abbrev pub invariant-loop-i : goal.invariant-loop-i

@@ -1,13 +1,11 @@
 -- `template::fields::fields_number` meets its contract: one test after the other. Assumes nothing.
 use mathlib.Core.Path.{◌≡◌, sym, ◌∙◌}
 use mathlib.Core.Bool.{false}
-use borrow.Author.Rules.{rules}
 use borrow.Author.Tests.{lt-ltb, le-ltb}
 use Rattle.definitions.specs.ClipSet.{any_unstorable}
 use Rattle.definitions.specs.Template.{TemplateFields, template1, template2, template7, template6}
 use Rattle.definitions.specs.Template.{times_unstorable, times_disordered}
 use Rattle.template.specs.Expanding.{template_fields, offset_of, template_fields_number}
-use Rattle.clip.proofs.Laws.{untrue, holding}
 use Rattle.template.proofs.fields.fields_number.Goals.{Else-any_unstorable, Else-blocks-gt-BLOCKS, Else-is_disordered, Else-is_nan_default, Else-is_unstorable, Start as At-start}
 use Rattle.template.proofs.fields.fields_number.Goals as goal
 

@@ -1,6 +1,5 @@
 -- `template::fields::is_disordered` meets its contract: one test after the other. Assumes nothing.
 use mathlib.Core.Path.{ap}
-use borrow.Author.Rules.{rules}
 use lib.Ieee.{Float, lt, of_bits}
 use Rattle.definitions.specs.Template.{times_disordered}
 use Rattle.template.proofs.fields.is_disordered.Goals as goal

@@ -1,11 +1,9 @@
 -- `template::fields::is_unstorable` meets its contract: one test after the other. Assumes nothing.
 use mathlib.Core.Path.{sym, ◌∙◌, ◌≡◌, ap}
 use mathlib.Core.Bool.{true, not}
-use borrow.Author.Rules.{rules}
 use Rattle.gf.specs.Doubles.{storable}
 use lib.Ieee.Scale.{finite}
 use Rattle.definitions.specs.Template.{times_unstorable}
-use Rattle.clip.proofs.Laws.{untrue, holding}
 use Rattle.template.proofs.fields.is_unstorable.Goals.{Else-not-is_finite, Else-not-is_storable, Else-not-is_storable-2}
 use Rattle.template.proofs.fields.is_unstorable.Goals as goal
 

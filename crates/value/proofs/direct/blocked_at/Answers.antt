@@ -1,12 +1,11 @@
 -- `value::direct::blocked_at` meets its contract: those counted and what is left of the list answer for the whole. Assumes nothing.
-use Prim.Native.Nat.{ℕ, ◌+◌, ◌-◌, ◌≤◌}
-use mathlib.Core.Path.{◌≡◌, refl, sym, ap, ◌∙◌}
-use mathlib.Core.Bool.{Bool, ◌||◌}
+use Prim.Native.Nat.{ℕ, ◌+◌, ◌≤◌}
+use mathlib.Core.Path.{refl, sym, ap, ◌∙◌}
+use mathlib.Core.Bool.{◌||◌}
 use native.Mathlib.Omega.{arith}
-use borrow.Author.Rules.{rules}
 use lib.Dec.{ltb}
-use lib.ListN.{length, get_or, drop}
-use lib.Ieee.{Float, nan, eq}
+use lib.ListN.{get_or, drop}
+use lib.Ieee.{nan}
 use Rattle.definitions.specs.Lists.{any}
 use Rattle.lists.proofs.Fronts.{any_found, at_most_one, counted-all}
 use Rattle.value.proofs.direct.blocked_at.Invariants.{same}

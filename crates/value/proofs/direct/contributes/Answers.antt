@@ -1,5 +1,4 @@
 -- `value::direct::contributes` meets its contract. Assumes nothing.
-use borrow.Author.Rules.{rules}
 use Rattle.value.proofs.direct.contributes.Goals as goal
 
 pub returns-then-m : goal.returns-then-m

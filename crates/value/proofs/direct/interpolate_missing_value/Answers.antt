@@ -6,7 +6,6 @@ use Rattle.definitions.specs.declared.Source.TheVariants.{Sample as sample}
 use Rattle.value.specs.direct.Reads.{reading_is}
 use Rattle.value.proofs.direct.Sources.{stands-default, stands-off, stands-before, stands_after, stands-none}
 use Rattle.value.proofs.direct.ReadsLaws.{first-is, search-asks}
-use borrow.Author.Rules.{rules}
 use Rattle.value.proofs.direct.interpolate_missing_value.Goals as goal
 
 pub returns-then-default-eq0 : goal.returns-then-default-eq0
@@ -27,7 +26,7 @@ pub returns-in-Of : goal.returns-in-Of
 returns-in-Of c =
     let k = c in
     let s = k in
-        stands-before s.requires.fact_1 s.args.p k.if-default-eq0.false (not-false s.args.m.interpolate k.if-not-m.false) (sample c.in-Of.clip c.in-Of.place) (sym (ap reading_is c.in-Of.is) ∙ c.nearest_before-back.ensures ∙ first-is s.requires.fact_1 _)
+    stands-before s.requires.fact_1 s.args.p k.if-default-eq0.false (not-false s.args.m.interpolate k.if-not-m.false) (sample c.in-Of.clip c.in-Of.place) (sym (ap reading_is c.in-Of.is) ∙ c.nearest_before-back.ensures ∙ first-is s.requires.fact_1 _)
 
 pub nearest_from-on-requires : goal.nearest_from-on-requires
 nearest_from-on-requires c =
@@ -40,7 +39,7 @@ returns-in-Of-on c =
     let b = n in
     let k = b in
     let s = k in
-        stands_after s.requires.fact_1 s.args.p k.if-default-eq0.false (not-false s.args.m.interpolate k.if-not-m.false) (sample c.in-Of-on.clip c.in-Of-on.place)
+    stands_after s.requires.fact_1 s.args.p k.if-default-eq0.false (not-false s.args.m.interpolate k.if-not-m.false) (sample c.in-Of-on.clip c.in-Of-on.place)
     (sym (ap reading_is b.in_default.is) ∙ b.nearest_before-back.ensures ∙ first-is s.requires.fact_1 _) (sym (ap reading_is c.in-Of-on.is) ∙ n.nearest_from-on.ensures ∙ first-is s.requires.fact_1 _)
 
 pub returns : goal.returns

@@ -1,14 +1,10 @@
 -- `value::direct::nearest_before` meets its contract. Assumes nothing.
-use mathlib.Core.Path.{◌≡◌, refl, sym, ap, ◌∙◌}
+use mathlib.Core.Path.{◌≡◌}
 use mathlib.Core.List.{reverse}
 use Prim.Native.Nat.{◌≤◌}
-use native.Mathlib.Omega.{arith}
 use lib.ListN.{length, take}
-use Rattle.definitions.specs.declared.Source.TheVariants.{Sample as sample}
 use Rattle.laws.specs.cell.Lent.{active_of}
-use Rattle.value.specs.direct.Reads.{reading_is, first_read}
-use Rattle.value.proofs.direct.ReadsLaws.{back_found, back_on, back_end}
-use borrow.Author.Rules.{rules}
+use Rattle.value.specs.direct.Reads.{first_read}
 use Rattle.value.proofs.direct.nearest_before.Given as goal
 
 abbrev pub invariant-loop-left : goal.invariant-loop-left

@@ -1,13 +1,9 @@
 -- `value::direct::nearest_from` meets its contract. Assumes nothing.
-use mathlib.Core.Path.{◌≡◌, refl, sym, ap, ◌∙◌}
-use Prim.Native.Nat.{◌-◌, ◌≤◌}
+use mathlib.Core.Path.{refl, sym, ap, ◌∙◌}
 use native.Mathlib.Omega.{arith}
-use lib.ListN.{length, drop}
 use Rattle.definitions.specs.declared.Source.TheVariants.{Sample as sample}
-use Rattle.laws.specs.cell.Lent.{active_of}
-use Rattle.value.specs.direct.Reads.{reading_is, first_read}
+use Rattle.value.specs.direct.Reads.{reading_is}
 use Rattle.value.proofs.direct.ReadsLaws.{from_found, from_on, from_end}
-use borrow.Author.Rules.{rules}
 use Rattle.value.proofs.direct.nearest_from.Goals as goal
 
 pub loop-i-init : goal.loop-i-init
@@ -18,7 +14,7 @@ read_start-found-requires c = record { fact_1 = c.requires.fact_1; fact_2 = omeg
 
 pub returns-in-Of : goal.returns-in-Of
 returns-in-Of c =
-        let k = c in
+    let k = c in
     sym (k.loop-i.invariant.1 ∙ let a = k.args in from_found a.blocks.now a.xs.now a.ys.now a.times.now a.ends.now a.starts.now a.clips.now k.requires.fact_1.paired k.loop-i.i (omega arith) (sample c.in-Of.clip c.in-Of.place) (sym (ap reading_is c.in-Of.is) ∙ c.read_start-found.ensures))
 
 pub overflow_add-i : goal.overflow_add-i

@@ -1,13 +1,9 @@
 -- `value::direct::nearest_from` meets its contract. Assumes nothing.
-use mathlib.Core.Path.{◌≡◌, refl, sym, ap, ◌∙◌}
+use mathlib.Core.Path.{◌≡◌}
 use Prim.Native.Nat.{◌-◌, ◌≤◌}
-use native.Mathlib.Omega.{arith}
 use lib.ListN.{length, drop}
-use Rattle.definitions.specs.declared.Source.TheVariants.{Sample as sample}
 use Rattle.laws.specs.cell.Lent.{active_of}
-use Rattle.value.specs.direct.Reads.{reading_is, first_read}
-use Rattle.value.proofs.direct.ReadsLaws.{from_found, from_on, from_end}
-use borrow.Author.Rules.{rules}
+use Rattle.value.specs.direct.Reads.{first_read}
 use Rattle.value.proofs.direct.nearest_from.Given as goal
 
 abbrev pub invariant-loop-i : goal.invariant-loop-i

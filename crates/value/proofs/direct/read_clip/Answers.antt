@@ -6,7 +6,6 @@ use Rattle.laws.specs.cell.Lent.{knots_of}
 use Rattle.sdf.specs.look.Reads.{held_reading}
 use Rattle.sdf.proofs.look.ReadsLaws.{held_none}
 use Rattle.value.proofs.direct.ReadsLaws.{part-looked}
-use borrow.Author.Rules.{rules}
 use Rattle.value.proofs.direct.read_clip.Goals as goal
 
 pub returns-then-begin-end : goal.returns-then-begin-end
@@ -20,7 +19,7 @@ read_clip-requires c =
     let k = c in
     let s = k in
     let a = s.args in
-        part-looked a.xs.now a.ys.now a.times.now a.values.now a.marks.now a.ends.now a.clip a.t s.requires.readable_1 s.requires.readable_2 s.requires.values_len_1 s.requires.values_len_2 _ _
+    part-looked a.xs.now a.ys.now a.times.now a.values.now a.marks.now a.ends.now a.clip a.t s.requires.readable_1 s.requires.readable_2 s.requires.values_len_1 s.requires.values_len_2 _ _
     k.clip_begin-begin.ensures k.clip_end-end.ensures
 
 pub returns : goal.returns

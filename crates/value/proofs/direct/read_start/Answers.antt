@@ -2,7 +2,6 @@
 use mathlib.Core.Path.{sym, ap, ◌∙◌}
 use Rattle.sdf.specs.look.Reads.{held_is}
 use Rattle.value.proofs.direct.ReadsLaws.{start-blocked, start-read, part-read, part_none}
-use borrow.Author.Rules.{rules}
 use Rattle.value.proofs.direct.read_start.Goals as goal
 
 pub returns-then-blocked_at : goal.returns-then-blocked_at
@@ -11,7 +10,7 @@ returns-then-blocked_at c = let s = c in let a = s.args in start-blocked a.block
 pub read_clip-requires : goal.read_clip-requires
 read_clip-requires c =
     let s = c in
-        record { readable_1 = s.requires.fact_1.readable; readable_2 = s.requires.fact_1.named s.args.i s.requires.fact_2; values_len_1 = s.requires.fact_1.valued; values_len_2 = s.requires.fact_1.flagged }
+    record { readable_1 = s.requires.fact_1.readable; readable_2 = s.requires.fact_1.named s.args.i s.requires.fact_2; values_len_1 = s.requires.fact_1.valued; values_len_2 = s.requires.fact_1.flagged }
 
 pub returns-in_default : goal.returns-in_default
 returns-in_default c =

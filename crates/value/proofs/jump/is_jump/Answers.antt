@@ -1,12 +1,10 @@
 -- `value::jump::is_jump` meets its contract: no two knots from i on share such an x. Assumes nothing.
-use Prim.Native.Nat.{ℕ, ◌+◌, ◌-◌, ◌≤◌, ◌<◌}
-use mathlib.Core.Path.{◌≡◌, sym, ◌∙◌}
-use mathlib.Core.Bool.{false}
+use Prim.Native.Nat.{◌-◌, ◌<◌}
+use mathlib.Core.Path.{sym}
 use native.Mathlib.Omega.{arith}
 use lib.Dec.{T}
-use lib.ListN.{length, get_or}
-use lib.Ieee.{nan, binary64, fits}
-use Rattle.definitions.specs.Timing.{last_at_most}
+use lib.ListN.{length}
+use lib.Ieee.{binary64, fits}
 use Rattle.value.specs.Jumps.{jumps_at}
 use Rattle.value.proofs.Jumps.{any_none, none_above, none-step, none-all, one-here, last-place}
 use borrow.Author.Rules.{rules}

@@ -1,15 +1,13 @@
 -- `value::untimed::any_samples` meets its contract: the clips from i on answer for all. Assumes nothing.
-use Prim.Native.Nat.{ℕ, ◌-◌, ◌≤◌, ◌<◌}
+use Prim.Native.Nat.{ℕ, ◌<◌}
 use mathlib.Core.Path.{◌≡◌, refl, sym, ap₂, ◌∙◌}
 use native.Mathlib.Omega.{arith}
 use lib.Dec.{ltb}
-use lib.ListN.{length, get_or, drop}
+use lib.ListN.{length, get_or}
 use borrow.Author.Tests.{lt-ltb, le-ltb}
-use Rattle.definitions.specs.Lists.{any}
 use Rattle.laws.proofs.list.Every.{every-at}
 use Rattle.lists.proofs.Fronts.{any_here, any-later, any-end}
 use Rattle.value.specs.Untimed.{has_samples}
-use borrow.Author.Rules.{rules}
 use Rattle.value.proofs.untimed.any_samples.Goals.{After-clip_end, In-loop-i}
 use Rattle.value.proofs.untimed.any_samples.Goals as goal
 

@@ -1,7 +1,6 @@
 -- `value::untimed::untimed_answer_in_set` meets its contract. Assumes nothing.
 use mathlib.Core.Path.{sym, ◌∙◌}
 use Rattle.value.proofs.UntimedLaws.{untimed-absent, untimed-default, untimed-samples, untimed-blocked}
-use borrow.Author.Rules.{rules}
 use Rattle.value.proofs.untimed.untimed_answer_in_set.Goals as goal
 
 pub returns-then-clips-eq0 : goal.returns-then-clips-eq0

@@ -6,7 +6,6 @@ use lib.ListN.{length}
 use Rattle.definitions.specs.Samples.{clip_begin}
 use Rattle.value.specs.Answers.{Answerable}
 use Rattle.value.proofs.Answers.{says-sample, says-default, says-blocked, says-absent}
-use borrow.Author.Rules.{rules}
 use Rattle.value.proofs.value.answer_of.Goals.{In-Sample}
 use Rattle.value.proofs.value.answer_of.Goals as goal
 
@@ -32,7 +31,7 @@ pub returns-in-Sample : goal.returns-in-Sample
 returns-in-Sample c =
     let b = c in
     let k = b in
-        let a = k.args in
+    let a = k.args in
     c.answer_in.ensures ∙ says-sample a.m a.values.now a.marks.now a.ends.now a.source k.in-Sample.clip k.in-Sample.place b.clip_begin-begin.result k.in-Sample.is b.clip_begin-begin.ensures
 
 pub returns-in-Default : goal.returns-in-Default

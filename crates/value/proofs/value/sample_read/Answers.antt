@@ -1,6 +1,5 @@
 -- `value::value::sample_read` meets its contract: each arm is given which case the answer is, and the source. Assumes nothing.
 use mathlib.Core.Path.{sym, ap, ap₂}
-use borrow.Author.Rules.{rules}
 use Rattle.definitions.specs.declared.Answer.{Answer}
 use Rattle.definitions.specs.Value.{sample_read}
 use Rattle.value.proofs.value.sample_read.Goals as goal

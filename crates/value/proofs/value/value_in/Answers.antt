@@ -1,7 +1,6 @@
 -- `value::value::value_in` meets its contract, case by case as "Value" of docs/VALUE-CLIPS.md has them. Assumes nothing.
 use mathlib.Core.Path.{refl, sym, ◌∙◌}
 use mathlib.Core.List.{[]}
-use borrow.Author.Rules.{rules}
 use Rattle.window.proofs.search.LatestLaws.{no-latest}
 use Rattle.window.specs.search.Windowed.{bounds_of}
 use Rattle.value.proofs.Values.{read_below, read-last, read-jump, read_held}

@@ -2,7 +2,6 @@
 use mathlib.Core.Path.{ap}
 use Rattle.definitions.specs.declared.ValueRead.{ValueRead}
 use Rattle.definitions.specs.Value.{value_read}
-use borrow.Author.Rules.{rules}
 use Rattle.value.proofs.value.value_in_set.Goals as goal
 
 pub returns : goal.returns

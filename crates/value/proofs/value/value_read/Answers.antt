@@ -3,7 +3,6 @@ use mathlib.Core.Path.{sym, subst}
 use lib.ListN.{length}
 use Rattle.value.specs.Answers.{Answerable}
 use Rattle.value.proofs.Answers.{ready-marks, value_in, reads-value}
-use borrow.Author.Rules.{rules}
 use Rattle.value.proofs.value.value_read.Goals as goal
 
 pub answer_of-answer-requires : goal.answer_of-answer-requires

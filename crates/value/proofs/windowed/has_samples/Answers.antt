@@ -1,6 +1,5 @@
 -- `value::windowed::has_samples` meets its contract. Assumes nothing.
 use borrow.Author.Tests.{lt-ltb, le-ltb}
-use borrow.Author.Rules.{rules}
 use Rattle.value.proofs.windowed.has_samples.Goals as goal
 
 pub returns-then-begin-end : goal.returns-then-begin-end

@@ -5,7 +5,6 @@ use Rattle.definitions.specs.declared.ClipTime.{ClipTime}
 use Rattle.definitions.specs.declared.Source.TheVariants.{Sample as sample}
 use Rattle.definitions.specs.Timing.{last_at_most, map_stage_to_clip}
 use Rattle.window.specs.search.Windowed.{samples_in, window_source}
-use borrow.Author.Rules.{rules}
 use Rattle.value.proofs.windowed.source_in.Goals as goal
 
 pub returns-then-begin-end : goal.returns-then-begin-end

@@ -9,7 +9,6 @@ use Rattle.definitions.specs.Lists.{any}
 use Rattle.laws.proofs.list.Tests.{holds, is_true, both_l, both_r}
 use Rattle.window.proofs.Parts.{ready-clip}
 use Rattle.value.proofs.WindowOf.{window-samples, window-gap}
-use borrow.Author.Rules.{rules}
 use Rattle.value.proofs.windowed.window_of.Goals as goal
 
 pub clip_begin-begin-requires : goal.clip_begin-begin-requires

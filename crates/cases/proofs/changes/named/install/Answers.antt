@@ -5,7 +5,7 @@ use Rattle.std.proofs.Common.{rules}
 use Rattle.cases.proofs.changes.named.install.Goals as goal
 
 pub install-number-requires : goal.install-number-requires
-install-number-requires c = (c.requires.1, c.get-set.ensures.made)
+install-number-requires c = record { made = c.requires.fact_2; made_set = c.get-set.ensures.made }
 
 pub returns : goal.returns
 returns c = called (install _ _ _ c.install-number.ensures) c.install-number.ensures.made

@@ -5,4 +5,4 @@ use Rattle.cases.proofs.Dispatched.{found_below}
 use Rattle.cases.proofs.questions.sets.dump.Goals as goal
 
 pub dump_at-requires : goal.dump_at-requires
-dump_at-requires c = let s = c.before.before.before.before.before.before.before.before.before.before.before.before.before.before.before.before.before.before.before.before.before in (s.requires.0, omega (arith, s.requires.1.few, found_below _ _ _ _ (ap number_of (sym c.in-At.is) ∙ c.find-found.ensures)))
+dump_at-requires c = let s = c in (s.requires.fact_1, omega (arith, s.requires.fact_2.few, found_below _ _ _ _ (ap number_of (sym c.in-At.is) ∙ c.find-found.ensures)))

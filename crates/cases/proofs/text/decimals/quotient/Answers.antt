@@ -6,6 +6,6 @@ use Rattle.cases.proofs.text.decimals.quotient.Goals as goal
 
 pub returns : goal.returns
 returns c =
-    let s = c.before.before.before in
+    let s = c in
     let e : div binary64 c.nearest_u64_to_f64.result c.nearest_u64_to_f64-2.result ≡ div binary64 (of_int binary64 (pos s.args.digits)) (of_int binary64 (pos (10 ^ s.args.scale))) = cc in
-    e ∙ quotient-rounds s.args.digits s.args.scale s.requires.0 s.requires.1
+    e ∙ quotient-rounds s.args.digits s.args.scale s.requires.fact_1 s.requires.fact_2

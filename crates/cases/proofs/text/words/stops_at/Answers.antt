@@ -22,13 +22,13 @@ pub enum_told-in-LineEnd : goal.enum_told-in-LineEnd
 enum_told-in-LineEnd c = search rules
 
 pub returns-in-Word : goal.returns-in-Word
-returns-in-Word c = ap not c.is_blank.ensures ∙ sym (ap (stops_at _) c.in-Word.is)
+returns-in-Word c = ap not c.is_blank.ensures ∙ sym (ap (stops_at c.args.b) c.in-Word.is)
 
 pub returns-in-Blank : goal.returns-in-Blank
-returns-in-Blank c = c.is_blank-in-Blank.ensures ∙ sym (ap (stops_at _) c.in-Blank.is)
+returns-in-Blank c = c.is_blank-in-Blank.ensures ∙ sym (ap (stops_at c.args.b) c.in-Blank.is)
 
 pub returns-in-Comment : goal.returns-in-Comment
-returns-in-Comment c = sym (ap (stops_at _) c.in-Comment.is)
+returns-in-Comment c = sym (ap (stops_at c.args.b) c.in-Comment.is)
 
 pub returns-in-LineEnd : goal.returns-in-LineEnd
-returns-in-LineEnd c = sym (ap (stops_at _) c.in-LineEnd.is)
+returns-in-LineEnd c = sym (ap (stops_at c.args.b) c.in-LineEnd.is)
