@@ -3,7 +3,6 @@ use Prim.Native.Nat.{◌+◌}
 use native.Mathlib.Omega.{arith}
 use Rattle.laws.proofs.list.Places.{last-inside}
 use Rattle.cell.proofs.Firsts.{upper-at, upper-end, none-counted, some-counted}
-use borrow.Author.Rules.{rules}
 use Rattle.cell.proofs.first_above.Goals as goal
 
 pub returns-then-xs-eq0 : goal.returns-then-xs-eq0
@@ -19,12 +18,12 @@ pub returns-then-next-xs : goal.returns-then-next-xs
 returns-then-next-xs c =
     let l = c in
     let a = l in
-        let q = some-counted a.args.xs.now a.requires.ascending a.args.t a.requires.finite_double (omega arith) l.if-t-xs.false in
+    let q = some-counted a.args.xs.now a.requires.ascending a.args.t a.requires.finite_double (omega arith) l.if-t-xs.false in
     upper-at a.args.xs.now a.requires.ascending a.args.t a.requires.finite_double (l.last_at_most-next.result + 1) (omega arith) c.if-next-xs.true
 
 pub returns : goal.returns
 returns c =
     let l = c in
     let a = l in
-        let q = some-counted a.args.xs.now a.requires.ascending a.args.t a.requires.finite_double (omega arith) l.if-t-xs.false in
+    let q = some-counted a.args.xs.now a.requires.ascending a.args.t a.requires.finite_double (omega arith) l.if-t-xs.false in
     upper-end a.args.xs.now a.requires.ascending a.args.t a.requires.finite_double (omega (arith, c.if-next-xs.false))

@@ -1,12 +1,10 @@
 -- `lent_changes::retime` meets its contract: 20, else the moved set is installed. Assumes nothing.
 use mathlib.Core.Path.{sym, subst}
-use borrow.Author.Rules.{rules}
 use borrow.Author.Tests.{not-true, not-false}
 use Rattle.laws.specs.set.Sound.{Sound}
 use Rattle.resolver.specs.declared.Resolver.{Resolver}
 use Rattle.resolver.specs.State.{lent_state}
 use Rattle.resolver.proofs.Laws.{settles, settles-not, stands-sound, retimes-20, retimes}
-use Rattle.lent_changes.proofs.retime.Goals.{Start as At-start}
 use Rattle.lent_changes.proofs.retime.Goals as goal
 
 abbrev state : At-start → Resolver
@@ -22,7 +20,7 @@ pub retime_stage_times-moved-requires : goal.retime_stage_times-moved-requires
 retime_stage_times-moved-requires c =
     let p = c in
     let s = p in
-        record { held = c.packed-set.ensures.held; sound = subst Sound (sym c.packed-set.ensures.is) (stands-sound (state (goal.at.retime_stage_times-moved-requires s).Start) s.requires (not-false _ p.if-not-shape.false)) }
+    record { held = c.packed-set.ensures.held; sound = subst Sound (sym c.packed-set.ensures.is) (stands-sound (state (goal.at.retime_stage_times-moved-requires s).Start) s.requires (not-false _ p.if-not-shape.false)) }
 
 pub returns-then-moved-ne0 : goal.returns-then-moved-ne0
 returns-then-moved-ne0 c =
@@ -33,7 +31,7 @@ returns-then-moved-ne0 c =
 
 pub install-next-requires : goal.install-next-requires
 install-next-requires c =
-        record { made = c.requires; made_set = record { held = c.retime_stage_times-moved.ensures.reply.held; sound = c.retime_stage_times-moved.ensures.sound } }
+    record { made = c.requires; made_set = record { held = c.retime_stage_times-moved.ensures.reply.held; sound = c.retime_stage_times-moved.ensures.sound } }
 
 pub returns : goal.returns
 returns c =

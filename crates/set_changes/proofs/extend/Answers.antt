@@ -1,8 +1,6 @@
 -- `set_changes::extend` meets its contract: the two halves of the writing. Assumes nothing.
 use Prim.Native.Nat.{ℕ, ◌≤◌, ◌<◌}
 use mathlib.Core.Path.{refl, sym, subst}
-use mathlib.Core.List.{List}
-use borrow.Author.Rules.{rules}
 use lib.ListN.{length, get_or}
 use Rattle.laws.specs.list.Every.{Every}
 use Rattle.dispatch.specs.SetOrder.{max_name}
@@ -12,7 +10,6 @@ use Rattle.set_names.proofs.NameOrder.{by_name-below}
 use Rattle.pages.specs.Pages.{Pages, pages}
 use Rattle.set_changes.proofs.NameTaken.{room}
 use Rattle.set_changes.proofs.Extended.{extends-written}
-use Rattle.set_changes.proofs.extend.Goals.{Start as At-start}
 use Rattle.set_changes.proofs.extend.Goals as goal
 
 abbrev lent : At-start → Pages
@@ -30,7 +27,7 @@ put_set-shape-requires c =
 pub enter-requires : goal.enter-requires
 enter-requires c =
     let s = c in
-        record {
+    record {
       sizes = s.requires.fact_1.long.sizes;
       few = (within (goal.at.enter-requires s).Start).0;
       short = (within (goal.at.enter-requires s).Start).1;

@@ -1,7 +1,6 @@
-use mathlib.Core.Path.{sym, subst}
+use mathlib.Core.Path.{subst}
 use Prim.Native.Nat.{◌<◌}
 use native.Mathlib.Omega.{arith}
-use borrow.Author.Rules.{rules}
 use Rattle.dispatch.specs.NamedSets.{max_sets}
 use Rattle.resolver.specs.declared.Shape.{Shape}
 use Rattle.pages.specs.Pages.{Pages, pages, shape_in}
@@ -25,7 +24,6 @@ move_set-settled-requires c =
 
 -- the set as it was moved, or left
 module _ (c : After-move_set-settled) where
-
   moved : MovedAt c.args.i (shape_in c.args.defaults.now c.args.counts.now c.args.bytes.now c.args.i) c.args.o c.args.starts.now c.args.numbers.now c.args.xs.now c.args.ys.now c.args.blocks.now
       c.move_set-settled.result c.move_set-settled.new.starts c.move_set-settled.new.numbers c.move_set-settled.new.xs c.move_set-settled.new.ys c.move_set-settled.new.blocks
   moved = subst (λ (h : Shape). MovedAt c.args.i h c.args.o c.args.starts.now c.args.numbers.now c.args.xs.now c.args.ys.now c.args.blocks.now

@@ -5,14 +5,13 @@ use lib.Ieee.{Float}
 use lib.ListN.{length}
 use Prim.Native.Nat.{◌≤◌}
 use native.Mathlib.Omega.{arith}
-use borrow.Author.Rules.{rules}
 use Rattle.stage.specs.Times.{times_of}
 use Rattle.stage.proofs.stage_sample_times.Goals.{Start as At-start, Then-counted-room}
 use Rattle.stage.proofs.stage_sample_times.Goals as goal
 
 pub latest_inverses-reach-requires : goal.latest_inverses-reach-requires
 latest_inverses-reach-requires c =
-        record { fact_1 = c.requires.windows.readable.paired; fact_2 = c.requires.few; fact_3 = c.requires.windows.readable.segments }
+    record { fact_1 = c.requires.windows.readable.paired; fact_2 = c.requires.few; fact_3 = c.requires.windows.readable.segments }
 
 -- all stage sample times
 abbrev all : At-start → List Float

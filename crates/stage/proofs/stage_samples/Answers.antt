@@ -33,7 +33,7 @@ room : (c : Then-counted-room) → let s = c in length (all (goal.at.Then-counte
 room c =
     let k = c in
     let s = k in
-            let h = c.if-counted-room.true in
+    let h = c.if-counted-room.true in
     omega arith
 
 times-room : (c : Then-counted-room) → let s = c in length (all (goal.at.Then-counted-room s).Start) ≤ length s.args.outtimes.now
@@ -82,6 +82,6 @@ pub returns : goal.returns
 returns c =
     let k = c in
     let s = k in
-            let h = c.if-counted-room.false in
+    let h = c.if-counted-room.false in
     samples-none (set (goal.at.returns s).Start) (lent (goal.at.returns s).Start) (all (goal.at.returns s).Start) (stage-times s.requires) s.args.outtimes.now s.args.outtimes.now s.args.outmarks.now s.args.outmarks.now
     (omega arith) refl refl

@@ -1,6 +1,5 @@
 -- `standing::unpacked` meets its contract: each list is written over the front of a lent array. Assumes nothing.
 use mathlib.Core.Path.{sym}
-use borrow.Author.Rules.{rules}
 use Rattle.clip.proofs.Laws.{lent}
 use Rattle.standing.proofs.Arrays.{arrays-unpacked}
 use Rattle.standing.proofs.unpacked.Goals as goal
@@ -13,7 +12,7 @@ slice_bounds-unpack_active-end-4 c = sym (lent 256 _ _ c.requires.fact_2.of-numb
 
 pub unpack_active-requires : goal.unpack_active-requires
 unpack_active-requires c =
-        let h = c.requires.fact_1.active in
+    let h = c.requires.fact_1.active in
     record { fact_1 = h; fact_2 = lent 256 _ _ c.requires.fact_2.of-starts h.few; fact_3 = lent 256 _ _ c.requires.fact_2.of-numbers h.few }
 
 pub slice_bounds-unpack_knots-end-2 : goal.slice_bounds-unpack_knots-end-2
@@ -24,7 +23,7 @@ slice_bounds-unpack_knots-end-4 c = sym (lent 512 _ _ c.requires.fact_2.of-ys c.
 
 pub unpack_knots-requires : goal.unpack_knots-requires
 unpack_knots-requires c =
-        let h = c.requires.fact_1.knots in
+    let h = c.requires.fact_1.knots in
     record { fact_1 = h; fact_2 = lent 512 _ _ c.requires.fact_2.of-xs h.few; fact_3 = lent 512 _ _ c.requires.fact_2.of-ys h.few }
 
 pub slice_bounds-unpack_blocks-end-2 : goal.slice_bounds-unpack_blocks-end-2
@@ -32,7 +31,7 @@ slice_bounds-unpack_blocks-end-2 c = sym (lent 256 _ _ c.requires.fact_2.of_bloc
 
 pub unpack_blocks-requires : goal.unpack_blocks-requires
 unpack_blocks-requires c =
-        let h = c.requires.fact_1.blocks in
+    let h = c.requires.fact_1.blocks in
     record { fact_1 = h; fact_2 = lent 256 _ _ c.requires.fact_2.of_blocks h.few }
 
 pub returns : goal.returns

@@ -3,7 +3,6 @@ use mathlib.Core.Path.{refl}
 use native.Mathlib.Omega.{arith}
 use Rattle.window.proofs.Parts.{ready-clip}
 use Rattle.cell.proofs.Gaps.{window_on}
-use borrow.Author.Rules.{rules}
 use Rattle.cell.proofs.place.window_after.Goals as goal
 
 pub follows-requires : goal.follows-requires
@@ -19,6 +18,6 @@ returns-then-follows c =
     let a = f in
     let F = f.follows.ensures t.if-follows.true in
     let n = F.next in
-        let h = a.requires.p_in_bounds in
+    let h = a.requires.p_in_bounds in
     window_on a.requires.accepted_lists a.args.place.start a.args.place.window (a.requires.place_is.window (omega arith)) F.none_before (a.requires.place_is.gap (omega arith) F.none_before) a.args.p F.next h F.none_here
     _ refl refl c.window_min.ensures c.window_max.ensures c.clip_begin-begin.ensures refl refl

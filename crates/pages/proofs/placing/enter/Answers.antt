@@ -1,8 +1,7 @@
 use Prim.Native.Nat.{ℕ, suc, ◌+◌, ◌<◌}
-use mathlib.Core.Path.{◌≡◌, refl, sym, ap, ◌∙◌, subst}
+use mathlib.Core.Path.{◌≡◌, sym, ap, ◌∙◌, subst}
 use mathlib.Core.List.{List, ◌++◌}
 use native.Mathlib.Omega.{arith}
-use borrow.Author.Rules.{rules}
 use lib.ListN.{length, take, drop, set, length-set}
 use Rattle.laws.specs.list.Every.{Every}
 use Rattle.dispatch.specs.SetOrder.{insert_number}
@@ -18,7 +17,6 @@ use Rattle.pages.proofs.placing.enter.Goals as goal
 -- `pages::placing::enter` meets its contract: the shape, the name, and its place among the names. Assumes nothing.
 -- what stands once the shape is written
 module _ (c : After-store_shape) where
-
   abbrev shaped : List ℕ
   shaped = c.store_shape.new.counts
 
@@ -48,7 +46,6 @@ insert_by_name-requires c =
 
 -- the counts once the order came back
 module _ (c : After-insert_by_name) where
-
   abbrev order : List ℕ
   order = c.insert_by_name.new.order
 

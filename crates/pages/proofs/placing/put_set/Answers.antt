@@ -1,11 +1,9 @@
 use Prim.Native.Nat.{◌+◌, ◌*◌, ◌≤◌}
 use mathlib.Core.Path.{refl}
 use native.Mathlib.Omega.{arith}
-use borrow.Author.Rules.{rules}
 use lib.ListN.{length}
 use Rattle.resolver.specs.State.{lent_state}
 use Rattle.pages.proofs.LentPages.{lent-long, back}
-use Rattle.pages.proofs.placing.put_set.Goals.{Start as At-start}
 use Rattle.pages.proofs.placing.put_set.Goals as goal
 
 -- `pages::placing::put_set` meets its contract: five parts come back in their places. Assumes nothing.
@@ -29,13 +27,16 @@ pub install-requires : goal.install-requires
 install-requires c =
     let s = c in
     let a = s.args.i * 256 in
-    let b = s.args.i * 512 in record { made = (c.fresh.ensures _ _ _ _ _ (record {
+    let b = s.args.i * 512 in record {
+      made = (c.fresh.ensures _ _ _ _ _ (record {
         of-starts = lent-long a 256 s.args.starts.now (in-starts (goal.at.install-requires s).Start);
         of-numbers = lent-long a 256 s.args.numbers.now (in-numbers (goal.at.install-requires s).Start);
         of-xs = lent-long b 512 s.args.xs.now (in-xs (goal.at.install-requires s).Start);
         of-ys = lent-long b 512 s.args.ys.now (in_ys (goal.at.install-requires s).Start);
         of_blocks = lent-long a 256 s.args.blocks.now (in_blocks (goal.at.install-requires s).Start);
-      })).made; made_set = s.requires.fact_3 }
+      })).made;
+      made_set = s.requires.fact_3;
+    }
 
 pub returns : goal.returns
 returns c =

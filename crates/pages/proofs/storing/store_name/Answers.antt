@@ -2,7 +2,6 @@ use Prim.Native.Nat.{ℕ, ◌+◌, ◌-◌, ◌*◌}
 use mathlib.Core.Path.{◌≡◌, sym, ap, ap₂, ◌∙◌}
 use mathlib.Core.List.{List, ◌++◌}
 use native.Mathlib.Omega.{arith}
-use borrow.Author.Rules.{rules}
 use lib.ListN.{length, take, drop, set, length-set}
 use Rattle.pages.specs.Pages.{over}
 use Rattle.pages.proofs.Parts.{span, over-ends, over-long}
@@ -12,7 +11,6 @@ use Rattle.pages.proofs.storing.store_name.Goals as goal
 -- `pages::storing::store_name` meets its contract: the name's part comes back in its place. Assumes nothing.
 -- the bytes once the name's part came back
 module _ (c : After-copy_bytes) where
-
   abbrev at : ℕ
   at = c.args.i * 256 + 1
 

@@ -34,7 +34,7 @@ pub returns : goal.returns
 returns c =
     let e = c in
     let a = e in
-            let s = samples_in a.args.times.now a.args.w in
+    let s = samples_in a.args.times.now a.args.w in
     let last = subst (LastIs a.args.xs.now a.args.ys.now s e.last_at_most_near-i.result a.args.w.max) c.in-At.is c.last_in.ensures in
     let ahead = c.is_below.ensures c.if-not-is_below.false in (
       omega (arith, c.if-end-begin.false),

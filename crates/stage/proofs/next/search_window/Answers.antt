@@ -13,7 +13,7 @@ use Rattle.stage.proofs.next.search_window.Goals as goal
 pub whole_window-w-requires : goal.whole_window-w-requires
 whole_window-w-requires c =
     let s = c in
-        let h = s.requires.p_value_2 in
+    let h = s.requires.p_value_2 in
     (h, (s.requires.windows_1.paired, s.requires.windows_1.named s.args.p h))
 
 order : (k : After-whole_window-w) → k.whole_window-w.result.begin ≤ k.whole_window-w.result.end

@@ -2,7 +2,6 @@
 use mathlib.Core.Path.{◌≡◌, sym, ap, ◌∙◌, subst}
 use Prim.Native.Nat.{ℕ, ◌+◌, ◌-◌, ◌≤◌, ◌<◌, min}
 use native.Mathlib.Omega.{arith}
-use borrow.Author.Rules.{rules}
 use lib.ListN.{length}
 use Rattle.gf.specs.Doubles.{least, most}
 use Rattle.definitions.specs.ClipSet.{ClipSet}
@@ -53,7 +52,7 @@ pub returns-then-room-count : goal.returns-then-room-count
 returns-then-room-count c =
     let f = c in
     let a = f in
-        let h = c.if-room-count.true in
+    let h = c.if-room-count.true in
     let t = total (goal.at.returns-then-room-count f).After-fill-first in
     let less : room (goal.at.returns-then-room-count a).Start < count (goal.at.returns-then-room-count a).Start = omega arith in
     subst (λ (b : Baked). BakeIs (set (goal.at.returns-then-room-count a).Start) (lent (goal.at.returns-then-room-count a).Start) (outputs a.args.outtimes.now a.args.outvalues.now a.args.outmarks.now) (outputs a.args.outtimes.now a.args.outvalues.now a.args.outmarks.now) b) (sym c.refused.ensures)
@@ -66,7 +65,7 @@ write_page-requires c =
     let l = page-long (goal.at.write_page-requires f).After-fill-first in
     let s = slots-is a.args.pagetimes.now a.args.pagevalues.now a.args.pagemarks.now in
     let n = f.fill-first.ensures.fits in
-        let h = c.if-room-count.false in
+    let h = c.if-room-count.false in
     record { fact_1 = room_of _ _ _ _ (omega (arith, l.times, l.values, l.marks)); fact_2 = room_of _ _ _ _ (omega arith) }
 
 pub returns-then-first : goal.returns-then-first
@@ -74,7 +73,7 @@ returns-then-first c =
     let f = c in
     let a = f in
     let d = filled-done _ _ least _ _ _ f.fill-first.ensures a.requires.cursor_is_2 c.if-first.true in
-        let h = c.if-room-count.false in
+    let h = c.if-room-count.false in
     let n : f.fill-first.result.count ≡ count (goal.at.returns-then-first a).Start = d.0 in
     let fits : count (goal.at.returns-then-first a).Start ≤ room (goal.at.returns-then-first a).Start = omega arith in
     bake-done (set (goal.at.returns-then-first a).Start) (lent (goal.at.returns-then-first a).Start) a.args.outtimes.now a.args.outvalues.now a.args.outmarks.now _ _ _ _ fits (head-is (goal.at.returns-then-first a).Start) d.0
@@ -91,9 +90,9 @@ returns-then-left-rest c =
     let f = c in
     let a = f in
     let k = c in
-        let h = c.if-room-count.false in
+    let h = c.if-room-count.false in
     let t = total (goal.at.returns-then-left-rest f).After-fill-first in
-        let b = c.if-left-rest.true in
+    let b = c.if-left-rest.true in
     let n : f.shortest-room.result - f.fill-first.result.count < length (changes_of (set (goal.at.returns-then-left-rest a).Start) (lent (goal.at.returns-then-left-rest a).Start) f.fill-first.result.cursor.key most) = omega arith in
     let less : room (goal.at.returns-then-left-rest a).Start < count (goal.at.returns-then-left-rest a).Start = omega arith in
     subst (λ (b : Baked). BakeIs (set (goal.at.returns-then-left-rest a).Start) (lent (goal.at.returns-then-left-rest a).Start) (outputs a.args.outtimes.now a.args.outvalues.now a.args.outmarks.now) (outputs a.args.outtimes.now a.args.outvalues.now a.args.outmarks.now) b) (sym c.refused-then-left-rest.ensures)
@@ -116,9 +115,9 @@ returns c =
     let f = c in
     let a = f in
     let k = c in
-        let h = c.if-room-count.false in
+    let h = c.if-room-count.false in
     let t = total (goal.at.returns f).After-fill-first in
-        let b = c.if-left-rest.false in
+    let b = c.if-left-rest.false in
     let n : length (changes_of (set (goal.at.returns a).Start) (lent (goal.at.returns a).Start) f.fill-first.result.cursor.key most) ≤ f.shortest-room.result - f.fill-first.result.count = omega arith in
     let q = slots-is a.args.outtimes.now a.args.outvalues.now a.args.outmarks.now in
     let l : count (goal.at.returns a).Start ≤ slots (outputs a.args.outtimes.now a.args.outvalues.now a.args.outmarks.now) = omega arith in

@@ -22,7 +22,7 @@ read c = let a = c in subst (Readable a.args.times.now a.args.ends.now) c.in-Rea
 part-inside : (c : After-clip_end-b) → (c.clip_begin-a.result ≤ c.clip_end-b.result) × (c.clip_end-b.result ≤ length c.args.times.now)
 part-inside c =
     let R = read (goal.at.After-clip_end-b c).In-Reading in
-            (omega (arith, R.from), omega (arith, R.inside))
+    (omega (arith, R.from), omega (arith, R.inside))
 
 part-is : (c : After-clip_end-b) → take (c.clip_end-b.result - c.clip_begin-a.result) (drop c.clip_begin-a.result c.args.times.now) ≡ part c.args.times.now c.args.ends.now c.in-Reading.clip
 part-is c = ap₂ (λ (e b : ℕ). take (e - b) (drop b c.args.times.now)) c.clip_end-b.ensures c.clip_begin-a.ensures
@@ -48,11 +48,11 @@ slice_bounds-place_on-end c = let h = part-inside c in search rules
 pub place_on-requires : goal.place_on-requires
 place_on-requires c =
     let a = c in
-        record { ascending = subst Ascending (sym (part-is (goal.at.place_on-requires c).After-clip_end-b)) (read (goal.at.place_on-requires c).In-Reading).rising; le_k = (a.requires.keys.low, a.requires.keys.high) }
+    record { ascending = subst Ascending (sym (part-is (goal.at.place_on-requires c).After-clip_end-b)) (read (goal.at.place_on-requires c).In-Reading).rising; le_k = (a.requires.keys.low, a.requires.keys.high) }
 
 pub returns-in-Reading : goal.returns-in-Reading
 returns-in-Reading c =
     let t = c in
     let a = t.args in
-        ap (Sample t.in-Reading.clip) (c.place_on.ensures ∙ ap (λ (l : List Float). place_on l t.in-Reading.line a.k) (part-is (goal.at.returns-in-Reading c).After-clip_end-b))
+    ap (Sample t.in-Reading.clip) (c.place_on.ensures ∙ ap (λ (l : List Float). place_on l t.in-Reading.line a.k) (part-is (goal.at.returns-in-Reading c).After-clip_end-b))
     ∙ sym (ap (λ (d : Cell). read_on a.times.now a.ends.now d a.k) t.in-Reading.is)

@@ -18,7 +18,6 @@ use Rattle.run.specs.begin.Begins.{RunBeginIs}
 use Rattle.run.specs.declared.begin.RunBegin.TheVariants.{At}
 use Rattle.track.proofs.span.RunsFrom.{window-least}
 use Rattle.track.proofs.span.Steps.{knotless-asks, knotless-steps, run-asks, run-steps, cell-step-asks, found-step}
-use borrow.Author.Rules.{rules}
 use Rattle.track.proofs.span.span_at.Goals.{After-place_at-at, In-At, Start as At-start, Then-is_knotless}
 use Rattle.track.proofs.span.span_at.Goals as goal
 
@@ -70,7 +69,7 @@ run c =
     let o = c in
     let q = c in
     let a = q in
-        let x = subst (λ (t : Float). RunBeginIs a.args.xs.now a.args.ys.now a.args.latest.now a.args.times.now q.place_at-at.result.window t o.run_begin-found.result) q.of_key-t.ensures o.run_begin-found.ensures in
+    let x = subst (λ (t : Float). RunBeginIs a.args.xs.now a.args.ys.now a.args.latest.now a.args.times.now q.place_at-at.result.window t o.run_begin-found.result) q.of_key-t.ensures o.run_begin-found.ensures in
     subst (RunBeginIs a.args.xs.now a.args.ys.now a.args.latest.now a.args.times.now q.place_at-at.result.window (of_key a.args.k)) c.in-At.is x
 
 pub run_step-requires : goal.run_step-requires

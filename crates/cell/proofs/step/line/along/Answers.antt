@@ -1,6 +1,5 @@
 -- `line::along` meets its contract, by the line's form. Assumes nothing.
 use mathlib.Core.Path.{sym, ◌∙◌}
-use borrow.Author.Rules.{rules}
 use Rattle.cell.proofs.step.Lines.{along-plain, along-flat, along-segment}
 use Rattle.cell.proofs.step.line.along.Goals as goal
 
@@ -13,4 +12,4 @@ returns-in-Flat c = let a = c.args in sym (along-flat a.line a.t c.in-Flat.y c.i
 pub returns-in-Segment : goal.returns-in-Segment
 returns-in-Segment c =
     let a = c.args in
-        c.clip_time.ensures ∙ sym (along-segment a.line a.t c.in-Segment.s c.in-Segment.is)
+    c.clip_time.ensures ∙ sym (along-segment a.line a.t c.in-Segment.s c.in-Segment.is)

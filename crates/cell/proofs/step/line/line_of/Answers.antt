@@ -18,7 +18,7 @@ next : (c : After-last_at_most-lo) → c.last_at_most-lo.result + 1 < length c.a
 next c =
     let a = c in
     let h = next-knot a.args.xs.now a.args.ys.now a.requires.xs_len a.args.t a.requires.ascending (subst T (sym a.well_formed.1.1.0.1) tt) a.requires.t (omega arith) c.if-t-xs.false c.if-xs-last.false in
-        omega arith
+    omega arith
 
 pub returns-then-n-eq0 : goal.returns-then-n-eq0
 returns-then-n-eq0 c = let a = c in sym (line_plain a.args.xs.now a.args.ys.now a.requires.xs_len a.args.t c.if-n-eq0.true)

@@ -92,8 +92,8 @@ returns c =
     let e = f in
     let t = e in
     let a = t.args in
-        let r = f.fill_changes.result in
-        let p = outputs a.outtimes.now a.outvalues.now a.outmarks.now in
+    let r = f.fill_changes.result in
+    let p = outputs a.outtimes.now a.outvalues.now a.outmarks.now in
     let q = outputs f.fill_changes.new.outtimes f.fill_changes.new.outvalues f.fill_changes.new.outmarks in
     subst (λ (d : Cell). Walked (entry_on a.times.now a.values.now a.marks.now a.ends.now d (entry_is a.here)) a.k a.hi a.room a.n p q r)
     (sym t.in-Reading.is)

@@ -35,7 +35,7 @@ run c =
 inside : (c : After-clip_end-b) → (c.clip_begin-a.result ≤ c.clip_end-b.result) × (c.clip_end-b.result ≤ length c.args.times.now) × (c.clip_end-b.result ≤ length c.args.values.now) × (c.clip_end-b.result ≤ length c.args.marks.now)
 inside c =
     let R = run (goal.at.After-clip_end-b c).In-ByRun in
-            let f = R.from in
+    let f = R.from in
     let i = R.inside in
     let v = R.valued in
     let m = R.flagged in
@@ -54,7 +54,7 @@ fill_cell-requires c =
     let t = c in
     let s = t in
     let a = s.args in
-        record { keys = s.requires.keys; runs = subst (λ (d : ReadBy). SpanIs a.times.now a.values.now a.marks.now a.ends.now d (entry_is a.s.here) a.k a.s.hi) t.in-ByCell.is s.requires.span_is; room = s.requires.room }
+    record { keys = s.requires.keys; runs = subst (λ (d : ReadBy). SpanIs a.times.now a.values.now a.marks.now a.ends.now d (entry_is a.s.here) a.k a.s.hi) t.in-ByCell.is s.requires.span_is; room = s.requires.room }
 
 pub clip_begin-a-requires : goal.clip_begin-a-requires
 clip_begin-a-requires c = (run c).clip
@@ -106,7 +106,7 @@ returns-in-ByCell c =
     let f = c in
     let t = f in
     let a = t.args in
-        subst (λ (d : ReadBy). Walked (entry_by a.times.now a.values.now a.marks.now a.ends.now d (entry_is a.s.here)) a.k a.s.hi a.room a.n (outputs a.outtimes.now a.outvalues.now a.outmarks.now) (outputs f.fill_cell.new.outtimes f.fill_cell.new.outvalues f.fill_cell.new.outmarks) f.fill_cell.result)
+    subst (λ (d : ReadBy). Walked (entry_by a.times.now a.values.now a.marks.now a.ends.now d (entry_is a.s.here)) a.k a.s.hi a.room a.n (outputs a.outtimes.now a.outvalues.now a.outmarks.now) (outputs f.fill_cell.new.outtimes f.fill_cell.new.outvalues f.fill_cell.new.outmarks) f.fill_cell.result)
     (sym t.in-ByCell.is) f.fill_cell.ensures
 
 pub returns-in-ByRun : goal.returns-in-ByRun
@@ -116,7 +116,7 @@ returns-in-ByRun c =
     let t = e in
     let a = t.args in
     let r = f.fill_run.result in
-        let p = outputs a.outtimes.now a.outvalues.now a.outmarks.now in
+    let p = outputs a.outtimes.now a.outvalues.now a.outmarks.now in
     let q = outputs f.fill_run.new.outtimes f.fill_run.new.outvalues f.fill_run.new.outmarks in
     subst (λ (d : ReadBy). Walked (entry_by a.times.now a.values.now a.marks.now a.ends.now d (entry_is a.s.here)) a.k a.s.hi a.room a.n p q r)
     (sym t.in-ByRun.is)
