@@ -3,7 +3,7 @@ use Prim.Native.Nat.{ℕ, zero, suc, min}
 use mathlib.Core.Path.{◌≡◌, refl, sym, ap, ap₂, ◌∙◌, subst}
 use mathlib.Core.Bool.{Bool, true, false, not, cond}
 use native.Mathlib.Omega.{arith}
-use mathlib.Core.List.{List, ◌∷◌, map}
+use mathlib.Core.List.{List, [], ◌∷◌, map}
 use lib.ListN.{length, take, drop}
 use lib.Seq.{length-take-le, take-append_seam}
 use lib.Dec.{ltb}
@@ -41,6 +41,7 @@ use Rattle.definitions.specs.Calls.{step, accepted, retimed, baked_of, outputs_a
 use Rattle.laws.specs.list.Places.{Ascending}
 use Rattle.laws.specs.set.Sound.{Sound, SoundModel}
 use Rattle.laws.proofs.set.Sound.{sound-active, sound-knots}
+use Rattle.laws.specs.set.Accepted.{Accepted as AcceptedSamples}
 use Rattle.standing.specs.declared.questions.ActiveClip.TheVariants.{Clip, NoClip}
 use Rattle.clip.specs.declared.ClipSet as clip
 use Rattle.clip.specs.declared.Prepared.{Prepared}

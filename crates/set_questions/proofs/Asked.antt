@@ -18,6 +18,7 @@ use Rattle.laws.specs.list.Every.{Every}
 use Rattle.laws.proofs.list.Every.{every-by}
 use Rattle.laws.specs.list.Places.{Fits}
 use Rattle.laws.specs.set.Sound.{Sound}
+use Rattle.laws.specs.set.Accepted.{Accepted as AcceptedSamples}
 use Rattle.laws.specs.cell.Lent.{set_of, samples_of}
 use Rattle.laws.proofs.cell.Lent.{sound-set, sound-samples}
 use Rattle.laws.proofs.cell.Numbers.{sound-values}

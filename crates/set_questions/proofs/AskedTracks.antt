@@ -2,6 +2,7 @@
 use mathlib.Core.Path.{◌≡◌, refl, ap}
 use mathlib.Core.Bool.{Bool, true, false, cond}
 use mathlib.Core.List.Memᴰ
+use mathlib.Core.List.{[]}
 use lib.Ieee.{Float, eq}
 use Rattle.gf.specs.Doubles.{0·0}
 use Rattle.definitions.specs.declared.StageTime.{StageTime}

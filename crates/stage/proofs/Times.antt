@@ -1,11 +1,12 @@
 -- The stage sample times by the lists that decide them: they are finite, and the next one is the next of the times of all windows. Assumes nothing.
 use mathlib.Core.Path.{◌≡◌, sym, subst}
 use mathlib.Core.Bool.{Bool, true, false, cond}
-use mathlib.Core.List.{List, ◌∷◌}
+use mathlib.Core.List.{List, [], ◌∷◌}
 use Prim.Native.Nat.{ℕ, ◌-◌, ◌<◌}
 use lib.Dec.{T}
 use lib.ListN.{length, get_or, drop}
 use lib.Ieee.{Float, nan, fits, lt, le}
+use lib.Ieee.Scale.{finite}
 use Rattle.gf.proofs.KeyLaws.{le_trans, lt-le-trans}
 use Rattle.gf.specs.Doubles.{power}
 use Rattle.gf.proofs.Exactly.{within-lo}

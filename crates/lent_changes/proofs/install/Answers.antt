@@ -1,7 +1,9 @@
 -- `lent_changes::install` meets its contract: the prepared set in the lent lists. Assumes nothing.
+use borrow.Author.Rules.{rules}
 use Rattle.resolver.specs.declared.Resolver.{Resolver}
 use Rattle.resolver.specs.State.{lent_state}
 use Rattle.resolver.proofs.Laws.{unpacks}
+use Rattle.lent_changes.proofs.install.Goals.{Start as At-start}
 use Rattle.lent_changes.proofs.install.Goals as goal
 
 abbrev state : At-start → Resolver

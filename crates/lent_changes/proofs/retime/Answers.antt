@@ -1,10 +1,12 @@
 -- `lent_changes::retime` meets its contract: 20, else the moved set is installed. Assumes nothing.
 use mathlib.Core.Path.{sym, subst}
+use borrow.Author.Rules.{rules}
 use borrow.Author.Tests.{not-true, not-false}
 use Rattle.laws.specs.set.Sound.{Sound}
 use Rattle.resolver.specs.declared.Resolver.{Resolver}
 use Rattle.resolver.specs.State.{lent_state}
 use Rattle.resolver.proofs.Laws.{settles, settles-not, stands-sound, retimes-20, retimes}
+use Rattle.lent_changes.proofs.retime.Goals.{Start as At-start}
 use Rattle.lent_changes.proofs.retime.Goals as goal
 
 abbrev state : At-start → Resolver

@@ -1,5 +1,6 @@
 -- `lent_questions::active_clip` meets its contract: 20, 10, else the set's active clip. Assumes nothing.
 use mathlib.Core.Path.{sym, ◌∙◌}
+use borrow.Author.Rules.{rules}
 use borrow.Author.Tests.{not-true, not-false}
 use Rattle.definitions.specs.Timing.{active_clip}
 use Rattle.definitions.specs.Questions.{ask_active_clip}
@@ -7,6 +8,7 @@ use Rattle.laws.specs.cell.Lent.{set_of}
 use Rattle.resolver.specs.declared.Resolver.{Resolver}
 use Rattle.resolver.specs.State.{lent_state}
 use Rattle.resolver.proofs.Laws.{asked-20, asked, not_finite, is_finite, starts-ascend, clip-told, none_told}
+use Rattle.lent_questions.proofs.active_clip.Goals.{Start as At-start}
 use Rattle.lent_questions.proofs.active_clip.Goals as goal
 
 abbrev state : At-start → Resolver

@@ -1,4 +1,5 @@
 -- `lent_questions::bake` meets its contract: 20, the samples' number, else the track of the standing set. Assumes nothing.
+use borrow.Author.Rules.{rules}
 use borrow.Author.Tests.{not-true, not-false}
 use Rattle.definitions.specs.Samples.{Samples}
 use Rattle.laws.specs.cell.Lent.{samples_of}
@@ -7,6 +8,7 @@ use Rattle.definitions.specs.Moments.{outputs}
 use Rattle.resolver.specs.declared.Resolver.{Resolver}
 use Rattle.resolver.specs.State.{lent_state}
 use Rattle.resolver.proofs.Laws.{judged-number, bakes-20, bakes-refused, bakes-set, bakes-code, is-asked}
+use Rattle.lent_questions.proofs.bake.Goals.{Start as At-start}
 use Rattle.lent_questions.proofs.bake.Goals as goal
 
 abbrev state : At-start → Resolver

@@ -1,5 +1,6 @@
 -- `lent_questions::change_count` meets its contract: 20, the samples' number, else the count. Assumes nothing.
 use mathlib.Core.Path.{refl}
+use borrow.Author.Rules.{rules}
 use borrow.Author.Tests.{not-true, not-false}
 use Rattle.definitions.specs.Samples.{Samples}
 use Rattle.laws.specs.cell.Lent.{samples_of}
@@ -7,6 +8,7 @@ use Rattle.definitions.specs.Questions.{replied}
 use Rattle.resolver.specs.declared.Resolver.{Resolver}
 use Rattle.resolver.specs.State.{lent_state}
 use Rattle.resolver.proofs.Laws.{judged-number, is-asked, counts-20, counts-refused, counts-code, counts-set}
+use Rattle.lent_questions.proofs.change_count.Goals.{Start as At-start}
 use Rattle.lent_questions.proofs.change_count.Goals as goal
 
 abbrev state : At-start → Resolver

@@ -1,11 +1,13 @@
 -- `lent_questions::clip_time` meets its contract: 20, 10, else the clip time by the set's knots. Assumes nothing.
 use mathlib.Core.Path.{sym, ap, ◌∙◌}
+use borrow.Author.Rules.{rules}
 use borrow.Author.Tests.{not-true, not-false}
 use Rattle.definitions.specs.Questions.{ask_clip_time, replied}
 use Rattle.laws.specs.cell.Lent.{set_of}
 use Rattle.resolver.specs.declared.Resolver.{Resolver}
 use Rattle.resolver.specs.State.{lent_state}
 use Rattle.resolver.proofs.Laws.{asked-20, asked, not_finite, is_finite, knots-ascend}
+use Rattle.lent_questions.proofs.clip_time.Goals.{Start as At-start}
 use Rattle.lent_questions.proofs.clip_time.Goals as goal
 
 abbrev state : At-start → Resolver

@@ -2,6 +2,7 @@
 use Prim.Native.Nat.{ℕ}
 use mathlib.Core.Path.{sym, ap, ◌∙◌}
 use lib.ListN.{length}
+use borrow.Author.Rules.{rules}
 use borrow.Author.Tests.{not-true, not-false}
 use Rattle.definitions.specs.ClipSet.{ClipSet}
 use Rattle.definitions.specs.Samples.{Samples}
@@ -13,6 +14,7 @@ use Rattle.resolver.specs.declared.Resolver.{Resolver}
 use Rattle.resolver.specs.State.{lent_state}
 use Rattle.resolver.specs.Promises.{count_code}
 use Rattle.resolver.proofs.Laws.{asked-20, judged-number, plainly-refused, plainly-replied, count-refused, lent-is, is-asked}
+use Rattle.lent_questions.proofs.stage_sample_count.Goals.{Start as At-start}
 use Rattle.lent_questions.proofs.stage_sample_count.Goals as goal
 
 abbrev state : At-start → Resolver

@@ -2,6 +2,7 @@
 use mathlib.Core.Path.{sym, ap, ◌∙◌}
 use native.Mathlib.Omega.{arith}
 use lib.ListN.{length}
+use borrow.Author.Rules.{rules}
 use borrow.Author.Tests.{not-true, not-false}
 use Rattle.definitions.specs.ClipSet.{ClipSet}
 use Rattle.definitions.specs.Samples.{Samples}
@@ -12,6 +13,7 @@ use Rattle.standing.proofs.Asked.{times-asked, times-are}
 use Rattle.resolver.specs.declared.Resolver.{Resolver}
 use Rattle.resolver.specs.State.{lent_state}
 use Rattle.resolver.proofs.Laws.{asked-20, judged-number, samples-refused, samples-passed, times-refused, times-replied, lent-is, is-asked, times-are-so}
+use Rattle.lent_questions.proofs.stage_sample_times.Goals.{Start as At-start}
 use Rattle.lent_questions.proofs.stage_sample_times.Goals as goal
 
 abbrev state : At-start → Resolver

@@ -2,6 +2,7 @@
 use mathlib.Core.Path.{sym, ap, ◌∙◌}
 use lib.ListN.{length}
 use Prim.Native.Nat.{min}
+use borrow.Author.Rules.{rules}
 use borrow.Author.Tests.{not-true, not-false}
 use Rattle.definitions.specs.ClipSet.{ClipSet}
 use Rattle.definitions.specs.Samples.{Samples}
@@ -12,6 +13,7 @@ use Rattle.standing.proofs.Asked.{samples-asked, samples-are}
 use Rattle.resolver.specs.declared.Resolver.{Resolver}
 use Rattle.resolver.specs.State.{lent_state}
 use Rattle.resolver.proofs.Laws.{asked-20, judged-number, samples-refused, samples-passed, list-refused, list-replied, lent-is, is-asked}
+use Rattle.lent_questions.proofs.stage_samples.Goals.{Start as At-start}
 use Rattle.lent_questions.proofs.stage_samples.Goals as goal
 
 abbrev state : At-start → Resolver

@@ -1,5 +1,6 @@
 -- `lent_questions::untimed` meets its contract: 20, the samples' number, else the answer without a time. Assumes nothing.
 use mathlib.Core.Path.{sym, ap, ◌∙◌}
+use borrow.Author.Rules.{rules}
 use borrow.Author.Tests.{not-true, not-false}
 use Rattle.definitions.specs.ClipSet.{ClipSet}
 use Rattle.definitions.specs.Samples.{Samples}
@@ -10,6 +11,7 @@ use Rattle.standing.proofs.Asked.{clips-asked, untimed-told}
 use Rattle.resolver.specs.declared.Resolver.{Resolver}
 use Rattle.resolver.specs.State.{lent_state}
 use Rattle.resolver.proofs.Laws.{asked-20, judged-number, plainly-refused, plainly-replied, lent-is, is-asked}
+use Rattle.lent_questions.proofs.untimed.Goals.{Start as At-start}
 use Rattle.lent_questions.proofs.untimed.Goals as goal
 
 abbrev state : At-start → Resolver

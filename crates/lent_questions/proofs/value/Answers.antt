@@ -1,6 +1,7 @@
 -- `lent_questions::value` meets its contract: 20, the samples' number, 10, else the value. Assumes nothing.
 use mathlib.Core.Path.{sym, ap, ◌∙◌, subst}
 use lib.Dec.{T}
+use borrow.Author.Rules.{rules}
 use borrow.Author.Tests.{not-true, not-false}
 use Rattle.definitions.specs.ClipSet.{ClipSet}
 use Rattle.definitions.specs.Samples.{Samples}
@@ -10,6 +11,7 @@ use Rattle.definitions.specs.Questions.{ask_value, replied, stage_time_number}
 use Rattle.resolver.specs.declared.Resolver.{Resolver}
 use Rattle.resolver.specs.State.{lent_state}
 use Rattle.resolver.proofs.Laws.{asked-20, not_finite, is_finite, judged-number, samples-refused, samples-passed, lent-is, is-asked}
+use Rattle.lent_questions.proofs.value.Goals.{Start as At-start}
 use Rattle.lent_questions.proofs.value.Goals as goal
 
 abbrev state : At-start → Resolver

@@ -1,10 +1,12 @@
 -- `set_changes::accept` meets its contract: 23, then the numbers of the fields, else the set behind the others. Assumes nothing.
 use mathlib.Core.Path.{sym, ◌∙◌}
+use borrow.Author.Rules.{rules}
 use Rattle.definitions.specs.Explicit.{ExplicitFields}
 use Rattle.clip.specs.Holding.{manifest}
 use Rattle.explicit.specs.Parsing.{explicit_fields}
 use Rattle.pages.specs.Pages.{Pages, pages}
 use Rattle.set_changes.proofs.Taken.{accept-refused, fields-refused, accepts}
+use Rattle.set_changes.proofs.accept.Goals.{Start as At-start}
 use Rattle.set_changes.proofs.accept.Goals as goal
 
 abbrev lent : At-start → Pages

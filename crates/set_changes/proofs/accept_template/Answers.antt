@@ -1,10 +1,12 @@
 -- `set_changes::accept_template` meets its contract: 23, then the numbers of the fields, else the set behind the others. Assumes nothing.
 use mathlib.Core.Path.{sym, ◌∙◌}
+use borrow.Author.Rules.{rules}
 use Rattle.definitions.specs.Template.{TemplateFields}
 use Rattle.clip.specs.Holding.{manifest}
 use Rattle.template.specs.Expanding.{template_fields}
 use Rattle.pages.specs.Pages.{Pages, pages}
 use Rattle.set_changes.proofs.Taken.{expand-refused, template-refused, expands}
+use Rattle.set_changes.proofs.accept_template.Goals.{Start as At-start}
 use Rattle.set_changes.proofs.accept_template.Goals as goal
 
 abbrev lent : At-start → Pages

@@ -1,6 +1,8 @@
 -- `set_changes::extend` meets its contract: the two halves of the writing. Assumes nothing.
 use Prim.Native.Nat.{ℕ, ◌≤◌, ◌<◌}
 use mathlib.Core.Path.{refl, sym, subst}
+use mathlib.Core.List.{List}
+use borrow.Author.Rules.{rules}
 use lib.ListN.{length, get_or}
 use Rattle.laws.specs.list.Every.{Every}
 use Rattle.dispatch.specs.SetOrder.{max_name}
@@ -10,6 +12,7 @@ use Rattle.set_names.proofs.NameOrder.{by_name-below}
 use Rattle.pages.specs.Pages.{Pages, pages}
 use Rattle.set_changes.proofs.NameTaken.{room}
 use Rattle.set_changes.proofs.Extended.{extends-written}
+use Rattle.set_changes.proofs.extend.Goals.{Start as At-start}
 use Rattle.set_changes.proofs.extend.Goals as goal
 
 abbrev lent : At-start → Pages

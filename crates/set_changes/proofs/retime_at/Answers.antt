@@ -1,6 +1,7 @@
-use mathlib.Core.Path.{subst}
+use mathlib.Core.Path.{sym, subst}
 use Prim.Native.Nat.{◌<◌}
 use native.Mathlib.Omega.{arith}
+use borrow.Author.Rules.{rules}
 use Rattle.dispatch.specs.NamedSets.{max_sets}
 use Rattle.resolver.specs.declared.Shape.{Shape}
 use Rattle.pages.specs.Pages.{Pages, pages, shape_in}

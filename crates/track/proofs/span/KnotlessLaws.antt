@@ -2,7 +2,7 @@
 use mathlib.Core.Path.{◌≡◌, refl, sym, ap, ap₂, ◌∙◌, subst}
 use mathlib.Core.Logic.{inl}
 use mathlib.Core.Bool.{Bool, true, false, not, ◌&&◌, cond}
-use mathlib.Core.List.{List, ◌∷◌}
+use mathlib.Core.List.{List, [], ◌∷◌}
 use Prim.Native.Nat.{ℕ, ◌+◌, ◌-◌, ◌≤◌, ◌<◌, min}
 use native.Mathlib.Nat.{le_of_eq}
 use native.Mathlib.Decide.{dec_le}
@@ -15,6 +15,7 @@ use borrow.Author.Tests.{ltb-true, lt-ltb}
 use Rattle.gf.specs.Doubles.{key, of_key}
 use Rattle.gf.proofs.KeyLaws.{key-of_key, of_key-fits, of_key-finite, of_key-mono, le_trans, le_lt_trans, lt→le, le-no-nan, finite-no-nan}
 use Rattle.definitions.specs.declared.Missing.{Missing}
+use Rattle.definitions.specs.declared.Source.TheVariants.{Sample as sample}
 use Rattle.definitions.specs.Lists.{any, keep}
 use Rattle.definitions.specs.Doubles.{FiniteDouble}
 use Rattle.definitions.specs.ClipSet.{ClipSet, stage}

@@ -15,6 +15,7 @@ use Rattle.gf.specs.Doubles.{0·0, key, of_key, least, most}
 use Rattle.gf.proofs.KeyLaws.{of_key-fits, of_key-no-nan, of_key-finite, key-of_key, le→key, lt→key, key→le, key→lt, finite→key, key→finite, finite-no-nan, le-no-nan, lt→le, lt_not_le}
 use Rattle.definitions.specs.declared.Missing.{Missing}
 use Rattle.definitions.specs.declared.Source.{Source}
+use Rattle.definitions.specs.declared.Source.TheVariants.{Sample as sample}
 use Rattle.definitions.specs.Lists.{any}
 use Rattle.definitions.specs.Doubles.{FiniteDouble}
 use Rattle.definitions.specs.ClipSet.{ClipSet, stage}

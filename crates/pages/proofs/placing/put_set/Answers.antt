@@ -1,9 +1,11 @@
 use Prim.Native.Nat.{◌+◌, ◌*◌, ◌≤◌}
 use mathlib.Core.Path.{refl}
 use native.Mathlib.Omega.{arith}
+use borrow.Author.Rules.{rules}
 use lib.ListN.{length}
 use Rattle.resolver.specs.State.{lent_state}
 use Rattle.pages.proofs.LentPages.{lent-long, back}
+use Rattle.pages.proofs.placing.put_set.Goals.{Start as At-start}
 use Rattle.pages.proofs.placing.put_set.Goals as goal
 
 -- `pages::placing::put_set` meets its contract: five parts come back in their places. Assumes nothing.
