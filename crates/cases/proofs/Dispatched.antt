@@ -1,6 +1,6 @@
 -- The dispatcher's lists are such as an operation made, whatever a line says to it; which of them a name leads to. Assumes nothing.
-use Rattle.std.proofs.Common.{◌≡◌, ℕ, zero, suc, ◌+◌, ◌<◌, Bool, true, false, cond, List, [], ◌∷◌, length, take, subst, arith}
-use mathlib.Core.Option.{Option, none, some}
+use Rattle.std.proofs.Common.{◌≡◌, ℕ, suc, ◌+◌, ◌<◌, Bool, true, false, cond, List, [], ◌∷◌, length, take, subst, arith}
+use mathlib.Core.Option.{some}
 use lib.Ieee.{Float}
 use Rattle.definitions.specs.Explicit.{ExplicitFields}
 use Rattle.definitions.specs.Template.{TemplateFields}

@@ -1,5 +1,5 @@
 -- A decimal of at most 15 digits is rounded once: its digits' number and the power of ten are doubles as they stand. Assumes nothing.
-use Rattle.std.proofs.Common.{◌≡◌, ℕ, zero, suc, ◌+◌, ◌-◌, ◌*◌, ◌^◌, ◌<◌, ◌≤◌, Bool, true, false, cond, eqb, leb, List, [], ◌∷◌, length, drop, ℤ, pos, sym, refl, ap, ◌∙◌, subst, true≢false, le_trans, le_of_lt, lt_irrefl, mul-le-mul_right, zero-lt-suc, mul_assoc, mul_comm, mul-pos, one-mul, pow-suc, zero-mul, mul-one, le-mul_of_pos_right, mul_left_comm, arith, lit<, length-drop, pow-add, ne_eqb, leb-false}
+use Rattle.std.proofs.Common.{◌≡◌, ℕ, zero, suc, ◌+◌, ◌-◌, ◌*◌, ◌^◌, ◌<◌, ◌≤◌, Bool, true, false, cond, eqb, leb, List, [], ◌∷◌, length, drop, pos, sym, refl, ap, ◌∙◌, subst, true≢false, le_trans, le_of_lt, lt_irrefl, mul-le-mul_right, zero-lt-suc, mul_assoc, mul_comm, mul-pos, one-mul, pow-suc, zero-mul, mul-one, le-mul_of_pos_right, mul_left_comm, arith, lit<, length-drop, pow-add, ne_eqb, leb-false}
 use native.Mathlib.Nat.{one-le-pow, pow-le-pow_right}
 use lib.Ieee.{Float, nan, inf, fin, Format, binary64, up, down, round, of_int, div}
 use lib.Ieee.Fits.{up_pos, down_pos}
@@ -8,7 +8,6 @@ use lib.Ieee.Back.{round_whole}
 use lib.Ieee.Scale.{round_same}
 use Rattle.gf.proofs.Fraction.{round-neg}
 use Rattle.cases.specs.declared.text.numbers.Number.{Number}
-use Rattle.cases.specs.declared.text.decimals.Decimal.{Decimal}
 use Rattle.cases.specs.Text.{nowhere}
 use Rattle.cases.specs.Numbers.{number_at, unread, digit_of, decimals, decimals_at}
 use Rattle.cases.specs.Decimals.{decimal_of, no_decimal, stands, behind_point, decimal_from, decimal_at, signed_of}

@@ -1,14 +1,13 @@
 -- A dispatcher without a set, whatever the lists hold. Assumes nothing.
-use Prim.Native.Nat.{ℕ, zero, suc, ◌≤◌, ◌<◌}
+use Prim.Native.Nat.{ℕ, ◌<◌}
 use native.Mathlib.Omega.{arith}
 use mathlib.Core.Path.{◌≡◌, refl, sym, ap, ◌∙◌, subst}
-use mathlib.Core.List.{List, []}
-use lib.ListN.{length, get_or, set, length-set}
+use mathlib.Core.List.{[]}
+use lib.ListN.{length, set, length-set}
 use lib.Seq.{get_or-set_same}
 use Rattle.dispatch.specs.SetOrder.{by_name}
-use Rattle.dispatch.specs.NamedSets.{max_sets}
-use Rattle.set_names.specs.Pages.{names_in, NamePages}
-use Rattle.pages.specs.Pages.{Pages, pages, part, Sized, Names, set_count, sets_from, model, Made}
+use Rattle.set_names.specs.Pages.{names_in}
+use Rattle.pages.specs.Pages.{Pages, pages, part, Sized, set_count, sets_from, model, Made}
 
 abbrev pub emptied : Pages → Pages
 emptied p = pages p.starts p.numbers p.xs p.ys p.blocks p.defaults (set p.counts 0 0) p.bytes

@@ -1,7 +1,7 @@
 -- One set's page is written: its set is the one that was written, and the others are as they were. Assumes nothing.
-use Prim.Native.Nat.{ℕ, zero, suc, ◌+◌, ◌*◌, ◌≤◌, ◌<◌}
+use Prim.Native.Nat.{ℕ, ◌+◌, ◌*◌, ◌≤◌, ◌<◌}
 use native.Mathlib.Omega.{arith}
-use mathlib.Core.Path.{◌≡◌, refl, sym, ap, ◌∙◌, subst}
+use mathlib.Core.Path.{◌≡◌, refl, sym, ap, ◌∙◌}
 use mathlib.Core.Bool.{Bool, true, false}
 use mathlib.Core.List.{List}
 use lib.ListN.{length, get_or, set, length-set}
@@ -9,14 +9,13 @@ use lib.Seq.{get_or-set_same, get_or-set_other}
 use lib.Ieee.{Float, nan}
 use Rattle.dispatch.specs.SetOrder.{max_name}
 use Rattle.dispatch.specs.NamedSets.{max_sets}
-use Rattle.resolver.specs.declared.Resolver.{Resolver}
 use Rattle.resolver.specs.declared.Shape.{Shape}
 use Rattle.resolver.specs.State.{lent_state}
 use Rattle.standing.specs.Standing.{Lengths}
 use Rattle.set_names.specs.Pages.{name_in}
-use Rattle.pages.specs.Pages.{Pages, pages, part, over, Sizes, Sized, bit, is_set, shape_in, state_at, set_count, Names}
+use Rattle.pages.specs.Pages.{Pages, pages, part, over, Sizes, Sized, bit, is_set, shape_in, state_at, Names}
 use Rattle.pages.specs.Placing.{ShapeStored, Replaced}
-use Rattle.pages.proofs.Parts.{part-long, over-long, own-page, other-256, other-512, set_before, set-behind}
+use Rattle.pages.proofs.Parts.{over-long, own-page, other-256, other-512, set_before, set-behind}
 
 pub bit-set : (b : Bool) → is_set (bit b) ≡ b
 bit-set true = refl

@@ -9,7 +9,7 @@ use lib.ListN.{length, get_or, take, set, length-set}
 use lib.Seq.{get_or-set_same, get_or-set_other, take-take}
 use lib.Ieee.{Float}
 use Rattle.definitions.specs.ClipSet as definitions
-use Rattle.definitions.specs.ClipSet.{Model, no_set, standing}
+use Rattle.definitions.specs.ClipSet.{no_set, standing}
 use Rattle.definitions.specs.Calls.{step}
 use Rattle.dispatch.specs.SetOrder.{max_name, insert_number, by_name}
 use Rattle.dispatch.specs.NamedSets.{NamedSet, max_sets, with_set}
@@ -25,7 +25,7 @@ use Rattle.resolver.specs.Promises as desk
 use Rattle.set_names.specs.Pages.{name_in, names_in}
 use Rattle.set_names.proofs.InPages.{names-kept}
 use Rattle.set_names.proofs.NameOrder.{by_name-suc}
-use Rattle.pages.specs.Pages.{Pages, pages, part, over, bit, is_set, shape_in, state_at, declares_at, named_at, set_count, sets_from, model, Made}
+use Rattle.pages.specs.Pages.{Pages, pages, part, over, is_set, shape_in, state_at, declares_at, named_at, set_count, sets_from, model, Made}
 use Rattle.pages.specs.Placing.{ShapeStored, name_stored, Replaced, PutAt, Entered}
 use Rattle.set_changes.specs.Promises.{Extends}
 use Rattle.pages.proofs.Parts.{over-long, over-at, over-front, set_before}

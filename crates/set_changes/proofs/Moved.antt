@@ -13,9 +13,9 @@ use Rattle.definitions.specs.declared.LayerOffset.{LayerOffset}
 use Rattle.definitions.specs.ClipSet as definitions
 use Rattle.definitions.specs.ClipSet.{standing}
 use Rattle.definitions.specs.Retime.{moved_number, retime_number, retime_stage_times}
-use Rattle.definitions.specs.Calls.{step, accepted}
+use Rattle.definitions.specs.Calls.{step}
 use Rattle.dispatch.specs.SetOrder.{max_name, same_name, number_from, set_number, by_name}
-use Rattle.dispatch.specs.NamedSets.{NamedSet, max_sets, names_of, has_name, changed, change_named}
+use Rattle.dispatch.specs.NamedSets.{NamedSet, max_sets, names_of, changed, change_named}
 use Rattle.dispatch.specs.Dispatch.{moved_at, found, named_retime_number}
 use Rattle.dispatch.specs.DispatchCalls.{dispatch_step}
 use Rattle.standing.specs.Standing.{set_in}
@@ -23,8 +23,6 @@ use Rattle.resolver.specs.declared.Resolver.{Resolver}
 use Rattle.resolver.specs.declared.Shape.{Shape}
 use Rattle.resolver.specs.declared.Settled.{Settled}
 use Rattle.resolver.specs.State as resolver
-use Rattle.resolver.specs.State.{lent_state}
-use Rattle.resolver.specs.Promises as desk
 use Rattle.set_names.specs.Pages.{name_in, names_in, names_at}
 use Rattle.set_names.proofs.InPages.{names-kept}
 use Rattle.pages.specs.Pages.{Pages, pages, part, over, is_set, shape_in, page_state, state_at, declares_at, named_at, set_count, sets_from, model, Made}
@@ -32,7 +30,7 @@ use Rattle.pages.specs.Placing.{ShapeStored, Replaced, MovedAt}
 use Rattle.set_changes.specs.Promises.{RetimesAt, Retimes}
 use Rattle.pages.proofs.Parts.{over-same}
 use Rattle.pages.proofs.OnePage.{replaced}
-use Rattle.set_changes.proofs.Extended.{stands-as, made-long, named_set, named_by, sets_same}
+use Rattle.set_changes.proofs.Extended.{stands-as, made-long, named_by, sets_same}
 use Rattle.pages.proofs.AskedSets.{model-long, names-of, set_at}
 use Rattle.set_changes.proofs.Taken.{accepted-refused, accepted-granted}
 

@@ -3,15 +3,15 @@ use Prim.Native.Nat.{ℕ, suc, ◌≤◌, ◌<◌}
 use native.Mathlib.Omega.{arith}
 use mathlib.Core.Path.{◌≡◌, refl, sym, ap, ◌∙◌}
 use mathlib.Core.Bool.{Bool, true, false, ◌||◌, cond}
-use mathlib.Core.List.{List, [], ◌∷◌, map}
-use mathlib.Core.Option.{Option, none, some}
+use mathlib.Core.List.{List, [], ◌∷◌}
+use mathlib.Core.Option.{none, some}
 use lib.Dec.{leb}
 use lib.ListN.{length, get_or}
 use borrow.Author.Tests.{le-ltb, lt-ltb, le-leb, lt-leb, leb-false, ltb-false}
 use Rattle.laws.proofs.list.Tests.{or-false, passed}
 use Rattle.definitions.specs.Lists.{◌if◌else◌, any}
 use Rattle.dispatch.specs.SetOrder.{max_name, too_long, same_name, number_from, set_number}
-use Rattle.dispatch.specs.NamedSets.{NamedSet, max_sets, names_of, has_name, set_name_number}
+use Rattle.dispatch.specs.NamedSets.{NamedSet, max_sets, names_of, has_name}
 use Rattle.set_names.specs.Pages.{names_in}
 use Rattle.set_changes.specs.Promises.{name_number}
 

@@ -17,7 +17,6 @@ use Rattle.clip.specs.Preparing.{Examines}
 use Rattle.dispatch.specs.SetOrder.{too_long, same_name}
 use Rattle.dispatch.specs.NamedSets.{NamedSet, max_sets, has_name, set_name_number, with_set}
 use Rattle.dispatch.specs.DispatchCalls.{dispatch_step}
-use Rattle.set_names.specs.Pages.{names_in}
 use Rattle.pages.specs.Pages.{Pages, set_count, model, Made}
 use Rattle.set_changes.specs.Promises.{name_number, Extends, Installs, Accepts, Expands}
 use Rattle.set_changes.proofs.NameTaken.{by_names}

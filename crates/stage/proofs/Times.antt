@@ -6,7 +6,6 @@ use Prim.Native.Nat.{ℕ, ◌-◌, ◌<◌}
 use lib.Dec.{T}
 use lib.ListN.{length, get_or, drop}
 use lib.Ieee.{Float, nan, fits, lt, le}
-use lib.Ieee.Scale.{finite}
 use Rattle.gf.proofs.KeyLaws.{le_trans, lt-le-trans}
 use Rattle.gf.specs.Doubles.{power}
 use Rattle.gf.proofs.Exactly.{within-lo}

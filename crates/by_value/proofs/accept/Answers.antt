@@ -1,5 +1,4 @@
 -- `by_value::accept` meets its contract: the examined set is installed, unless its number refuses it. Assumes nothing.
-use borrow.Author.Rules.{rules}
 use Rattle.resolver.proofs.Laws.{accepts}
 use Rattle.by_value.proofs.accept.Goals as goal
 

@@ -1,6 +1,5 @@
 -- `by_value::retime` meets its contract: 20 where no set stands, else the moved set is installed. Assumes nothing.
 use mathlib.Core.Path.{sym, subst}
-use borrow.Author.Tests.{not-true, not-false}
 use Rattle.laws.specs.set.Sound.{Sound}
 use Rattle.resolver.proofs.Laws.{retimes-20, retimes, stands-sound}
 use Rattle.by_value.proofs.retime.Goals as goal

@@ -1,5 +1,5 @@
 -- `cases::install` leaves the resolver as it was, or with a slot's set. Assumes nothing.
-use Rattle.std.proofs.Common.{refl, rules}
+use Rattle.std.proofs.Common.{refl}
 use Rattle.cases.proofs.Slotting.{not-installed, is-installed}
 use Rattle.cases.proofs.install.Goals as goal
 

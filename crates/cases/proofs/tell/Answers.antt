@@ -1,5 +1,4 @@
 -- `cases::tell` touches no resolver and no slot. Assumes nothing.
-use Rattle.std.proofs.Common.{rules}
 use Rattle.cases.proofs.tell.Goals as goal
 
 pub written-session-requires-2 : goal.written-session-requires-2

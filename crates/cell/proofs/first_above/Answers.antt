@@ -3,7 +3,6 @@ use Prim.Native.Nat.{◌+◌}
 use native.Mathlib.Omega.{arith}
 use Rattle.laws.proofs.list.Places.{last-inside}
 use Rattle.cell.proofs.Firsts.{upper-at, upper-end, none-counted, some-counted}
-use borrow.Author.Rules.{rules}
 use Rattle.cell.proofs.first_above.Goals as goal
 
 pub returns-then-xs-eq0 : goal.returns-then-xs-eq0

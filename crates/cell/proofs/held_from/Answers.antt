@@ -3,7 +3,6 @@ use mathlib.Core.Path.{sym, ap, ap₂, ◌∙◌}
 use mathlib.Core.Bool.{Bool, cond}
 use Rattle.window.specs.declared.Bound.TheVariants.{At, Nothing}
 use Rattle.cell.specs.CellAndEnd.{held_of}
-use borrow.Author.Rules.{rules}
 use Rattle.cell.proofs.held_from.Goals as goal
 
 pub returns-then-is_jump : goal.returns-then-is_jump

@@ -1,6 +1,5 @@
 -- `codes::answer_code` meets its contract: each arm is given which case the answer is. Assumes nothing.
 use mathlib.Core.Path.{sym, ap, ◌∙◌}
-use borrow.Author.Rules.{rules}
 use lib.Ieee.{of_bits}
 use Rattle.definitions.specs.declared.Answer.{Answer}
 use Rattle.codes.specs.Codes.{answer_code}

@@ -1,6 +1,5 @@
 -- `codes::name_code` meets its contract: each arm is given which case the reply is. Assumes nothing.
 use mathlib.Core.Path.{sym, ap}
-use borrow.Author.Rules.{rules}
 use Rattle.codes.specs.Codes.{name_code}
 use Rattle.codes.proofs.name_code.Goals as goal
 

@@ -1,6 +1,5 @@
 -- `codes::sample_code` meets its contract: each arm is given which case the sample is. Assumes nothing.
 use mathlib.Core.Path.{sym, ap}
-use borrow.Author.Rules.{rules}
 use Rattle.codes.specs.Codes.{sample_code}
 use Rattle.codes.proofs.sample_code.Goals as goal
 

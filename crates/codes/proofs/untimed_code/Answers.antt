@@ -1,6 +1,5 @@
 -- `codes::untimed_code` meets its contract: each arm is given which case the reply is. Assumes nothing.
 use mathlib.Core.Path.{sym, ap, ◌∙◌}
-use borrow.Author.Rules.{rules}
 use Rattle.definitions.specs.declared.ValueState.{ValueState}
 use Rattle.resolver.specs.declared.UntimedReply.TheVariants.{Answered}
 use Rattle.codes.specs.Codes.{untimed_code}

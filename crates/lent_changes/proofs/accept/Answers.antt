@@ -1,5 +1,4 @@
 -- `lent_changes::accept` meets its contract: the examined set is installed, unless its number refuses it. Assumes nothing.
-use borrow.Author.Rules.{rules}
 use Rattle.resolver.specs.declared.Resolver.{Resolver}
 use Rattle.resolver.specs.State.{lent_state}
 use Rattle.resolver.proofs.Laws.{settles, settles-not, accepts}

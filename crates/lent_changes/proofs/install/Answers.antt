@@ -1,5 +1,4 @@
 -- `lent_changes::install` meets its contract: the prepared set in the lent lists. Assumes nothing.
-use borrow.Author.Rules.{rules}
 use Rattle.resolver.specs.declared.Resolver.{Resolver}
 use Rattle.resolver.specs.State.{lent_state}
 use Rattle.resolver.proofs.Laws.{unpacks}

@@ -1,6 +1,5 @@
 -- `lent_changes::retime` meets its contract: 20, else the moved set is installed. Assumes nothing.
 use mathlib.Core.Path.{sym, subst}
-use borrow.Author.Rules.{rules}
 use borrow.Author.Tests.{not-true, not-false}
 use Rattle.laws.specs.set.Sound.{Sound}
 use Rattle.resolver.specs.declared.Resolver.{Resolver}

@@ -1,6 +1,5 @@
 -- `lent_questions::active_clip` meets its contract: 20, 10, else the set's active clip. Assumes nothing.
 use mathlib.Core.Path.{sym, ◌∙◌}
-use borrow.Author.Rules.{rules}
 use borrow.Author.Tests.{not-true, not-false}
 use Rattle.definitions.specs.Timing.{active_clip}
 use Rattle.definitions.specs.Questions.{ask_active_clip}

@@ -1,5 +1,4 @@
 -- `lent_questions::bake` meets its contract: 20, the samples' number, else the track of the standing set. Assumes nothing.
-use borrow.Author.Rules.{rules}
 use borrow.Author.Tests.{not-true, not-false}
 use Rattle.definitions.specs.Samples.{Samples}
 use Rattle.laws.specs.cell.Lent.{samples_of}

@@ -1,6 +1,5 @@
 -- `lent_questions::change_count` meets its contract: 20, the samples' number, else the count. Assumes nothing.
 use mathlib.Core.Path.{refl}
-use borrow.Author.Rules.{rules}
 use borrow.Author.Tests.{not-true, not-false}
 use Rattle.definitions.specs.Samples.{Samples}
 use Rattle.laws.specs.cell.Lent.{samples_of}

@@ -1,6 +1,5 @@
 -- `lent_questions::clip_time` meets its contract: 20, 10, else the clip time by the set's knots. Assumes nothing.
 use mathlib.Core.Path.{sym, ap, ◌∙◌}
-use borrow.Author.Rules.{rules}
 use borrow.Author.Tests.{not-true, not-false}
 use Rattle.definitions.specs.Questions.{ask_clip_time, replied}
 use Rattle.laws.specs.cell.Lent.{set_of}

@@ -1,8 +1,6 @@
 -- `pages::fresh` meets its contract: no set, whatever the lists hold. Assumes nothing.
 use mathlib.Core.Path.{refl, subst}
 use native.Mathlib.Omega.{arith}
-use borrow.Author.Rules.{rules}
-use borrow.Author.Tests.{not-true, not-false}
 use Rattle.pages.specs.Pages.{Pages, pages, Sized, SizedIs}
 use Rattle.pages.proofs.Begun.{begun}
 use Rattle.pages.proofs.fresh.Goals.{Else-not-sized, Start as At-start}

@@ -2,7 +2,6 @@
 use mathlib.Core.Path.{ap, ◌∙◌}
 use Rattle.definitions.specs.Track.{written_entry}
 use Rattle.run.proofs.Readings.{sample-value, sample-blocked}
-use borrow.Author.Rules.{rules}
 use Rattle.run.proofs.entry_of_sample.Goals as goal
 
 pub returns-then-ms-place-eq0 : goal.returns-then-ms-place-eq0

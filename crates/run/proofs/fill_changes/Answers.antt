@@ -1,8 +1,7 @@
 -- `run::fill_changes` meets its contract. The invariant: the walk stands at the key at, and place is what is read there. The measure is what is left up to hi. Assumes nothing.
 use mathlib.Core.Path.{◌≡◌, refl, sym, ap, ◌∙◌, subst}
-use Prim.Native.Nat.{ℕ, ◌-◌, ◌≤◌}
+use Prim.Native.Nat.{ℕ}
 use native.Mathlib.Omega.{arith}
-use borrow.Author.Rules.{rules}
 use Rattle.gf.specs.Doubles.{of_key}
 use Rattle.definitions.specs.Track.{Entry, Outputs}
 use Rattle.definitions.specs.Moments.{outputs}

@@ -1,6 +1,5 @@
 -- `run::place_beside` meets its contract. Assumes nothing.
 use mathlib.Core.Path.{ap, ◌∙◌}
-use borrow.Author.Rules.{rules}
 use Rattle.definitions.specs.Timing.{last_at_most}
 use Rattle.laws.specs.cell.Knots as Knots
 use Rattle.cell.specs.step.Lines.{line_is, place_on}

@@ -1,6 +1,5 @@
 -- `set_changes::accept_template` meets its contract: 23, then the numbers of the fields, else the set behind the others. Assumes nothing.
 use mathlib.Core.Path.{sym, ◌∙◌}
-use borrow.Author.Rules.{rules}
 use Rattle.definitions.specs.Template.{TemplateFields}
 use Rattle.clip.specs.Holding.{manifest}
 use Rattle.template.specs.Expanding.{template_fields}

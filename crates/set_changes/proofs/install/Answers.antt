@@ -1,6 +1,5 @@
 -- `set_changes::install` meets its contract: 23, else the set behind the others. Assumes nothing.
 use mathlib.Core.Path.{sym, ◌∙◌}
-use borrow.Author.Rules.{rules}
 use Rattle.pages.specs.Pages.{Pages, pages}
 use Rattle.set_changes.proofs.Taken.{install-refused, installed}
 use Rattle.set_changes.proofs.install.Goals.{Start as At-start}

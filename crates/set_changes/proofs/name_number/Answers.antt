@@ -1,7 +1,6 @@
 -- `set_changes::name_number` meets its contract: 23 three times, else 0. Assumes nothing.
 use mathlib.Core.Path.{sym, ap, ◌∙◌}
 use native.Mathlib.Omega.{arith}
-use borrow.Author.Rules.{rules}
 use Rattle.set_names.specs.Pages.{number_of}
 use Rattle.set_changes.proofs.NameTaken.{many, too_long-is, taken, free}
 use Rattle.set_changes.proofs.name_number.Goals as goal

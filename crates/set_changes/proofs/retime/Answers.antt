@@ -1,6 +1,5 @@
 -- `set_changes::retime` meets its contract: 20, else the set of the name. Assumes nothing.
-use mathlib.Core.Path.{◌≡◌, sym, ap, ◌∙◌}
-use borrow.Author.Rules.{rules}
+use mathlib.Core.Path.{sym, ap, ◌∙◌}
 use Rattle.set_names.specs.Pages.{number_of}
 use Rattle.pages.specs.Pages.{Pages, pages}
 use Rattle.set_changes.proofs.Moved.{below, retimes, retimes-20}

@@ -1,7 +1,6 @@
-use mathlib.Core.Path.{sym, subst}
+use mathlib.Core.Path.{subst}
 use Prim.Native.Nat.{◌<◌}
 use native.Mathlib.Omega.{arith}
-use borrow.Author.Rules.{rules}
 use Rattle.dispatch.specs.NamedSets.{max_sets}
 use Rattle.resolver.specs.declared.Shape.{Shape}
 use Rattle.pages.specs.Pages.{Pages, pages, shape_in}

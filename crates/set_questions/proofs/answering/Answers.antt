@@ -4,7 +4,6 @@ use mathlib.Core.Bool.{Bool}
 use Rattle.dispatch.specs.SetOrder.{order_number}
 use Rattle.set_questions.specs.Asking.{order_of}
 use Rattle.set_questions.proofs.Asked.{as_many, names-paged, few-sets, in-order-below, answers-listed, answers-unlisted}
-use borrow.Author.Rules.{rules}
 use Rattle.set_questions.proofs.answering.Goals as goal
 
 pub first_listed-requires : goal.first_listed-requires

@@ -1,7 +1,6 @@
 -- `set_questions::bake` meets its contract: the order list's number, the samples', else the track of the set that answers. Assumes nothing.
 use mathlib.Core.Path.{◌≡◌, sym, ◌∙◌}
 use mathlib.Core.Option.{Option}
-use borrow.Author.Rules.{rules}
 use Rattle.definitions.specs.Track.{Outputs}
 use Rattle.definitions.specs.Moments.{outputs}
 use Rattle.dispatch.specs.SetOrder.{OrderList, order_number}

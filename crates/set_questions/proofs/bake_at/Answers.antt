@@ -6,7 +6,6 @@ use Rattle.laws.specs.list.Places.{Fits}
 use Rattle.sdf.proofs.Lent.{every-fits}
 use Rattle.pages.specs.Pages.{Pages, pages}
 use Rattle.set_questions.proofs.Asked.{page-asked, page-bakes}
-use borrow.Author.Rules.{rules}
 use Rattle.set_questions.proofs.bake_at.Goals.{After-shape_at-shape, Start as At-start}
 use Rattle.set_questions.proofs.bake_at.Goals as goal
 

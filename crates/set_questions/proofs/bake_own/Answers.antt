@@ -4,7 +4,6 @@ use Rattle.dispatch.specs.SetSamples.{SetSamples}
 use Rattle.set_samples.specs.Parting.{lent_samples}
 use Rattle.pages.specs.Pages.{Pages, pages}
 use Rattle.set_questions.proofs.Asked.{clip-counts, own-accepted, bakes-alike}
-use borrow.Author.Rules.{rules}
 use Rattle.set_questions.proofs.bake_own.Goals.{Start as At-start}
 use Rattle.set_questions.proofs.bake_own.Goals as goal
 

@@ -8,7 +8,6 @@ use Rattle.dispatch.specs.SetSamples.{SetSamples, set_samples_number}
 use Rattle.set_samples.specs.Parting.{lent_samples, FewClips, OwnAt}
 use Rattle.pages.proofs.Parts.{part-to}
 use Rattle.set_questions.proofs.Asked.{clips-lent}
-use borrow.Author.Rules.{rules}
 use Rattle.set_questions.proofs.own_at.Goals.{Start as At-start}
 use Rattle.set_questions.proofs.own_at.Goals as goal
 

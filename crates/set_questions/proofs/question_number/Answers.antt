@@ -2,7 +2,6 @@
 use Prim.Native.Nat.{ℕ}
 use mathlib.Core.Path.{◌≡◌, sym, ap, ◌∙◌, subst}
 use mathlib.Core.List.{List}
-use mathlib.Core.Logic.{⊎_elim}
 use lib.ListN.{get_or}
 use Rattle.dispatch.specs.SetOrder.{order_number}
 use Rattle.dispatch.specs.SetSamples.{SetSamples, set_samples_number}
@@ -10,7 +9,6 @@ use Rattle.set_samples.specs.Parting.{lent_samples, FewClips}
 use Rattle.set_questions.specs.Asking.{order_of}
 use Rattle.pages.proofs.Parts.{part-to}
 use Rattle.set_questions.proofs.Asked.{then-first, then_next, listed-number, unlisted-number}
-use borrow.Author.Rules.{rules}
 use Rattle.set_questions.proofs.question_number.Goals.{Joined-given, Start as At-start, else-given, then-given+else-number-ne0}
 use Rattle.set_questions.proofs.question_number.Goals as goal
 

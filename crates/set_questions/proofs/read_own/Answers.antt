@@ -8,7 +8,6 @@ use Rattle.standing.specs.Standing.{set_in}
 use Rattle.set_samples.specs.Parting.{lent_samples}
 use Rattle.pages.specs.Pages.{Pages, pages, state_at}
 use Rattle.set_questions.proofs.Asked.{clip-counts, own-accepted}
-use borrow.Author.Rules.{rules}
 use Rattle.set_questions.proofs.read_own.Goals.{Start as At-start}
 use Rattle.set_questions.proofs.read_own.Goals as goal
 

@@ -4,8 +4,6 @@ use mathlib.Core.Option.{Option}
 use mathlib.Core.Bool.{true}
 use lib.Dec.{T}
 use lib.Ieee.Scale.{finite}
-use borrow.Author.Rules.{rules}
-use borrow.Author.Tests.{not-true, not-false}
 use Rattle.dispatch.specs.SetOrder.{OrderList, order_number}
 use Rattle.dispatch.specs.SetSamples.{SetSamples}
 use Rattle.set_samples.specs.Parting.{lent_samples}

@@ -5,7 +5,6 @@ use lib.Ieee.{Float}
 use lib.ListN.{length}
 use Prim.Native.Nat.{◌≤◌}
 use native.Mathlib.Omega.{arith}
-use borrow.Author.Rules.{rules}
 use Rattle.stage.specs.Times.{times_of}
 use Rattle.stage.proofs.stage_sample_times.Goals.{Start as At-start, Then-counted-room}
 use Rattle.stage.proofs.stage_sample_times.Goals as goal

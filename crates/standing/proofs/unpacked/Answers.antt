@@ -1,6 +1,5 @@
 -- `standing::unpacked` meets its contract: each list is written over the front of a lent array. Assumes nothing.
 use mathlib.Core.Path.{sym}
-use borrow.Author.Rules.{rules}
 use Rattle.clip.proofs.Laws.{lent}
 use Rattle.standing.proofs.Arrays.{arrays-unpacked}
 use Rattle.standing.proofs.unpacked.Goals as goal

@@ -1,5 +1,4 @@
 -- `tavitrozy::tavitrozy_lent_accept` meets its contract: the operation's own promise. Assumes nothing.
-use borrow.Author.Rules.{rules}
 use Rattle.tavitrozy.proofs.tavitrozy_lent_accept.Goals as goal
 
 pub returns : goal.returns

@@ -1,7 +1,7 @@
 -- The steps of a walk lead on by the value of the set: what each reads is what the set says there. Assumes nothing.
-use mathlib.Core.Path.{◌≡◌, refl, sym, ap, ◌∙◌, subst}
+use mathlib.Core.Path.{◌≡◌, refl, sym, ◌∙◌, subst}
 use mathlib.Core.List.{List}
-use Prim.Native.Nat.{ℕ, ◌-◌, ◌≤◌, ◌<◌, min}
+use Prim.Native.Nat.{ℕ, ◌-◌, ◌<◌, min}
 use native.Mathlib.Nat.{le_of_eq}
 use native.Mathlib.Omega.{arith}
 use lib.ListN.{length}
@@ -13,15 +13,13 @@ use Rattle.definitions.specs.Doubles.{FiniteDouble}
 use Rattle.definitions.specs.ClipSet.{ClipSet}
 use Rattle.definitions.specs.Samples.{Samples}
 use Rattle.definitions.specs.Timing.{last_at_most}
-use Rattle.definitions.specs.Track.{Entry}
 use Rattle.laws.specs.track.Steps.{Agree}
 use Rattle.laws.specs.cell.Keys.{Keys, entry_at_key}
 use Rattle.laws.specs.cell.Lent.{AcceptedLists, set_of, samples_of}
-use Rattle.lists.specs.Segments.{segment_at}
 use Rattle.window.specs.declared.Bound.{Bound}
 use Rattle.window.specs.declared.Bound.TheVariants.{At}
 use Rattle.window.specs.declared.search.Window.{Window}
-use Rattle.window.specs.search.Latest.{LatestOf, segment_of}
+use Rattle.window.specs.search.Latest.{LatestOf}
 use Rattle.window.specs.search.Windowed.{samples_in}
 use Rattle.window.proofs.Parts.{ready-readable}
 use Rattle.value.specs.WindowOf.{WindowIs}
@@ -39,7 +37,6 @@ use Rattle.cell.proofs.Lent.{sound, samples, place-window}
 use Rattle.cell.proofs.LastKeys.{end-numbered, end_later}
 use Rattle.cell.proofs.CellsRead.{CellAndEndIs, cell-asks, cell-is}
 use Rattle.track.specs.declared.span.ReadBy.{ReadBy}
-use Rattle.track.specs.declared.span.ReadBy.TheVariants.{ByCell, ByRun}
 use Rattle.track.specs.declared.span.Step.{Step}
 use Rattle.track.specs.span.Runs.{Runs, SpanIs, entry_by, StepIs}
 use Rattle.track.specs.span.Knotless.{knotless_cell}

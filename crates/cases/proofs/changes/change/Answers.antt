@@ -1,5 +1,4 @@
 -- `cases::changes::change` keeps the promise of the line's kind. Assumes nothing.
-use Rattle.std.proofs.Common.{rules}
 use Rattle.cases.proofs.Changing.{of-kind}
 use Rattle.cases.proofs.changes.change.Goals as goal
 

@@ -1,5 +1,4 @@
 -- `cases::changes::template` hands on what the operation promises of the fields that were read. Assumes nothing.
-use Rattle.std.proofs.Common.{rules}
 use Rattle.cases.specs.declared.lines.calls.Change.TheVariants.{Template}
 use Rattle.cases.proofs.Changing.{handed-on}
 use Rattle.cases.proofs.changes.template.Goals as goal

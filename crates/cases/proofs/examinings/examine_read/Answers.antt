@@ -1,5 +1,4 @@
 -- `cases::examinings::examine_read` meets its contract: the lists that it lends are the first entries. Assumes nothing.
-use Rattle.std.proofs.Common.{rules}
 use Rattle.cases.proofs.Slotting.{examines-as}
 use Rattle.cases.proofs.examinings.examine_read.Goals as goal
 

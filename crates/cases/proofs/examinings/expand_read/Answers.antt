@@ -1,5 +1,4 @@
 -- `cases::examinings::expand_read` meets its contract: the lists that it lends are the first entries. Assumes nothing.
-use Rattle.std.proofs.Common.{rules}
 use Rattle.cases.proofs.Slotting.{expands-as}
 use Rattle.cases.proofs.examinings.expand_read.Goals as goal
 

@@ -1,5 +1,4 @@
 -- `cases::examinings::explicit` hands on what the operation promises of the fields that were read. Assumes nothing.
-use Rattle.std.proofs.Common.{rules}
 use Rattle.cases.proofs.Slotting.{handed-back}
 use Rattle.cases.proofs.examinings.explicit.Goals as goal
 

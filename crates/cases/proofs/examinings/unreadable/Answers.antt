@@ -1,5 +1,5 @@
 -- `cases::examinings::unreadable` examines nothing. Assumes nothing.
-use Rattle.std.proofs.Common.{sym, true≢false, arith, rules}
+use Rattle.std.proofs.Common.{sym, true≢false, arith}
 use Rattle.cases.proofs.Slotting.{empty-made}
 use Rattle.cases.proofs.examinings.unreadable.Goals as goal
 

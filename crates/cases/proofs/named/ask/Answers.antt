@@ -1,6 +1,5 @@
 -- `cases::named::ask` leaves the session as it was but for its output. Assumes nothing.
 use Rattle.cases.proofs.Staying.{stays_on}
-use Rattle.std.proofs.Common.{rules}
 use Rattle.cases.proofs.named.ask.Goals as goal
 
 pub returns-then-n : goal.returns-then-n

@@ -1,6 +1,5 @@
 -- `cases::named::change` leaves the session as it was but for its output, and lists that an operation made. Assumes nothing.
 use Rattle.cases.proofs.Staying.{stays_on}
-use Rattle.std.proofs.Common.{rules}
 use Rattle.cases.proofs.named.change.Goals as goal
 
 pub returns : goal.returns

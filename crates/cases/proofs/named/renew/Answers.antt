@@ -1,5 +1,4 @@
 -- `cases::named::renew` leaves no set, as the lists have the sizes that the dispatcher asks for. Assumes nothing.
-use Rattle.std.proofs.Common.{rules}
 use Rattle.pages.specs.Pages.{Pages, pages, Sized}
 use Rattle.cases.proofs.Dispatched.{begun}
 use Rattle.cases.proofs.named.renew.Goals.{After-fresh, Start as At-start}

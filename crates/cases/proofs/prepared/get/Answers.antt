@@ -1,5 +1,4 @@
 -- `cases::prepared::get` hands out a slot's set. Assumes nothing.
-use Rattle.std.proofs.Common.{rules}
 use Rattle.cases.proofs.Slotting.{gets}
 use Rattle.cases.proofs.prepared.get.Goals as goal
 

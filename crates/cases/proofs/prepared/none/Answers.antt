@@ -1,5 +1,5 @@
 -- `cases::prepared::none` holds no set. Assumes nothing.
-use Rattle.std.proofs.Common.{refl, rules}
+use Rattle.std.proofs.Common.{refl}
 use Rattle.cases.proofs.Slotting.{empty-made}
 use Rattle.cases.proofs.prepared.none.Goals as goal
 

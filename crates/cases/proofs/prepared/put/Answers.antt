@@ -1,5 +1,4 @@
 -- `cases::prepared::put` fills one slot. Assumes nothing.
-use Rattle.std.proofs.Common.{rules}
 use Rattle.cases.proofs.Slotting.{puts}
 use Rattle.cases.proofs.prepared.put.Goals as goal
 

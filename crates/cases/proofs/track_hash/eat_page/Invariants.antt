@@ -1,5 +1,5 @@
 -- `cases::track_hash::eat_page` is safe and ends: the changes that are left are fewer after each turn. Assumes nothing.
-use Rattle.std.proofs.Common.{◌-◌, ◌≤◌, rules}
+use Rattle.std.proofs.Common.{◌-◌, ◌≤◌}
 use Rattle.cases.proofs.track_hash.eat_page.Given as goal
 
 abbrev pub invariant-loop-i : goal.invariant-loop-i

@@ -1,5 +1,4 @@
 -- `cases::track_hash::eat_word` is safe and ends: the bytes that are left are fewer after each turn. Assumes nothing.
-use Rattle.std.proofs.Common.{rules}
 use Rattle.cases.proofs.track_hash.eat_word.Given as goal
 
 abbrev pub invariant-loop-left : goal.invariant-loop-left

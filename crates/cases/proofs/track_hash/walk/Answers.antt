@@ -1,9 +1,7 @@
 -- `cases::track_hash::walk` is safe and ends: each page leads to a higher key, so the keys that are left are fewer. Assumes nothing.
-use Rattle.std.proofs.Common.{◌-◌, arith, lit≤, rules}
-use Rattle.gf.specs.Doubles as Key
+use Rattle.std.proofs.Common.{arith, lit≤}
 use Rattle.window.proofs.Parts.{ready-readable}
 use Rattle.cell.proofs.Lent.{no-place-is, few-knots}
-use Rattle.track.specs.Fills.{CursorIs}
 use Rattle.cases.proofs.track_hash.walk.Goals as goal
 
 pub latest_inverses-latest-requires : goal.latest_inverses-latest-requires

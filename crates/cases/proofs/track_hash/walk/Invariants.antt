@@ -1,8 +1,6 @@
 -- `cases::track_hash::walk` is safe and ends: each page leads to a higher key, so the keys that are left are fewer. Assumes nothing.
-use Rattle.std.proofs.Common.{◌-◌, arith, lit≤, rules}
+use Rattle.std.proofs.Common.{◌-◌}
 use Rattle.gf.specs.Doubles as Key
-use Rattle.window.proofs.Parts.{ready-readable}
-use Rattle.cell.proofs.Lent.{no-place-is, few-knots}
 use Rattle.track.specs.Fills.{CursorIs}
 use Rattle.cases.proofs.track_hash.walk.Given as goal
 

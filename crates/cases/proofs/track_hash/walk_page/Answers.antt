@@ -1,5 +1,5 @@
 -- `cases::track_hash::walk_page` meets its contract. Assumes nothing.
-use Rattle.std.proofs.Common.{◌≡◌, ℕ, ◌≤◌, List, length, refl, arith, rules}
+use Rattle.std.proofs.Common.{◌≡◌, ℕ, ◌≤◌, List, length, refl, arith}
 use lib.Ieee.{Float}
 use Rattle.definitions.specs.Track.{slots}
 use Rattle.definitions.specs.Moments.{outputs}

@@ -1,7 +1,6 @@
 -- `end::end_key` meets its contract. Assumes nothing.
 use mathlib.Core.Path.{sym, ap, ◌∙◌, subst}
 use Rattle.cell.specs.EndKeys.{Numbered, end_key}
-use borrow.Author.Rules.{rules}
 use Rattle.cell.proofs.end.end_key.Goals as goal
 
 pub key-requires : goal.key-requires

@@ -3,7 +3,6 @@ use mathlib.Core.Path.{sym, ap, ap₂, ◌∙◌}
 use mathlib.Core.Bool.{Bool, ◌&&◌}
 use lib.Dec.{ltb}
 use Rattle.definitions.specs.Samples.{clip_begin, clip_end}
-use borrow.Author.Rules.{rules}
 use Rattle.cell.proofs.place.has_reading.Goals as goal
 
 pub returns-then-contributes : goal.returns-then-contributes

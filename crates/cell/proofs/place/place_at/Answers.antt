@@ -3,7 +3,6 @@ use native.Mathlib.Omega.{arith}
 use Rattle.laws.proofs.list.Places.{last-inside}
 use Rattle.window.proofs.Parts.{ready-starts}
 use Rattle.cell.proofs.CellsRead.{gap-stands}
-use borrow.Author.Rules.{rules}
 use Rattle.cell.proofs.place.place_at.Goals as goal
 
 pub last_at_most_near-p-requires : goal.last_at_most_near-p-requires

@@ -3,7 +3,6 @@ use mathlib.Core.Path.{refl}
 use native.Mathlib.Omega.{arith}
 use Rattle.window.proofs.Parts.{ready-clip}
 use Rattle.cell.proofs.Gaps.{window_on}
-use borrow.Author.Rules.{rules}
 use Rattle.cell.proofs.place.window_after.Goals as goal
 
 pub follows-requires : goal.follows-requires

@@ -2,7 +2,6 @@
 use mathlib.Core.Path.{ap, ◌∙◌}
 use lib.Dec.{eqb}
 use lib.Ieee.{Float}
-use borrow.Author.Rules.{rules}
 use Rattle.definitions.specs.Timing.{last_at_most}
 use Rattle.laws.specs.cell.Knots as Knots
 use Rattle.cell.specs.step.Lines.{line_is, place_on}

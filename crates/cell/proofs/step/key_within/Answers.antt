@@ -1,5 +1,4 @@
 -- `cell::step::key_within` meets its contract. Assumes nothing.
-use borrow.Author.Rules.{rules}
 use Rattle.gf.proofs.Tests.{not-nan}
 use Rattle.cell.proofs.step.key_within.Goals as goal
 

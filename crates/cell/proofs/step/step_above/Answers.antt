@@ -1,10 +1,10 @@
 -- `cell::step::step_above` meets its contract. The invariant: the sample at q is read at a, which is the steps so far above k. The measure is hi - a. Assumes nothing.
 use mathlib.Core.Path.{◌≡◌, sym, ap, ◌∙◌}
-use Prim.Native.Nat.{ℕ, ◌+◌, ◌-◌, ◌≤◌}
+use Prim.Native.Nat.{ℕ}
 use native.Mathlib.Omega.{arith}
 use lib.Dec.{eqb}
 use lib.Ieee.{Float}
-use borrow.Author.Tests.{eqb-true, eqb-false, not-true, not-false}
+use borrow.Author.Tests.{eqb-true, eqb-false}
 use Rattle.definitions.specs.Timing.{last_at_most}
 use Rattle.laws.specs.track.Steps.{Once}
 use Rattle.laws.specs.cell.Keys.{Keys}

@@ -1,15 +1,7 @@
 -- `cell::step::step_above` meets its contract. The invariant: the sample at q is read at a, which is the steps so far above k. The measure is hi - a. Assumes nothing.
-use mathlib.Core.Path.{◌≡◌, sym, ap, ◌∙◌}
-use Prim.Native.Nat.{ℕ, ◌+◌, ◌-◌, ◌≤◌}
-use native.Mathlib.Omega.{arith}
-use lib.Dec.{eqb}
-use lib.Ieee.{Float}
-use borrow.Author.Tests.{eqb-true, eqb-false, not-true, not-false}
-use Rattle.definitions.specs.Timing.{last_at_most}
-use Rattle.laws.specs.track.Steps.{Once}
-use Rattle.laws.specs.cell.Keys.{Keys}
+use mathlib.Core.Path.{◌≡◌}
+use Prim.Native.Nat.{◌+◌, ◌-◌, ◌≤◌}
 use Rattle.cell.specs.step.Lines.{place_on}
-use Rattle.cell.proofs.step.StepIn.{once-part, step_part, level-whole}
 use Rattle.cell.proofs.step.step_above.Given as goal
 
 abbrev pub invariant-loop-width : goal.invariant-loop-width

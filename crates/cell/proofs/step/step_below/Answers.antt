@@ -1,6 +1,6 @@
 -- `cell::step::step_below` meets its contract. The invariant: the sample at q is not read at b, which is the steps so far below hi. The measure is b. Assumes nothing.
 use mathlib.Core.Path.{◌≡◌, refl, sym, ap, ◌∙◌}
-use Prim.Native.Nat.{ℕ, ◌+◌, ◌-◌, ◌≤◌, ◌<◌}
+use Prim.Native.Nat.{ℕ, ◌-◌}
 use native.Mathlib.Omega.{arith}
 use borrow.Author.Tests.{eqb-true, eqb-false}
 use Rattle.laws.specs.track.Steps.{Once}

@@ -1,12 +1,7 @@
 -- `cell::step::step_below` meets its contract. The invariant: the sample at q is not read at b, which is the steps so far below hi. The measure is b. Assumes nothing.
-use mathlib.Core.Path.{◌≡◌, refl, sym, ap, ◌∙◌}
-use Prim.Native.Nat.{ℕ, ◌+◌, ◌-◌, ◌≤◌, ◌<◌}
-use native.Mathlib.Omega.{arith}
-use borrow.Author.Tests.{eqb-true, eqb-false}
-use Rattle.laws.specs.track.Steps.{Once}
-use Rattle.laws.specs.cell.Keys.{Keys}
+use mathlib.Core.Path.{◌≡◌}
+use Prim.Native.Nat.{◌+◌, ◌≤◌, ◌<◌}
 use Rattle.cell.specs.step.Lines.{place_on}
-use Rattle.cell.proofs.step.StepIn.{once-part, step_part}
 use Rattle.cell.proofs.step.step_below.Given as goal
 
 abbrev pub invariant-loop-width : goal.invariant-loop-width

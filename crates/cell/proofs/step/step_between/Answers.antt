@@ -1,6 +1,6 @@
 -- `cell::step::step_between` meets its contract. The invariant: the sample at q is read at a, and not at b. The measure is b - a. Assumes nothing.
 use mathlib.Core.Path.{◌≡◌, sym, ap, ◌∙◌}
-use Prim.Native.Nat.{ℕ, ◌-◌, ◌≤◌, ◌<◌}
+use Prim.Native.Nat.{ℕ}
 use native.Mathlib.Omega.{arith}
 use borrow.Author.Tests.{eqb-true, eqb-false}
 use Rattle.laws.specs.track.Steps.{Once}

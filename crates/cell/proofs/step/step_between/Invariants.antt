@@ -1,11 +1,6 @@
 -- `cell::step::step_between` meets its contract. The invariant: the sample at q is read at a, and not at b. The measure is b - a. Assumes nothing.
-use mathlib.Core.Path.{◌≡◌, sym, ap, ◌∙◌}
-use Prim.Native.Nat.{ℕ, ◌-◌, ◌≤◌, ◌<◌}
-use native.Mathlib.Omega.{arith}
-use borrow.Author.Tests.{eqb-true, eqb-false}
-use Rattle.laws.specs.track.Steps.{Once}
-use Rattle.laws.proofs.track.Steps.{bisected}
-use Rattle.laws.specs.cell.Keys.{Keys}
+use mathlib.Core.Path.{◌≡◌}
+use Prim.Native.Nat.{◌-◌, ◌≤◌, ◌<◌}
 use Rattle.cell.specs.step.Lines.{place_on}
 use Rattle.cell.proofs.step.step_between.Given as goal
 

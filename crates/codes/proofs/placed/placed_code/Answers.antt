@@ -1,6 +1,5 @@
 -- `codes::placed::placed_code` meets its contract: each arm is given which case the reply is. Assumes nothing.
 use mathlib.Core.Path.{sym, ap, ◌∙◌}
-use borrow.Author.Rules.{rules}
 use lib.Ieee.{of_bits}
 use Rattle.codes.specs.declared.ValueCode.{ValueCode}
 use Rattle.codes.specs.declared.placed.PlacedCode.{PlacedCode}

@@ -1,11 +1,8 @@
 use Prim.Native.Nat.{◌+◌, ◌-◌, ◌*◌, ◌≤◌}
 use mathlib.Core.Path.{◌≡◌, refl, sym, subst}
 use native.Mathlib.Omega.{arith}
-use borrow.Author.Rules.{rules}
 use lib.ListN.{length, take, drop}
-use Rattle.definitions.specs.declared.LayerOffset.{LayerOffset}
 use Rattle.resolver.specs.declared.Resolver.{Resolver}
-use Rattle.resolver.specs.declared.Accepted.{Accepted}
 use Rattle.resolver.specs.State.{Made, lent_state}
 use Rattle.resolver.specs.Promises as desk
 use Rattle.pages.specs.Pages.{page_state}

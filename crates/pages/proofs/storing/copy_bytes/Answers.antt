@@ -1,10 +1,8 @@
 -- `pages::storing::copy_bytes` meets its contract: the first i entries are copied. Assumes nothing.
-use Prim.Native.Nat.{◌-◌}
-use mathlib.Core.Path.{◌≡◌, refl, ◌∙◌}
+use mathlib.Core.Path.{refl, ◌∙◌}
 use native.Mathlib.Omega.{arith}
-use borrow.Author.Rules.{rules}
-use lib.ListN.{length, length-set}
-use Rattle.lists.proofs.Filled.{Filled, fill_start, fill-next, fill-whole}
+use lib.ListN.{length-set}
+use Rattle.lists.proofs.Filled.{fill_start, fill-next, fill-whole}
 use Rattle.pages.proofs.storing.copy_bytes.Goals as goal
 
 pub loop-i-init : goal.loop-i-init

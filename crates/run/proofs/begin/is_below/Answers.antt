@@ -1,6 +1,5 @@
 -- `run::begin::is_below` meets its contract. Assumes nothing.
 use mathlib.Core.Bool.{false≢true}
-use borrow.Author.Rules.{rules}
 use Rattle.run.proofs.begin.is_below.Goals as goal
 
 pub returns : goal.returns

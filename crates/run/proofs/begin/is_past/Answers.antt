@@ -5,7 +5,6 @@ use mathlib.Core.Bool.{false≢true}
 use lib.ListN.{get_or}
 use lib.Ieee.{nan, le}
 use Rattle.laws.proofs.list.Tests.{holds}
-use borrow.Author.Rules.{rules}
 use Rattle.run.proofs.begin.is_past.Goals as goal
 
 pub returns-then-i-eq0 : goal.returns-then-i-eq0

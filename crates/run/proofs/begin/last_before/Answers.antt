@@ -6,7 +6,6 @@ use Rattle.laws.proofs.list.Tests.{holds}
 use Rattle.window.specs.Bounds.{In}
 use Rattle.window.specs.Inverses.{on_segment}
 use Rattle.run.proofs.begin.LastInverse.{in-segment}
-use borrow.Author.Rules.{rules}
 use Rattle.run.proofs.begin.last_before.Goals as goal
 
 pub returns-then-h-ceil : goal.returns-then-h-ceil

@@ -5,7 +5,6 @@ use Rattle.laws.specs.cell.Knots as Knots
 use Rattle.cell.specs.step.Lines.{line_is, place_on}
 use Rattle.run.specs.Readings.{entry_at}
 use Rattle.run.proofs.Readings.{place-slots}
-use borrow.Author.Rules.{rules}
 use Rattle.run.proofs.inside.entry_along.Goals.{After-last_at_most_near-place}
 use Rattle.run.proofs.inside.entry_along.Goals as goal
 

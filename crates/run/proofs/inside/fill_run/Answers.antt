@@ -1,8 +1,7 @@
 -- `run::inside::fill_run` meets its contract. The invariant: the walk stands at the key at, and place is that of at among the samples. The measure is how many samples may still come. Assumes nothing.
 use mathlib.Core.Path.{◌≡◌, refl, sym, ◌∙◌, subst}
-use Prim.Native.Nat.{ℕ, ◌≤◌}
+use Prim.Native.Nat.{ℕ}
 use native.Mathlib.Omega.{arith}
-use borrow.Author.Rules.{rules}
 use lib.Ieee.{Float}
 use Rattle.definitions.specs.declared.Knot.{Knot}
 use Rattle.definitions.specs.Track.{Entry, Outputs}
@@ -11,7 +10,7 @@ use Rattle.window.specs.nearest.Crossings.{is_beyond, Crossing}
 use Rattle.cell.specs.step.Entries.{entry_is}
 use Rattle.run.specs.declared.inside.NextInRun.{NextInRun}
 use Rattle.run.specs.declared.inside.NextInRun.TheVariants.{Nothing}
-use Rattle.run.specs.Runs.{passing_at, Passing, InRun, left, InRunAt, NextInRunIs}
+use Rattle.run.specs.Runs.{passing_at, Passing, InRunAt, NextInRunIs}
 use Rattle.run.specs.Walks.{Room, Stands}
 use Rattle.run.proofs.Runs.{begins}
 use Rattle.run.proofs.Between.{stays, passed_reads, passed-reaches}

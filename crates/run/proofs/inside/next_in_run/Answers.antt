@@ -5,7 +5,6 @@ use mathlib.Core.Path.{◌≡◌}
 use Rattle.definitions.specs.declared.Knot.{Knot}
 use Rattle.laws.proofs.list.Tests.{holds}
 use Rattle.run.proofs.Runs.{end-up, over-end, span-up, step-up, end-down, under-end, span-down, step_down, end-flat}
-use borrow.Author.Rules.{rules}
 use Rattle.run.proofs.inside.next_in_run.Goals.{Start as At-start, Then-n-gt0}
 use Rattle.run.proofs.inside.next_in_run.Goals as goal
 

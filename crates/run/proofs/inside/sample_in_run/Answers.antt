@@ -7,7 +7,6 @@ use lib.Ieee.{Float, is_nan}
 use Rattle.gf.specs.Doubles.{key}
 use Rattle.run.specs.Runs.{inverse_key}
 use Rattle.run.proofs.Runs.{span-number}
-use borrow.Author.Rules.{rules}
 use Rattle.run.proofs.inside.sample_in_run.Goals.{After-key-m}
 use Rattle.run.proofs.inside.sample_in_run.Goals as goal
 

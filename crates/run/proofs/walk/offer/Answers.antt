@@ -6,7 +6,6 @@ use Rattle.definitions.specs.Track.{Outputs, alike}
 use Rattle.definitions.specs.Moments.{outputs}
 use Rattle.cell.specs.step.Entries.{entry_is}
 use Rattle.run.proofs.Walking.{offered-none, offered-full, offered-one}
-use borrow.Author.Rules.{rules}
 use Rattle.run.proofs.walk.offer.Goals.{Else-alike, Start as At-start}
 use Rattle.run.proofs.walk.offer.Goals as goal
 

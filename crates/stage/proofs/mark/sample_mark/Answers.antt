@@ -1,7 +1,6 @@
 -- `stage::mark::sample_mark` meets its contract. Assumes nothing.
 use mathlib.Core.Path.{sym, ap}
 use Rattle.definitions.specs.Track.{mark_of}
-use borrow.Author.Rules.{rules}
 use Rattle.stage.proofs.mark.sample_mark.Goals as goal
 
 pub returns-in-Value : goal.returns-in-Value

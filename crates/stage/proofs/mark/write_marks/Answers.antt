@@ -1,5 +1,5 @@
 -- `stage::mark::write_marks` meets its contract: the marks that were written and those of the times from i on are all. Assumes nothing.
-use Prim.Native.Nat.{ℕ, ◌+◌, ◌-◌, ◌≤◌, ◌<◌}
+use Prim.Native.Nat.{ℕ, ◌+◌, ◌<◌}
 use mathlib.Core.Path.{sym, ap, ◌∙◌}
 use mathlib.Core.List.{◌∷◌}
 use native.Mathlib.Omega.{arith}
@@ -10,7 +10,7 @@ use Rattle.definitions.specs.Samples.{Samples}
 use Rattle.laws.specs.cell.Lent.{samples_of}
 use Rattle.stage.specs.Marks.{unblocked, marks_at}
 use Rattle.stage.proofs.Marks.{marks-front, marks-end}
-use Rattle.stage.proofs.Writing.{Wrote, wrote-start, wrote_on, wrote-end, wrote-rest}
+use Rattle.stage.proofs.Writing.{wrote-start, wrote_on, wrote-end, wrote-rest}
 use Rattle.stage.proofs.mark.write_marks.Goals.{In-loop-i, Start as At-start}
 use Rattle.stage.proofs.mark.write_marks.Goals as goal
 

@@ -1,16 +1,9 @@
 -- `stage::mark::write_marks` meets its contract: the marks that were written and those of the times from i on are all. Assumes nothing.
-use Prim.Native.Nat.{ℕ, ◌+◌, ◌-◌, ◌≤◌, ◌<◌}
-use mathlib.Core.Path.{sym, ap, ◌∙◌}
-use mathlib.Core.List.{◌∷◌}
-use native.Mathlib.Omega.{arith}
+use Prim.Native.Nat.{◌-◌, ◌≤◌}
 use lib.ListN.{length, drop}
-use lib.Ieee.{nan}
-use Rattle.definitions.specs.ClipSet.{ClipSet}
-use Rattle.definitions.specs.Samples.{Samples}
 use Rattle.laws.specs.cell.Lent.{samples_of}
 use Rattle.stage.specs.Marks.{unblocked, marks_at}
-use Rattle.stage.proofs.Marks.{marks-front, marks-end}
-use Rattle.stage.proofs.Writing.{Wrote, wrote-start, wrote_on, wrote-end, wrote-rest}
+use Rattle.stage.proofs.Writing.{Wrote}
 use Rattle.stage.proofs.mark.write_marks.Given as goal
 
 abbrev pub invariant-loop-i : goal.invariant-loop-i

@@ -1,5 +1,5 @@
 -- `stage::walk::count_within` meets its contract: the times that were counted and those above the last one are all, and each has a key of its own. Assumes nothing.
-use Prim.Native.Nat.{ℕ, ◌+◌, ◌-◌, ◌≤◌}
+use Prim.Native.Nat.{ℕ, ◌+◌, ◌≤◌}
 use mathlib.Core.Path.{◌≡◌, ap}
 use mathlib.Core.List.{List}
 use native.Mathlib.Omega.{arith}
@@ -7,13 +7,11 @@ use lib.ListN.{length}
 use lib.Ieee.{Float, of_bits, neg}
 use Rattle.gf.specs.Doubles.{key}
 use Rattle.gf.proofs.KeyLaws.{finite→key}
-use Rattle.definitions.specs.Doubles.{FiniteDouble}
 use Rattle.window.specs.declared.Bound.{Bound}
 use Rattle.stage.specs.Times.{times_of, times_after, NextTime}
 use Rattle.stage.proofs.Times.{before_all, before-finite, times-all}
 use Rattle.stage.proofs.Ordered.{after-rises}
 use Rattle.stage.proofs.Writing.{count-done, count-over, count-on}
-use borrow.Author.Rules.{rules}
 use Rattle.stage.proofs.walk.count_within.Goals.{After-next_time-next, Start as At-start}
 use Rattle.stage.proofs.walk.count_within.Goals as goal
 

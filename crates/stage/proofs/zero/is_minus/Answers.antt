@@ -3,7 +3,6 @@ use mathlib.Core.Path.{◌≡◌, sym, ◌∙◌}
 use mathlib.Core.Bool.{false}
 use Rattle.stage.specs.Zeros.{any_minus_zero}
 use Rattle.stage.proofs.Zeros.{minus-sampled, minus-nowhere}
-use borrow.Author.Rules.{rules}
 use Rattle.stage.proofs.zero.is_minus.Goals.{Else-has_minus_zero-2}
 use Rattle.stage.proofs.zero.is_minus.Goals as goal
 

@@ -2,7 +2,6 @@
 use mathlib.Core.Path.{sym, ◌∙◌}
 use lib.Ieee.{of_bits, neg}
 use Rattle.stage.proofs.First.{zero-taken, other-kept}
-use borrow.Author.Rules.{rules}
 use Rattle.stage.proofs.zero.with_zero.Goals as goal
 
 pub returns-then-is_minus : goal.returns-then-is_minus

@@ -1,6 +1,5 @@
 -- `standing::questions::counted` meets its contract: each arm is given which case it is. Assumes nothing.
 use mathlib.Core.Path.{sym, ap}
-use borrow.Author.Rules.{rules}
 use Rattle.standing.specs.Lists.{count_of}
 use Rattle.standing.proofs.questions.counted.Goals as goal
 

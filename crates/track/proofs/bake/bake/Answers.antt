@@ -2,7 +2,6 @@
 use Rattle.window.proofs.Parts.{ready-readable}
 use Rattle.cell.proofs.Lent.{few-knots}
 use Rattle.track.proofs.Walks.{no-latest}
-use borrow.Author.Rules.{rules}
 use Rattle.track.proofs.bake.bake.Goals as goal
 
 pub bake_from_least-requires : goal.bake_from_least-requires

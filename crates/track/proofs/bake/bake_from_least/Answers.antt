@@ -1,6 +1,5 @@
 -- `bake::bake_from_least` meets its contract: the walk begins at the lowest key, with a page of its own. Assumes nothing.
 use Rattle.track.proofs.Walks.{slots-some}
-use borrow.Author.Rules.{rules}
 use Rattle.track.proofs.bake.bake_from_least.Goals as goal
 
 pub bake_by_pages-requires : goal.bake_by_pages-requires

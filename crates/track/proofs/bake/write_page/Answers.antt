@@ -1,7 +1,6 @@
 -- `bake::write_page` meets its contract: each list is copied to the front of an output. Assumes nothing.
 use mathlib.Core.Path.{sym, ◌∙◌}
 use lib.Seq.{length-take-le}
-use borrow.Author.Rules.{rules}
 use Rattle.definitions.specs.Moments.{outputs}
 use Rattle.track.proofs.Baking.{copied_is}
 use Rattle.track.proofs.bake.write_page.Goals as goal

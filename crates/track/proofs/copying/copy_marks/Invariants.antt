@@ -1,10 +1,8 @@
 -- `track::copying::copy_marks` meets its contract: the first i entries are copied. Assumes nothing.
 use Prim.Native.Nat.{◌-◌}
-use mathlib.Core.Path.{◌≡◌, refl, ◌∙◌}
-use native.Mathlib.Omega.{arith}
-use borrow.Author.Rules.{rules}
-use lib.ListN.{length, length-set}
-use Rattle.lists.proofs.Filled.{Filled, fill_start, fill-next, fill-whole}
+use mathlib.Core.Path.{◌≡◌}
+use lib.ListN.{length}
+use Rattle.lists.proofs.Filled.{Filled}
 use Rattle.track.proofs.copying.copy_marks.Given as goal
 
 abbrev pub invariant-loop-i : goal.invariant-loop-i

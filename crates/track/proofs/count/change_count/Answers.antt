@@ -2,7 +2,6 @@
 use Rattle.window.proofs.Parts.{ready-readable}
 use Rattle.cell.proofs.Lent.{few-knots}
 use Rattle.track.proofs.Walks.{no-latest}
-use borrow.Author.Rules.{rules}
 use Rattle.track.proofs.count.change_count.Goals as goal
 
 pub count_from_least-requires : goal.count_from_least-requires

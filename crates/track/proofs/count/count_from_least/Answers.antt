@@ -3,7 +3,6 @@ use lib.ListN.{length}
 use Rattle.laws.specs.cell.Lent.{set_of, samples_of}
 use Rattle.track.proofs.Walks.{slots-some}
 use Rattle.track.proofs.Counts.{count-all}
-use borrow.Author.Rules.{rules}
 use Rattle.track.proofs.count.count_from_least.Goals as goal
 
 pub count_within-requires : goal.count_within-requires

@@ -1,21 +1,12 @@
 -- `count::count_within` meets its contract. The invariant: `count` is the number of changes up to the cursor. The measure is what is left up to top. Assumes nothing.
-use mathlib.Core.Path.{◌≡◌, refl, sym, ap, ◌∙◌}
-use Prim.Native.Nat.{ℕ, ◌+◌, ◌-◌, ◌≤◌, min}
-use native.Mathlib.Nat.{le_of_eq}
-use native.Mathlib.Omega.{arith}
+use mathlib.Core.Path.{◌≡◌}
+use Prim.Native.Nat.{◌-◌, ◌≤◌}
 use lib.ListN.{length}
-use Rattle.definitions.specs.ClipSet.{ClipSet}
-use Rattle.definitions.specs.Samples.{Samples}
 use Rattle.definitions.specs.Moments.{outputs}
-use Rattle.laws.proofs.track.Laws.{changes-none}
-use Rattle.laws.specs.cell.Keys.{entry_at_key}
-use Rattle.laws.specs.cell.Tracks.{entry-same}
 use Rattle.laws.specs.cell.Lent.{set_of, samples_of}
 use Rattle.track.specs.span.Changes.{changes_of}
-use Rattle.track.specs.Fills.{CursorIs, PageIs}
+use Rattle.track.specs.Fills.{CursorIs}
 use Rattle.run.proofs.Filling.{Long}
-use Rattle.track.proofs.Walks.{split-length, paged, slots-long}
-use Rattle.track.proofs.Counts.{changes-few, count-beyond}
 use Rattle.track.proofs.count.count_within.Given as goal
 
 abbrev pub invariant-loop-m : goal.invariant-loop-m

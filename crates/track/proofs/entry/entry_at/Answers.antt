@@ -9,7 +9,6 @@ use Rattle.definitions.specs.ClipSet.{stage}
 use Rattle.definitions.specs.Track.{written_entry}
 use Rattle.definitions.specs.Value.{value_in_set}
 use Rattle.laws.specs.cell.Lent.{set_of, samples_of}
-use borrow.Author.Rules.{rules}
 use Rattle.track.proofs.entry.entry_at.Goals as goal
 
 pub value_in_set-requires : goal.value_in_set-requires

@@ -1,6 +1,6 @@
 -- `fill::fill` meets its contract. The invariant: the walk stands at the key at, and the place is one of the set's. The measure is what is left up to top. Assumes nothing.
 use mathlib.Core.Path.{◌≡◌, sym, ◌∙◌, subst}
-use Prim.Native.Nat.{ℕ, ◌+◌, ◌-◌, ◌≤◌, ◌<◌}
+use Prim.Native.Nat.{ℕ, ◌+◌, ◌≤◌, ◌<◌}
 use native.Mathlib.Omega.{arith}
 use lib.ListN.{length}
 use borrow.Author.Tests.{not-true, not-false}
@@ -14,7 +14,6 @@ use Rattle.cell.specs.step.Entries.{entry_is}
 use Rattle.run.specs.Walks.{Room, Stands, Walked}
 use Rattle.run.proofs.Filling.{Long}
 use Rattle.run.proofs.Walking.{Reaches, stands-first, stands-long, stands-room, stands-next, stands-full, full, walked_all, walked-full, walked-agree, walked-wider, walked-join}
-use Rattle.cell.specs.WindowPlaces.{PlaceIs}
 use Rattle.cell.proofs.Lent.{sound, samples, numbers}
 use Rattle.track.proofs.Walks.{next-key, slots-room, slots-is, filled}
 use Rattle.track.proofs.fill.fill.Goals.{After-fill_in-went, After-offer-slot, After-reached-1, At-loop-at, Else-at-top, Else-room-slot, Start as At-start, Then-at-top, Then-room-slot}

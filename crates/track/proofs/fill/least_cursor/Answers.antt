@@ -2,7 +2,6 @@
 use mathlib.Core.Path.{refl}
 use lib.Dec.{lit≤}
 use Rattle.cell.proofs.Lent.{no-place-is}
-use borrow.Author.Rules.{rules}
 use Rattle.track.proofs.fill.least_cursor.Goals as goal
 
 pub returns : goal.returns

@@ -9,7 +9,6 @@ use Rattle.definitions.specs.Track.{written_entry}
 use Rattle.value.specs.Answers.{answer_in, Answerable}
 use Rattle.cell.specs.CellAndEnd.{CellAsks, CellIn}
 use Rattle.track.specs.span.Steps.{ReadsAt}
-use borrow.Author.Rules.{rules}
 use Rattle.track.proofs.span.cell_step.Goals.{After-cell_at-piece}
 use Rattle.track.proofs.span.cell_step.Goals as goal
 

@@ -10,7 +10,6 @@ use Rattle.cell.specs.declared.Cell.{Cell}
 use Rattle.track.specs.declared.span.ReadBy.TheVariants.{ByCell}
 use Rattle.track.specs.span.Runs.{read_on}
 use Rattle.track.specs.span.Steps.{ReadsAt}
-use borrow.Author.Rules.{rules}
 use Rattle.track.proofs.span.knotless_step.Goals.{After-knotless_cell-cell}
 use Rattle.track.proofs.span.knotless_step.Goals as goal
 

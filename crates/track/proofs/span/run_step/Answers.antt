@@ -17,7 +17,6 @@ use Rattle.run.specs.Readings.{Reads, entry_at, reading_at}
 use Rattle.track.specs.declared.span.ReadBy.TheVariants.{ByRun}
 use Rattle.track.proofs.span.Cuts.{cut, uncut, recut}
 use Rattle.track.proofs.span.RunsFrom.{place_short}
-use borrow.Author.Rules.{rules}
 use Rattle.track.proofs.span.run_step.Goals.{After-clip_end-b}
 use Rattle.track.proofs.span.run_step.Goals as goal
 

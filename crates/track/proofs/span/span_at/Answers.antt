@@ -18,7 +18,6 @@ use Rattle.run.specs.begin.Begins.{RunBeginIs}
 use Rattle.run.specs.declared.begin.RunBegin.TheVariants.{At}
 use Rattle.track.proofs.span.RunsFrom.{window-least}
 use Rattle.track.proofs.span.Steps.{knotless-asks, knotless-steps, run-asks, run-steps, cell-step-asks, found-step}
-use borrow.Author.Rules.{rules}
 use Rattle.track.proofs.span.span_at.Goals.{After-place_at-at, In-At, Start as At-start, Then-is_knotless}
 use Rattle.track.proofs.span.span_at.Goals as goal
 

@@ -1,6 +1,5 @@
 -- `cases::changes::named::expand_read` meets its contract: the lists that it lends are the first entries. Assumes nothing.
 use Rattle.cases.proofs.Dispatched.{expands-read}
-use Rattle.std.proofs.Common.{rules}
 use Rattle.cases.proofs.changes.named.expand_read.Goals as goal
 
 pub returns : goal.returns

@@ -1,7 +1,6 @@
 -- `cases::changes::named::explicit` hands on what the operation promises of the fields that were read. Assumes nothing.
 use Rattle.cases.specs.Named.{explicit}
 use Rattle.cases.proofs.Dispatched.{called}
-use Rattle.std.proofs.Common.{rules}
 use Rattle.cases.proofs.changes.named.explicit.Goals as goal
 
 pub accept_read-number-requires : goal.accept_read-number-requires

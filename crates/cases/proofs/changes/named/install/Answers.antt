@@ -1,7 +1,6 @@
 -- `cases::changes::named::install` hands on what the operation promises of a slot's set. Assumes nothing.
 use Rattle.cases.specs.Named.{install}
 use Rattle.cases.proofs.Dispatched.{called}
-use Rattle.std.proofs.Common.{rules}
 use Rattle.cases.proofs.changes.named.install.Goals as goal
 
 pub install-number-requires : goal.install-number-requires

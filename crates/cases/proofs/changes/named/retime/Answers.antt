@@ -1,7 +1,6 @@
 -- `cases::changes::named::retime` hands on what the operation promises of the fields that were read. Assumes nothing.
 use Rattle.cases.specs.Named.{retime}
 use Rattle.cases.proofs.Dispatched.{called}
-use Rattle.std.proofs.Common.{rules}
 use Rattle.cases.proofs.changes.named.retime.Goals as goal
 
 pub returns : goal.returns

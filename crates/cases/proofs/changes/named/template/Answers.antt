@@ -1,7 +1,6 @@
 -- `cases::changes::named::template` hands on what the operation promises of the fields that were read. Assumes nothing.
 use Rattle.cases.specs.Named.{template}
 use Rattle.cases.proofs.Dispatched.{called}
-use Rattle.std.proofs.Common.{rules}
 use Rattle.cases.proofs.changes.named.template.Goals as goal
 
 pub returns : goal.returns

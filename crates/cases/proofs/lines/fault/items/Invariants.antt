@@ -1,5 +1,4 @@
 -- `cases::lines::fault::items` is safe and ends: fewer words are left after each. Assumes nothing.
-use Rattle.std.proofs.Common.{rules}
 use Rattle.cases.proofs.lines.fault.items.Given as goal
 
 abbrev pub invariant-loop-left : goal.invariant-loop-left

@@ -1,5 +1,5 @@
 -- `cases::lines::input::to_front` is safe and ends: a byte never moves away from the front. Assumes nothing.
-use Rattle.std.proofs.Common.{◌≡◌, ◌-◌, ◌≤◌, length, rules}
+use Rattle.std.proofs.Common.{◌≡◌, ◌-◌, ◌≤◌, length}
 use Rattle.cases.proofs.lines.input.to_front.Given as goal
 
 abbrev pub invariant-loop-j : goal.invariant-loop-j

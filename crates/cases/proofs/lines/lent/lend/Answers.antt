@@ -1,5 +1,5 @@
 -- `cases::lines::lent::lend` changes nothing where the line is not readable. Assumes nothing.
-use Rattle.std.proofs.Common.{sym, true≢false, rules}
+use Rattle.std.proofs.Common.{true≢false}
 use Rattle.cases.proofs.lines.lent.lend.Goals as goal
 
 pub returns : goal.returns

@@ -1,5 +1,5 @@
 -- `cases::lines::order::lend` changes nothing where the line is not readable. Assumes nothing.
-use Rattle.std.proofs.Common.{true≢false, rules}
+use Rattle.std.proofs.Common.{true≢false}
 use Rattle.cases.proofs.lines.order.lend.Goals as goal
 
 pub returns : goal.returns

@@ -1,5 +1,5 @@
 -- `cases::lines::told::printables` is safe and ends: each turn fills a place of the lent list. Assumes nothing.
-use Rattle.std.proofs.Common.{◌≡◌, ◌-◌, length, rules}
+use Rattle.std.proofs.Common.{◌≡◌, ◌-◌, length}
 use Rattle.cases.proofs.lines.told.printables.Given as goal
 
 abbrev pub invariant-loop-i : goal.invariant-loop-i

@@ -1,5 +1,4 @@
 -- `cases::questions::sampled::track_hash` is safe: the resolver is one that an operation made, and the samples are accepted for its set. Assumes nothing.
-use Rattle.std.proofs.Common.{rules}
 use Rattle.resolver.proofs.Laws.{is-asked}
 use Rattle.cases.proofs.questions.sampled.track_hash.Goals as goal
 

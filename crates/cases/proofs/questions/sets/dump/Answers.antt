@@ -1,5 +1,5 @@
 -- `cases::questions::sets::dump` is safe: the set that is found is one of those that stand. Assumes nothing.
-use Rattle.std.proofs.Common.{◌<◌, sym, ap, ◌∙◌, arith, rules}
+use Rattle.std.proofs.Common.{sym, ap, ◌∙◌, arith}
 use Rattle.set_names.specs.Pages.{number_of}
 use Rattle.cases.proofs.Dispatched.{found_below}
 use Rattle.cases.proofs.questions.sets.dump.Goals as goal

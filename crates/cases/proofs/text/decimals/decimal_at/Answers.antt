@@ -1,5 +1,5 @@
 -- `cases::text::decimals::decimal_at` meets its contract. Assumes nothing.
-use Rattle.std.proofs.Common.{◌<◌, length, sym, ◌∙◌, arith, rules}
+use Rattle.std.proofs.Common.{◌<◌, length, sym, ◌∙◌, rules}
 use Rattle.cases.proofs.Decimals.{stands-within, decimal-whole, decimal-none-behind, decimal-behind}
 use Rattle.cases.proofs.text.decimals.decimal_at.Goals as goal
 

@@ -1,5 +1,5 @@
 -- `cases::text::decimals::quotient` meets its contract: only the division rounds. Assumes nothing.
-use Rattle.std.proofs.Common.{◌≡◌, ◌^◌, pos, ◌∙◌, rules}
+use Rattle.std.proofs.Common.{◌≡◌, ◌^◌, pos, ◌∙◌}
 use lib.Ieee.{binary64, of_int, div}
 use Rattle.cases.proofs.Rounded.{quotient-rounds}
 use Rattle.cases.proofs.text.decimals.quotient.Goals as goal

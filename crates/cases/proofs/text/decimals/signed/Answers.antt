@@ -1,5 +1,5 @@
 -- `cases::text::decimals::signed` meets its contract. Assumes nothing.
-use Rattle.std.proofs.Common.{sym, ap, rules}
+use Rattle.std.proofs.Common.{sym, ap}
 use Rattle.cases.specs.Decimals.{signed_of}
 use Rattle.cases.proofs.text.decimals.signed.Goals as goal
 

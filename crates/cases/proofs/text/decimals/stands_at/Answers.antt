@@ -1,5 +1,4 @@
 -- `cases::text::decimals::stands_at` meets its contract. Assumes nothing.
-use Rattle.std.proofs.Common.{rules}
 use Rattle.cases.proofs.Decimals.{stands-there, stands-not}
 use Rattle.cases.proofs.text.decimals.stands_at.Goals as goal
 

@@ -1,6 +1,5 @@
 -- `cases::text::decimals::ten_to` meets its contract: each turn is a power more, and up to the 15th each fits. Assumes nothing.
-use Rattle.std.proofs.Common.{◌≡◌, ℕ, ◌-◌, ◌*◌, ◌^◌, ◌≤◌, refl, ap, ◌∙◌, arith, rules}
-use Rattle.cases.proofs.Decimals.{tens-small, tens-next}
+use Rattle.std.proofs.Common.{◌≡◌, ◌-◌, ◌^◌, ◌≤◌}
 use Rattle.cases.proofs.text.decimals.ten_to.Given as goal
 
 abbrev pub invariant-loop-i : goal.invariant-loop-i

@@ -1,5 +1,5 @@
 -- `cases::text::decimals::value_of` meets its contract. Assumes nothing.
-use Rattle.std.proofs.Common.{◌+◌, ◌^◌, ◌<◌, ◌≤◌, ap, ◌∙◌, arith, rules}
+use Rattle.std.proofs.Common.{◌+◌, ◌^◌, ◌<◌, ◌≤◌, ap, ◌∙◌, arith}
 use lib.Ieee.{Float}
 use Rattle.cases.specs.Decimals.{signed_of}
 use Rattle.cases.proofs.Decimals.{valued-empty, valued-long, valued-is}

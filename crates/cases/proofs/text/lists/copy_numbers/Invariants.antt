@@ -1,5 +1,5 @@
 -- `cases::text::lists::copy_numbers` is safe and ends: each turn fills a place of the list. Assumes nothing.
-use Rattle.std.proofs.Common.{◌≡◌, ◌-◌, length, rules}
+use Rattle.std.proofs.Common.{◌≡◌, ◌-◌, length}
 use Rattle.cases.proofs.text.lists.copy_numbers.Given as goal
 
 abbrev pub invariant-loop-i : goal.invariant-loop-i

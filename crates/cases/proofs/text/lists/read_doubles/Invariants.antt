@@ -1,5 +1,5 @@
 -- `cases::text::lists::read_doubles` is safe and ends: what is left of the count falls, and the count is within the lent list. Assumes nothing.
-use Rattle.std.proofs.Common.{◌≡◌, ◌-◌, ◌≤◌, length, rules}
+use Rattle.std.proofs.Common.{◌≡◌, ◌-◌, ◌≤◌, length}
 use Rattle.cases.proofs.text.lists.read_doubles.Given as goal
 
 abbrev pub invariant-loop-i : goal.invariant-loop-i

@@ -1,5 +1,5 @@
 -- `cases::text::numbers::bits_of` meets its contract: what differs from itself is the NaN. Assumes nothing.
-use Rattle.std.proofs.Common.{T, sym, ap, subst, rules}
+use Rattle.std.proofs.Common.{T, sym, ap, subst}
 use lib.Ieee.{binary64, to_bits}
 use lib.Ieee.Compare.{differs_from_itself}
 use Rattle.gf.proofs.Tests.{not-nan}

@@ -1,7 +1,6 @@
 -- `cases::text::numbers::digits_from` meets its contract: each turn reads one digit more. Assumes nothing.
-use Rattle.std.proofs.Common.{◌≡◌, ◌+◌, ◌-◌, ◌*◌, ◌<◌, ◌≤◌, length, drop, sym, refl, ap, ◌∙◌, arith, rules, ltb-false, ltb-true}
+use Rattle.std.proofs.Common.{◌+◌, ◌*◌, ◌<◌, ◌≤◌, refl, ◌∙◌, arith, rules, ltb-false, ltb-true}
 use Rattle.cases.proofs.Digits.{decimal-stops, decimal-outgrows, decimal-goes, decimal-ends}
-use Rattle.cases.specs.Numbers.{decimals}
 use Rattle.cases.proofs.text.numbers.digits_from.Goals as goal
 
 pub loop-i-init : goal.loop-i-init

@@ -1,5 +1,5 @@
 -- `cases::text::numbers::double_of` meets its contract: beyond the pattern of the infinity every pattern is the NaN's. Assumes nothing.
-use Rattle.std.proofs.Common.{◌≡◌, Bool, true, not, T, sym, refl, ◌∙◌, subst, true≢false, rules, le-ltb, lt-ltb}
+use Rattle.std.proofs.Common.{◌≡◌, Bool, true, not, T, sym, refl, ◌∙◌, subst, true≢false, le-ltb, lt-ltb}
 use lib.Ieee.{Float, nan, inf, fin, binary64, div, is_nan, of_bits}
 use lib.Ieee.Bits.{nan_bits_is, nan_bits_above}
 use Rattle.cases.proofs.text.numbers.double_of.Goals as goal

@@ -1,6 +1,5 @@
 -- `cases::text::numbers::hex_digits` meets its contract: each turn reads one digit more. Assumes nothing.
-use Rattle.std.proofs.Common.{◌≡◌, ℕ, suc, ◌+◌, ◌*◌, ◌<◌, ◌≤◌, drop, sym, refl, ap, ◌∙◌, arith, rules}
-use Rattle.cases.proofs.Digits.{hex-ends, hex-done, hex-stops, hex-outgrows, hex-goes}
+use Rattle.std.proofs.Common.{◌≡◌, drop}
 use Rattle.cases.specs.Numbers.{hexes, hexes_at}
 use Rattle.cases.proofs.text.numbers.hex_digits.Given as goal
 

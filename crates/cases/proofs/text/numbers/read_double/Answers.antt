@@ -1,5 +1,4 @@
 -- `cases::text::numbers::read_double` meets its contract. Assumes nothing.
-use Rattle.std.proofs.Common.{rules}
 use Rattle.cases.proofs.Decimals.{double-written, double-bits}
 use Rattle.cases.proofs.text.numbers.read_double.Goals as goal
 

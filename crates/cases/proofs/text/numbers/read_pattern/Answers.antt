@@ -1,5 +1,4 @@
 -- `cases::text::numbers::read_pattern` meets its contract. Assumes nothing.
-use Rattle.std.proofs.Common.{rules}
 use Rattle.cases.proofs.Decimals.{pattern-written, pattern-bits}
 use Rattle.cases.proofs.text.numbers.read_pattern.Goals as goal
 

@@ -1,6 +1,5 @@
 -- `cases::text::words::after` meets its contract: each turn passes a byte of the word that stands there. Assumes nothing.
-use Rattle.std.proofs.Common.{◌≡◌, ◌+◌, ◌-◌, ◌≤◌, length, drop, sym, refl, ap, ◌∙◌, arith, rules}
-use Rattle.cases.proofs.Words.{begins-not, begins-unlike, begins-like, begins-all, behind-not, behind-is}
+use Rattle.std.proofs.Common.{◌≡◌, ◌+◌, ◌-◌, ◌≤◌, length, drop}
 use Rattle.cases.specs.Text.{begins}
 use Rattle.cases.proofs.text.words.after.Given as goal
 

@@ -1,5 +1,5 @@
 -- `cases::text::words::is_blank` meets its contract. Assumes nothing.
-use Rattle.std.proofs.Common.{Bool, true, cond, eqb, sym, ap, ◌∙◌, rules, ne_eqb}
+use Rattle.std.proofs.Common.{Bool, true, cond, eqb, sym, ap, ◌∙◌, ne_eqb}
 use Rattle.cases.specs.Text.{is_blank}
 use Rattle.cases.proofs.text.words.is_blank.Goals as goal
 

@@ -1,7 +1,6 @@
 -- `cases::text::words::scan` meets its contract: what is passed is none that it stops at. Assumes nothing.
-use Rattle.std.proofs.Common.{◌≡◌, ◌-◌, length, sym, refl, ◌∙◌, rules}
+use Rattle.std.proofs.Common.{sym, refl, ◌∙◌, rules}
 use Rattle.cases.proofs.Words.{scan-stops, scan-goes, scan-ends}
-use Rattle.cases.specs.Text.{scanned}
 use Rattle.cases.proofs.text.words.scan.Goals as goal
 
 pub loop-i-init : goal.loop-i-init

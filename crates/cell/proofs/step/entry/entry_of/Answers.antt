@@ -2,7 +2,6 @@
 use mathlib.Core.Path.{sym, ap, ◌∙◌}
 use lib.Ieee.{Float, of_bits, eq}
 use Rattle.definitions.specs.Track.{written_entry}
-use borrow.Author.Rules.{rules}
 use Rattle.cell.proofs.step.entry.entry_of.Goals as goal
 
 pub returns-in-Value : goal.returns-in-Value

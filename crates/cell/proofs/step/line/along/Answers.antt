@@ -1,6 +1,5 @@
 -- `line::along` meets its contract, by the line's form. Assumes nothing.
 use mathlib.Core.Path.{sym, ◌∙◌}
-use borrow.Author.Rules.{rules}
 use Rattle.cell.proofs.step.Lines.{along-plain, along-flat, along-segment}
 use Rattle.cell.proofs.step.line.along.Goals as goal
 
