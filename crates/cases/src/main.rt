@@ -395,11 +395,17 @@ fn install(line: &[u8], at: usize, session: Session, slots: Slots, out: &mut Rep
     Held { session, slots }
 }
 
+fn zeros<const N: usize>() -> [u8; N]
+    ensures { N ≡ length result }
+{
+    [0; N]
+}
+
 // Room for a line of half a million bytes.
 fn input_buffer() -> [u8; LINE]
     ensures { 524288 ≡ length result }
 {
-    [0; LINE]
+    zeros()
 }
 
 fn main(rt: HostRuntime) {
