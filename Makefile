@@ -41,7 +41,7 @@ ifdef TAVITROZY_ARCHIVE
 archive = $(TAVITROZY_ARCHIVE)
 else
 archive = target/staticlib/libtavitrozy.a
-proved = $(shell find crates -path crates/cases -prune -o \( -path '*/src/*' -o -path '*/specs/*' -o -path '*/proofs/*' \) -type f -print)
+proved = $(shell find crates \( -path crates/cases -o -name out \) -prune -o \( -path '*/src/*' -o -path '*/specs/*' -o -path '*/proofs/*' \) -type f -print)
 
 $(archive): crates.txt $(proved)
 	@packaging/prove && touch $@

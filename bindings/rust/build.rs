@@ -33,7 +33,7 @@ fn folder() -> PathBuf {
     built.into_iter().chain(installed()).find(|folder| has_library(folder)).unwrap_or_else(|| {
         panic!(
             "{FILE} is neither in the repository's target/staticlib nor where pkg-config says. Run `make` or \
-             `rt staticlib tavitrozy` at the repository's root, or set TAVITROZY_LIB_DIR to the folder that holds {FILE}."
+             `packaging/staticlib tavitrozy` at the repository's root, or set TAVITROZY_LIB_DIR to the folder that holds {FILE}."
         )
     })
 }
