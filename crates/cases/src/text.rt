@@ -1,11 +1,11 @@
 // The case text: the words, numbers and lists of a line, and the replies. Nothing here asks anything of its caller.
 mod decimals;
-mod lists;
+mod listings;
 mod numbers;
 mod output;
 mod words;
 
-pub(crate) use lists::{
+pub(crate) use listings::{
     Listed, bytes_from, copy_bytes, copy_doubles, copy_numbers, doubles_after, doubles_from,
     first_bytes, first_doubles, first_numbers, marks_after, numbers_after, numbers_from, part,
     patterns_after, read_bytes,

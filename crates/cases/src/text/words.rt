@@ -5,7 +5,7 @@ ghost use Rattle.std.specs.Prelude.{◌≡◌, length, take, ◌==◌};
 ghost use Rattle.cases.specs.declared.text.words.Stop.TheVariants.{Word, Blank, Comment};
 ghost use Rattle.cases.specs.Text.{is_blank, stops_at, scanned, word_at, closed_at, behind};
 
-use crate::text::lists::{first_bytes, part};
+use crate::text::listings::{first_bytes, part};
 
 pub(crate) const NOWHERE: usize = 0xffff_ffff_ffff_ffff;
 

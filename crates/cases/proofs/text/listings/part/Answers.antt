@@ -1,7 +1,7 @@
--- `cases::text::lists::part` meets its contract. Assumes nothing.
+-- `cases::text::listings::part` meets its contract. Assumes nothing.
 use Rattle.std.proofs.Common.{rules}
 use Rattle.cases.proofs.Words.{part_none, part-beyond, part-some}
-use Rattle.cases.proofs.text.lists.part.Goals as goal
+use Rattle.cases.proofs.text.listings.part.Goals as goal
 
 pub slice_bounds-result-count : goal.slice_bounds-result-count
 slice_bounds-result-count c = search rules

@@ -1,7 +1,7 @@
--- `cases::text::lists::first_bytes` meets its contract. Assumes nothing.
+-- `cases::text::listings::first_doubles` meets its contract. Assumes nothing.
 use Rattle.std.proofs.Common.{rules}
 use Rattle.cases.proofs.Words.{first_some, first-all}
-use Rattle.cases.proofs.text.lists.first_bytes.Goals as goal
+use Rattle.cases.proofs.text.listings.first_doubles.Goals as goal
 
 pub slice_bounds-result-count : goal.slice_bounds-result-count
 slice_bounds-result-count c = search rules

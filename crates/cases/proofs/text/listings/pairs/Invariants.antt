@@ -1,6 +1,6 @@
--- `cases::text::lists::pairs` is safe and ends: each turn fills a place of the lent list. Assumes nothing.
+-- `cases::text::listings::pairs` is safe and ends: each turn fills a place of the lent list. Assumes nothing.
 use Rattle.std.proofs.Common.{◌≡◌, ◌-◌, length}
-use Rattle.cases.proofs.text.lists.pairs.Given as goal
+use Rattle.cases.proofs.text.listings.pairs.Given as goal
 
 abbrev pub invariant-loop-i : goal.invariant-loop-i
 invariant-loop-i l = length l.out ≡ length l.initial.out
