@@ -3,18 +3,21 @@
 #![tactic(auto)]
 
 ghost use Rattle.definitions.specs.Moments.{outputs};
+ghost use Rattle.definitions.specs.Refusals.{number_in};
 ghost use Rattle.laws.specs.cell.Lent.{samples_of};
 ghost use Rattle.clip.specs.Holding.{manifest};
 ghost use Rattle.clip.specs.Preparing.{MadeSet};
 ghost use Rattle.explicit.specs.Parsing.{explicit_fields};
 ghost use Rattle.template.specs.Expanding.{template_fields};
-ghost use Rattle.resolver.specs.State.{Made};
-ghost use Rattle.resolver.specs.Promises.{Begins, Accepts, Expands, Retimes, BakesTrack, TellsTimes, TellsSamples, TellsSampleCount, TellsChangeCount, TellsClip, TellsTime, TellsValue, TellsUntimed, Installs, Settles};
+ghost use Rattle.resolver.specs.State.{Made, left};
+ghost use Rattle.resolver.specs.Promises.{Begins, Accepts, Expands, Retimes, BakesTrack, TellsTimes, TellsSamples, TellsSampleCount, TellsChangeCount, TellsClip, TellsTime, TellsValue, TellsUntimed, Installs};
 
-use clip::{ClipSet, Prepared};
-use definitions::{Default, LayerOffset, StageTime, TemplateTimes, refusal};
-use resolver::{Accepted, ClipReply, Resolver, Shape, TimeReply, UntimedReply, ValueReply};
-use sdf::Counted;
+use clip::ClipSet;
+use definitions::refusal::Refusal;
+use definitions::{
+    ClipTime, Default, LayerOffset, StageTime, TemplateTimes, ValueRead, ValueState,
+};
+use resolver::{Resolver, Shape};
 use track::bake::Baked;
 
 // No set stands.
@@ -36,9 +39,9 @@ pub fn accept(
     blocks: &[f64],
     default: Default,
     interpolate: bool,
-) -> Accepted
+) -> Result<Resolver, Refusal>
     requires { Made resolver }
-    ensures { Accepts resolver (explicit_fields clips starts.now numbers.now xs.now ys.now blocks.now (manifest default interpolate)) result }
+    ensures { Accepts resolver (explicit_fields clips starts.now numbers.now xs.now ys.now blocks.now (manifest default interpolate)) (number_in result) (left resolver result) }
 {
     let prepared = explicit::parse_set(
         clips,
@@ -49,8 +52,8 @@ pub fn accept(
         blocks,
         default,
         interpolate,
-    );
-    settle(resolver, prepared)
+    )?;
+    Ok(install(resolver, prepared))
 }
 
 // The set that the template expands to takes the place of the standing one, unless a number refuses it.
@@ -63,12 +66,19 @@ pub fn accept_template(
     blocks: &[f64],
     default: Default,
     interpolate: bool,
-) -> Accepted
+) -> Result<Resolver, Refusal>
     requires { Made resolver }
-    ensures { Expands resolver (template_fields template.now times offset blocks.now (manifest default interpolate)) result }
+    ensures { Expands resolver (template_fields template.now times offset blocks.now (manifest default interpolate)) (number_in result) (left resolver result) }
 {
-    let prepared = template::expand_template(template, times, offset, blocks, default, interpolate);
-    settle(resolver, prepared)
+    let prepared = template::expand_template(
+        template,
+        times,
+        offset,
+        blocks,
+        default,
+        interpolate,
+    )?;
+    Ok(install(resolver, prepared))
 }
 
 // The prepared set takes the place of the standing one. Nothing refuses it.
@@ -82,15 +92,12 @@ pub fn install(resolver: Resolver, set: ClipSet) -> Resolver
 }
 
 // The standing set moved, as the retimings before it left it, unless a number refuses it.
-pub fn retime(resolver: Resolver, o: LayerOffset) -> Accepted
+pub fn retime(resolver: Resolver, o: LayerOffset) -> Result<Resolver, Refusal>
     requires { Made resolver }
-    ensures { Retimes resolver o result }
+    ensures { Retimes resolver o (number_in result) (left resolver result) }
 {
     if !resolver.stands {
-        return Accepted {
-            number: refusal::NO_SET,
-            resolver,
-        };
+        return Err(Refusal::NoSet);
     }
     let set = standing::packed(
         resolver.set.clips,
@@ -102,12 +109,12 @@ pub fn retime(resolver: Resolver, o: LayerOffset) -> Accepted
         resolver.set.counts,
         resolver.set.manifest,
     );
-    let moved = set.retime_stage_times(o);
-    settle(resolver, moved)
+    let moved = set.retime_stage_times(o)?;
+    Ok(install(resolver, moved))
 }
 
 // The clip time at a stage time, by the standing set's knots.
-pub fn clip_time(resolver: Resolver, t: StageTime) -> TimeReply
+pub fn clip_time(resolver: Resolver, t: StageTime) -> Result<ClipTime, Refusal>
     requires { Made resolver }
     ensures { TellsTime resolver t result }
 {
@@ -131,7 +138,7 @@ pub fn clip_time(resolver: Resolver, t: StageTime) -> TimeReply
 }
 
 // The clip that is active at a stage time, none in a set without starts.
-pub fn active_clip(resolver: Resolver, t: StageTime) -> ClipReply
+pub fn active_clip(resolver: Resolver, t: StageTime) -> Result<Option<u64>, Refusal>
     requires { Made resolver }
     ensures { TellsClip resolver t result }
 {
@@ -162,7 +169,7 @@ pub fn value(
     marks: &[u8],
     ends: &[u64],
     t: StageTime,
-) -> ValueReply
+) -> Result<ValueRead, Refusal>
     requires { Made resolver }
     ensures { TellsValue resolver (samples_of times.now values.now marks.now ends.now) t result }
 {
@@ -196,7 +203,7 @@ pub fn untimed(
     values: &[f64],
     marks: &[u8],
     ends: &[u64],
-) -> UntimedReply
+) -> Result<ValueState, Refusal>
     requires { Made resolver }
     ensures { TellsUntimed resolver (samples_of times.now values.now marks.now ends.now) result }
 {
@@ -230,7 +237,7 @@ pub fn stage_sample_times(
     marks: &[u8],
     ends: &[u64],
     out: &mut [f64],
-) -> Counted
+) -> Result<usize, Refusal>
     requires { Made resolver }
     ensures { TellsTimes resolver (samples_of times.now values.now marks.now ends.now) out.old out.new result }
 {
@@ -266,7 +273,7 @@ pub fn stage_samples(
     ends: &[u64],
     outtimes: &mut [f64],
     outmarks: &mut [u8],
-) -> Counted
+) -> Result<usize, Refusal>
     requires { Made resolver }
     ensures { TellsSamples resolver (samples_of times.now values.now marks.now ends.now) outtimes.old outtimes.new outmarks.old outmarks.new result }
 {
@@ -301,7 +308,7 @@ pub fn stage_sample_count(
     values: &[f64],
     marks: &[u8],
     ends: &[u64],
-) -> Counted
+) -> Result<usize, Refusal>
     requires { Made resolver }
     ensures { TellsSampleCount resolver (samples_of times.now values.now marks.now ends.now) result }
 {
@@ -334,7 +341,7 @@ pub fn change_count(
     values: &[f64],
     marks: &[u8],
     ends: &[u64],
-) -> Counted
+) -> Result<usize, Refusal>
     requires { Made resolver }
     ensures { TellsChangeCount resolver (samples_of times.now values.now marks.now ends.now) result }
 {
@@ -370,7 +377,7 @@ pub fn bake(
     outtimes: &mut [f64],
     outvalues: &mut [f64],
     outmarks: &mut [u8],
-) -> Baked
+) -> Result<Baked, Refusal>
     requires { Made resolver }
     ensures { BakesTrack resolver (samples_of times.now values.now marks.now ends.now) (outputs outtimes.old outvalues.old outmarks.old) result (outputs outtimes.new outvalues.new outmarks.new) }
 {
@@ -397,23 +404,4 @@ pub fn bake(
         outvalues,
         outmarks,
     )
-}
-
-// The prepared set is installed, unless its number refuses it; then what stood still stands.
-fn settle(d: Resolver, prepared: Prepared) -> Accepted
-    requires made { Made d }
-    requires made_set { MadeSet prepared.set }
-    ensures { Settles d prepared result }
-{
-    if prepared.number != 0 {
-        return Accepted {
-            number: prepared.number,
-            resolver: d,
-        };
-    }
-    let next = install(d, prepared.set);
-    Accepted {
-        number: 0,
-        resolver: next,
-    }
 }

@@ -1,5 +1,5 @@
 -- A decimal of at most 15 digits is rounded once: its digits' number and the power of ten are doubles as they stand. Assumes nothing.
-use Rattle.std.proofs.Common.{◌≡◌, ℕ, zero, suc, ◌+◌, ◌-◌, ◌*◌, ◌^◌, ◌<◌, ◌≤◌, Bool, true, false, cond, eqb, leb, List, [], ◌∷◌, length, drop, pos, sym, refl, ap, ◌∙◌, subst, true≢false, le_trans, le_of_lt, lt_irrefl, mul-le-mul_right, zero-lt-suc, mul_assoc, mul_comm, mul-pos, one-mul, pow-suc, zero-mul, mul-one, le-mul_of_pos_right, mul_left_comm, arith, lit<, length-drop, pow-add, ne_eqb, leb-false}
+use Rattle.std.proofs.Common.{◌≡◌, ℕ, zero, suc, ◌+◌, ◌-◌, ◌*◌, ◌^◌, ◌<◌, ◌≤◌, Bool, true, false, cond, ◌||◌, eqb, ltb, leb, List, [], ◌∷◌, drop, pos, sym, refl, ap, ◌∙◌, subst, true≢false, le_trans, le_of_lt, lt_irrefl, mul-le-mul_right, zero-lt-suc, mul_assoc, mul_comm, mul-pos, one-mul, pow-suc, zero-mul, mul-one, le-mul_of_pos_right, mul_left_comm, arith, lit<, pow-add, ne_eqb, le-ltb, leb-false}
 use native.Mathlib.Nat.{one-le-pow, pow-le-pow_right}
 use lib.Ieee.{Float, nan, inf, fin, Format, binary64, up, down, round, of_int, div}
 use lib.Ieee.Fits.{up_pos, down_pos}
@@ -7,11 +7,14 @@ use lib.Ieee.Exact.{HasValue}
 use lib.Ieee.Back.{round_whole}
 use lib.Ieee.Scale.{round_same}
 use Rattle.gf.proofs.Fraction.{round-neg}
-use Rattle.cases.specs.declared.text.numbers.Number.{Number}
-use Rattle.cases.specs.Text.{nowhere}
-use Rattle.cases.specs.Numbers.{number_at, unread, digit_of, decimals, decimals_at}
-use Rattle.cases.specs.Decimals.{decimal_of, no_decimal, stands, behind_point, decimal_from, decimal_at, signed_of}
-use Rattle.cases.proofs.Decimals.{stands-within}
+use Rattle.std.specs.Prelude.{Option, Some, None}
+use Rattle.std.specs.Option.{option_and_then, option_map}
+use Rattle.std.proofs.lemmas.Option.{none-some, same_Some, option_and_then_some}
+use Rattle.cases.specs.declared.text.numbers.Read.{Read}
+use Rattle.cases.specs.declared.text.decimals.Decimal.{Decimal}
+use Rattle.cases.specs.Text.{closed_at}
+use Rattle.cases.specs.Numbers.{read_at, digit_of, decimals, decimals_at}
+use Rattle.cases.specs.Decimals.{decimal_of, stands, behind_point, decimal_from, decimal_at, signed_of, valued}
 
 ruleset ring = (mul_assoc, mul_comm, mul_left_comm)
 
@@ -59,20 +62,25 @@ pub signed-rounds : (s : Bool) (a c : ℕ) → signed_of (round binary64 false a
 signed-rounds true a c = sym (round-neg binary64 a c)
 signed-rounds false a c = refl
 
+-- the double that a decimal writes
+pub valued-is : (line : List ℕ) (negative : Bool) (d : Decimal) (at : ℕ) (x : Float) → (d.whole ≡ 0 → ⊥) → d.whole + d.scale ≤ 15 → Some at ≡ closed_at line d.at → x ≡ round binary64 false d.digits (10 ^ d.scale) → Some (read_at (signed_of x negative) at) ≡ valued line negative d
+unfolding valued
+valued-is line negative d at x h l ea ex =
+    let written : Float = round binary64 negative d.digits (10 ^ d.scale) in
+    let all : Option (Read Float) = option_map (read_at written) (closed_at line d.at) in
+    ap (λ (y : Float). Some (read_at (signed_of y negative) at)) ex
+    ∙ ap (λ (y : Float). Some (read_at y at)) (signed-rounds negative d.digits (10 ^ d.scale))
+    ∙ ap (option_map (read_at written)) ea
+    ∙ sym (ap (λ (b : Bool). cond (b || ltb 15 (d.whole + d.scale)) None all) (ne_eqb _ _ h) ∙ ap (λ (b : Bool). cond b None all) (le-ltb _ _ l))
+
 -- ---- how large a number of so many digits is
 
--- reading goes on
-grows : (v at : ℕ) (bs : List ℕ) → at + length bs ≤ nowhere → at ≤ (decimals v at bs).at
-unfolding decimals
-grows v at [] h = omega arith
-grows v at (b ∷ bs) h =
-    go (leb 10 (digit_of b)) (leb 18446744073709551616 (v * 10 + digit_of b)) (grows (v * 10 + digit_of b) (suc at) bs (omega (arith, h)))
-  where
-    go : (p q : Bool) → suc at ≤ (decimals (v * 10 + digit_of b) (suc at) bs).at
-        → at ≤ (cond p (number_at at v) (cond q unread (decimals (v * 10 + digit_of b) (suc at) bs))).at
-    go true q r = omega arith
-    go false true r = omega (arith, h)
-    go false false r = omega (arith, r)
+-- k digits more, behind those of v
+abbrev pub Digits : ℕ → ℕ → Read ℕ → Type 0
+Digits v at n = (k : ℕ) × (n.at ≡ at + k) × (n.value < suc v * 10 ^ k)
+
+here : (at : ℕ) → at ≡ at + 0
+here at = omega arith
 
 less : (v n : ℕ) → v < suc v * 10 ^ n
 less v n = omega (arith, le-mul_of_pos_right (suc v) (tens-positive n))
@@ -84,58 +92,55 @@ longer v d x n h k =
     let e : suc v * 10 ^ suc n ≡ suc v * 10 * 10 ^ n = ap (λ (z : ℕ). suc v * z) (pow-suc 10 n ∙ mul_comm (10 ^ n) 10) ∙ sym (mul_assoc (suc v) 10 (10 ^ n)) in
     omega (arith, mul-le-mul_right (10 ^ n) l, e, k)
 
+further : (v at d : ℕ) (n : Read ℕ) → d < 10 → Digits (v * 10 + d) (suc at) n → Digits v at n
+further v at d n l (k, e, h) = (suc k, omega (arith, e), longer v d n.value k l h)
+
 -- by what stands behind the first digit d
-module _ (v at d : ℕ) (rest : Number) (g : suc at ≤ rest.at) (r : (k : ℕ) → rest.at ≡ suc at + k → rest.value < suc (v * 10 + d) * 10 ^ k) where
-  next : (n : ℕ) → d < 10 → rest.at ≡ at + n → rest.value < suc v * 10 ^ n
-  next zero l q = absurd (omega (arith, q, g))
-  next (suc n) l q = longer v d rest.value n l (r n (omega (arith, q)))
+judged : (v at d : ℕ) (rest : Option (Read ℕ)) (n : Read ℕ) (p q : Bool) → (p ≡ false → d < 10) → (rest ≡ Some n → Digits (v * 10 + d) (suc at) n) → cond p (Some (read_at v at)) (cond q None rest) ≡ Some n → Digits v at n
+judged v at d rest n true q l r e = subst (λ (m : Read ℕ). Digits v at m) (same_Some _ _ e) (0, here at, less v 0)
+judged v at d rest n false true l r e = absurd (none-some n e)
+judged v at d rest n false false l r e = further v at d n (l refl) (r e)
 
-  judged : (p q : Bool) → (p ≡ false → d < 10) → (n : ℕ) → (cond p (number_at at v) (cond q unread rest)).at ≡ at + n → (cond p (number_at at v) (cond q unread rest)).value < suc v * 10 ^ n
-  judged true q l n e = less v n
-  judged false true l n e = mul-pos (zero-lt-suc v) (tens-positive n)
-  judged false false l n e = next n (l refl) e
-
-bounded : (v at : ℕ) (bs : List ℕ) → at + length bs ≤ nowhere → (n : ℕ) → (decimals v at bs).at ≡ at + n → (decimals v at bs).value < suc v * 10 ^ n
+pub bounded : (v at : ℕ) (bs : List ℕ) (n : Read ℕ) → decimals v at bs ≡ Some n → Digits v at n
 unfolding decimals
-bounded v at [] h n e = less v n
-bounded v at (b ∷ bs) h n e =
-    let within : suc at + length bs ≤ nowhere = omega (arith, h) in
-    judged v at (digit_of b) (decimals (v * 10 + digit_of b) (suc at) bs) (grows (v * 10 + digit_of b) (suc at) bs within) (bounded (v * 10 + digit_of b) (suc at) bs within)
-    (leb 10 (digit_of b)) (leb 18446744073709551616 (v * 10 + digit_of b)) (leb-false _ _) n e
+bounded v at [] n e = subst (λ (m : Read ℕ). Digits v at m) (same_Some _ _ e) (0, here at, less v 0)
+bounded v at (b ∷ bs) n e =
+    judged v at (digit_of b) (decimals (v * 10 + digit_of b) (suc at) bs) n (leb 10 (digit_of b)) (leb 18446744073709551616 (v * 10 + digit_of b)) (leb-false _ _)
+    (bounded (v * 10 + digit_of b) (suc at) bs n) e
 
 -- ---- a decimal's digits
 
-module _ (line : List ℕ) (from : ℕ) (f : from ≤ nowhere) (l : length line ≤ nowhere) where
-  room : (k : ℕ) → k ≤ nowhere → k + length (drop k line) ≤ nowhere
-  room k h = omega (arith, length-drop k line)
+abbrev Below : Decimal → Type 0
+Below d = d.digits < 10 ^ (d.whole + d.scale)
 
-  abbrev whole : Number
-  whole = decimals_at line from
-
-  abbrev all : Number
-  all = decimals whole.value (whole.at + 1) (drop (whole.at + 1) line)
-
-  whole_below : whole.value < 10 ^ (whole.at - from)
+module _ (line : List ℕ) (from : ℕ) (n : Read ℕ) (w : Digits 0 from n) where
+  whole_below : n.value < 10 ^ (n.at - from)
   whole_below =
-      let e : whole.at ≡ from + (whole.at - from) = omega (arith, grows 0 from (drop from line) (room from f)) in
-      omega (arith, bounded 0 from (drop from line) (room from f) (whole.at - from) e, one-mul (10 ^ (whole.at - from)))
+      let (k, e, h) = w in
+      let q : n.at - from ≡ k = omega (arith, e) in
+      subst (λ (j : ℕ). n.value < 10 ^ j) (sym q) (omega (arith, h, one-mul (10 ^ k)))
 
-  all-below : whole.at < length line → all.value < 10 ^ (whole.at - from + (all.at - (whole.at + 1)))
-  all-below h =
-      let r = room (whole.at + 1) (omega arith) in
-      let scale = all.at - (whole.at + 1) in
-      let e : all.at ≡ whole.at + 1 + scale = omega (arith, grows whole.value (whole.at + 1) (drop (whole.at + 1) line) r) in
-      let b : all.value < suc whole.value * 10 ^ scale = bounded whole.value (whole.at + 1) (drop (whole.at + 1) line) r scale e in
-      omega (arith, b, mul-le-mul_right (10 ^ scale) whole_below, pow-add 10 (whole.at - from) scale)
+  all-below : (all : Read ℕ) → Digits n.value (n.at + 1) all → Below (decimal_of all.at all.value (n.at - from) (all.at - (n.at + 1)))
+  all-below all (j, e, h) =
+      let q : all.at - (n.at + 1) ≡ j = omega (arith, e) in
+      let b : all.value < 10 ^ (n.at - from + j) = omega (arith, h, mul-le-mul_right (10 ^ j) whole_below, pow-add 10 (n.at - from) j) in
+      subst (λ (m : ℕ). all.value < 10 ^ (n.at - from + m)) (sym q) b
 
-  pub digits-below : (decimal_at line from).digits < 10 ^ ((decimal_at line from).whole + (decimal_at line from).scale)
-  unfolding decimal_from behind_point
-  digits-below = go (stands line whole.at 46) (stands-within line whole.at 46)
+  behind : (d : Decimal) (all : Read ℕ) → Digits n.value (n.at + 1) all → behind_point from n all ≡ Some d → Below d
+  behind d all h = go (eqb (all.at - (n.at + 1)) 0)
     where
-      some : (b : Bool) → whole.at < length line → let d = cond b no_decimal (decimal_of all.at all.value (whole.at - from) (all.at - (whole.at + 1))) in d.digits < 10 ^ (d.whole + d.scale)
-      some true h = lit< tt
-      some false h = all-below h
+      go : (b : Bool) → cond b None (Some (decimal_of all.at all.value (n.at - from) (all.at - (n.at + 1)))) ≡ Some d → Below d
+      go true e = absurd (none-some d e)
+      go false e = subst Below (same_Some _ _ e) (all-below all h)
 
-      go : (b : Bool) → (b ≡ true → whole.at < length line) → let d = cond b (behind_point from whole all) (decimal_of whole.at whole.value (whole.at - from) 0) in d.digits < 10 ^ (d.whole + d.scale)
-      go true h = some (eqb (all.at - (whole.at + 1)) 0) (h refl)
-      go false h = let z : whole.at - from + 0 ≡ whole.at - from = omega arith in subst (λ (k : ℕ). whole.value < 10 ^ k) (sym z) whole_below
+  whole : (d : Decimal) → decimal_from line from n ≡ Some d → Below d
+  whole d = go (stands line n.at 46)
+    where
+      go : (b : Bool) → cond b (option_and_then (behind_point from n) (decimals n.value (n.at + 1) (drop (n.at + 1) line))) (Some (decimal_of n.at n.value (n.at - from) 0)) ≡ Some d → Below d
+      go true e = option_and_then_some (behind_point from n) (decimals n.value (n.at + 1) (drop (n.at + 1) line)) d e (λ (all : Read ℕ) (h : decimals n.value (n.at + 1) (drop (n.at + 1) line) ≡ Some all) (b : behind_point from n all ≡ Some d). behind d all (bounded n.value (n.at + 1) (drop (n.at + 1) line) all h) b)
+      go false e = let z : n.at - from + 0 ≡ n.at - from = omega arith in subst Below (same_Some _ _ e) (subst (λ (k : ℕ). n.value < 10 ^ k) (sym z) whole_below)
+
+pub digits-below : (line : List ℕ) (from : ℕ) (d : Decimal) → decimal_at line from ≡ Some d → Below d
+unfolding decimal_at
+digits-below line from d e =
+    option_and_then_some (decimal_from line from) (decimals_at line from) d e (λ (n : Read ℕ) (h : decimals_at line from ≡ Some n) (b : decimal_from line from n ≡ Some d). whole line from n (bounded 0 from (drop from line) n h) d b)

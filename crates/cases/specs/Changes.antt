@@ -1,15 +1,15 @@
 -- What a line that may change what stands promises: it is not readable, and what stood still stands; or it makes one call of its kind, whose reply is handed on. Assumes nothing.
-use Rattle.std.specs.Prelude.{◌≡◌, ℕ, true, false, List, take, Float}
+use Rattle.std.specs.Prelude.{List, take, Float, Option, IfSome, Result, ℕ}
 use Rattle.definitions.specs.declared.LayerOffset.{LayerOffset}
 use Rattle.definitions.specs.Explicit.{ExplicitFields}
 use Rattle.definitions.specs.Template.{TemplateFields}
 use Rattle.resolver.specs.declared.Resolver.{Resolver}
-use Rattle.resolver.specs.declared.Accepted.{Accepted}
-use Rattle.resolver.specs.State.{Made}
+use Rattle.definitions.specs.declared.refusal.Refusal.{Refusal}
+use Rattle.definitions.specs.Refusals.{number_in}
+use Rattle.resolver.specs.State.{left}
 use Rattle.resolver.specs.Promises.{Accepts, Expands, Retimes}
 use Rattle.cases.specs.declared.lines.calls.Change.{Change}
 use Rattle.cases.specs.declared.lines.calls.Change.TheVariants.{Explicit, Template, Retime}
-use Rattle.cases.specs.declared.changes.Changed.{Changed}
 use Rattle.cases.specs.declared.changes.ExplicitRead.{ExplicitRead}
 use Rattle.cases.specs.declared.changes.TemplateRead.{TemplateRead}
 
@@ -23,8 +23,8 @@ explicit_of r starts numbers xs ys blocks = record {
   knot_x = take r.xs xs;
   knot_y = take r.ys ys;
   blocks = take r.blocks blocks;
-  default = record { mark = r.filling.mark; value = r.filling.value };
-  interpolate_missing = r.filling.interpolate;
+  default = r.manifest.default;
+  interpolate_missing = r.manifest.interpolate;
 }
 
 abbrev pub template_of : TemplateRead → List ℕ → List Float → TemplateFields
@@ -33,17 +33,16 @@ template_of r bytes blocks = record {
   times = r.times;
   has_offset = r.offset;
   blocks = take r.blocks blocks;
-  default = record { mark = r.filling.mark; value = r.filling.value };
-  interpolate_missing = r.filling.interpolate;
+  default = r.manifest.default;
+  interpolate_missing = r.manifest.interpolate;
 }
 
 -- the operation's own promise, of some fields: which ones, `explicit_of` and `template_of` say where the lists as read are handed over
-abbrev pub Forwards : Change → Resolver → Accepted → Type 0
-Forwards Explicit d r = (f : ExplicitFields) × Accepts d f r
-Forwards Template d r = (f : TemplateFields) × Expands d f r
-Forwards Retime d r = (o : LayerOffset) × Retimes d o r
+abbrev pub Forwards : Change → Resolver → Result Resolver Refusal → Type 0
+Forwards Explicit d r = (f : ExplicitFields) × Accepts d f (number_in r) (left d r)
+Forwards Template d r = (f : TemplateFields) × Expands d f (number_in r) (left d r)
+Forwards Retime d r = (o : LayerOffset) × Retimes d o (number_in r) (left d r)
 
-pub record Changes (kind : Change) (d : Resolver) (r : Changed) : Type 0 where
-  pub unread : r.readable ≡ false → r.accepted.resolver ≡ d
-  pub read : r.readable ≡ true → Forwards kind d r.accepted
-  pub made : Made r.accepted.resolver
+-- nothing is handed on where the line could not be read
+abbrev pub Changes : Change → Resolver → Option (Result Resolver Refusal) → Type 0
+Changes kind d r = IfSome r (Forwards kind d)

@@ -1,18 +1,15 @@
--- What a line that lends promises: if it is not readable, what was lent stays lent, and every list is as it was. Assumes nothing.
-use Rattle.std.specs.Prelude.{◌≡◌, ℕ, false, List, Float}
+-- What a line that lends promises: if it is not readable, every list is as it was; what was lent stays lent, since nothing comes in its place. Assumes nothing.
+use Rattle.std.specs.Prelude.{◌≡◌, ℕ, List, Float, Option, None}
 use Rattle.cases.specs.declared.lines.lent.Lent.{Lent}
-use Rattle.cases.specs.declared.lines.lent.Lending.{Lending}
 
 -- each list before and after
-pub record Lends (before : Lent) (r : Lending) (ends ends' : List ℕ) (times times' values values' : List Float) (marks marks' : List ℕ) : Type 0 where
-  pub still-lent : r.readable ≡ false → r.lent ≡ before
-  pub same_ends : r.readable ≡ false → ends' ≡ ends
-  pub same-times : r.readable ≡ false → times' ≡ times
-  pub same-values : r.readable ≡ false → values' ≡ values
-  pub same-marks : r.readable ≡ false → marks' ≡ marks
+pub record Lends (r : Option Lent) (ends ends' : List ℕ) (times times' values values' : List Float) (marks marks' : List ℕ) : Type 0 where
+  pub same_ends : r ≡ None → ends' ≡ ends
+  pub same-times : r ≡ None → times' ≡ times
+  pub same-values : r ≡ None → values' ≡ values
+  pub same-marks : r ≡ None → marks' ≡ marks
 
 -- the same of a line that lends an order list, which stands in two of the lists
-pub record LendsOrder (before : Lent) (r : Lending) (ends ends' marks marks' : List ℕ) : Type 0 where
-  pub still-lent : r.readable ≡ false → r.lent ≡ before
-  pub same_ends : r.readable ≡ false → ends' ≡ ends
-  pub same-marks : r.readable ≡ false → marks' ≡ marks
+pub record LendsOrder (r : Option Lent) (ends ends' marks marks' : List ℕ) : Type 0 where
+  pub same_ends : r ≡ None → ends' ≡ ends
+  pub same-marks : r ≡ None → marks' ≡ marks

@@ -1,11 +1,8 @@
 -- The bytes of a line, and where its words stand. A place is an index into the line. Assumes nothing.
-use Rattle.std.specs.Prelude.{ℕ, suc, ◌+◌, ◌-◌, Bool, true, false, cond, not, ◌&&◌, List, [], ◌∷◌, length, drop, ◌==◌, nat_le, nat_lt, slice_index, slice_range}
+use Rattle.std.specs.Prelude.{ℕ, suc, ◌+◌, Bool, true, cond, not, ◌&&◌, List, [], ◌∷◌, length, drop, ◌==◌, nat_eq, nat_le, nat_lt, slice_index, slice_range, Option, Some, None}
+use Rattle.std.specs.List.{starts_with}
 use Rattle.cases.specs.declared.text.words.Stop.{Stop}
 use Rattle.cases.specs.declared.text.words.Stop.TheVariants.{Word, Blank, Comment, LineEnd}
-
--- the place behind what cannot be read
-abbrev pub nowhere : ℕ
-nowhere = 18446744073709551615
 
 -- a tab, the carriage return of a line that ends in two bytes, or a space
 abbrev pub is_blank : ℕ → Bool
@@ -35,15 +32,9 @@ abbrev pub word_at : List ℕ → ℕ → List ℕ
 word_at line at = part_of line (scanned line at Word) (scanned line (scanned line at Word) Blank)
 
 -- the place itself, if no word goes on there
-unfoldable pub closed_at : List ℕ → ℕ → ℕ
-closed_at line at = cond (nat_lt at (length line)) (cond (is_blank (slice_index line at)) at nowhere) at
-
--- a text begins with a word
-unfoldable pub begins : List ℕ → List ℕ → Bool
-begins [] text = true
-begins (w ∷ ws) [] = false
-begins (w ∷ ws) (b ∷ bs) = b == w && begins ws bs
+unfoldable pub closed_at : List ℕ → ℕ → Option ℕ
+closed_at line at = cond (nat_lt at (length line) && not (is_blank (slice_index line at))) None (Some at)
 
 -- the place behind a word, if it is the next one
-unfoldable pub behind : List ℕ → ℕ → List ℕ → ℕ
-behind line at word = cond (begins word (drop (scanned line at Word) line)) (closed_at line (scanned line at Word + length word)) nowhere
+unfoldable pub behind : List ℕ → ℕ → List ℕ → Option ℕ
+behind line at word = cond (starts_with nat_eq (drop (scanned line at Word) line) word) (closed_at line (scanned line at Word + length word)) None

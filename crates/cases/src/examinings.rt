@@ -1,5 +1,5 @@
 // The lines that examine a set: its fields are read as those of an acceptance, and no resolver is touched.
-ghost use Rattle.std.specs.Prelude.{◌<◌};
+ghost use Rattle.std.specs.Prelude.{◌<◌, IfSome};
 ghost use Rattle.definitions.specs.Examining.{explicitly, by_template};
 ghost use Rattle.clip.specs.Preparing.{Examines};
 ghost use Rattle.cases.specs.Changes.{explicit_of, template_of};
@@ -8,28 +8,15 @@ ghost use Rattle.cases.specs.Prepared.{Looks};
 use crate::changes::{ExplicitRead, TemplateRead, read_explicit, read_template};
 use crate::lines::limits::{BLOCKS, BYTES, KNOTS, STARTS};
 use crate::prepared;
-use crate::text::{NOWHERE, after, first_bytes, first_doubles};
-use clip::Prepared;
-use definitions::Default;
+use crate::text::{after, first};
+use clip::ClipSet;
+use definitions::refusal::Refusal;
 
-// What the examining handed back, and for which slot; before it whether the line could be read. If not, none was asked.
+// What the examining handed back, and for which slot.
 #[derive(Clone, Copy)]
 pub(crate) struct Looked {
-    pub readable: bool,
     pub slot: usize,
-    pub prepared: Prepared,
-}
-
-fn unreadable() -> Looked
-    ensures { Looks result }
-{
-    let set = clip::empty();
-    let prepared = Prepared { number: 0, set };
-    Looked {
-        readable: false,
-        slot: 0,
-        prepared,
-    }
+    pub prepared: Result<ClipSet, Refusal>,
 }
 
 fn examine_read(
@@ -39,29 +26,24 @@ fn examine_read(
     xs: &[f64],
     ys: &[f64],
     blocks: &[f64],
-) -> Prepared
+) -> Result<ClipSet, Refusal>
     ensures { Examines (explicitly (explicit_of read starts.now numbers.now xs.now ys.now blocks.now)) result }
 {
-    let filling = read.filling;
-    let default = Default {
-        mark: filling.mark,
-        value: filling.value,
-    };
     explicit::parse_set(
         read.clips,
-        first_doubles(starts, read.starts),
-        first_doubles(numbers, read.numbers),
-        first_doubles(xs, read.xs),
-        first_doubles(ys, read.ys),
-        first_doubles(blocks, read.blocks),
-        default,
-        filling.interpolate,
+        first(starts, read.starts),
+        first(numbers, read.numbers),
+        first(xs, read.xs),
+        first(ys, read.ys),
+        first(blocks, read.blocks),
+        read.manifest.default,
+        read.manifest.interpolate,
     )
 }
 
-fn explicit(line: &[u8], at: usize, slot: usize) -> Looked
+fn explicit(line: &[u8], at: usize, slot: usize) -> Option<Looked>
     requires { slot < 4 }
-    ensures { Looks result }
+    ensures { IfSome result Looks }
 {
     let mut starts = [0.0f64; STARTS];
     let mut numbers = [0.0f64; STARTS];
@@ -76,68 +58,42 @@ fn explicit(line: &[u8], at: usize, slot: usize) -> Looked
         &mut xs,
         &mut ys,
         &mut blocks,
-    );
-    if !crate::text::is_end(line, read.at) {
-        return unreadable();
-    }
+    )?;
     let prepared = examine_read(read, &starts, &numbers, &xs, &ys, &blocks);
-    Looked {
-        readable: true,
-        slot,
-        prepared,
-    }
+    Some(Looked { slot, prepared })
 }
 
-fn expand_read(read: TemplateRead, bytes: &[u8], blocks: &[f64]) -> Prepared
+fn expand_read(read: TemplateRead, bytes: &[u8], blocks: &[f64]) -> Result<ClipSet, Refusal>
     ensures { Examines (by_template (template_of read bytes.now blocks.now)) result }
 {
-    let filling = read.filling;
-    let times = read.times;
-    let default = Default {
-        mark: filling.mark,
-        value: filling.value,
-    };
     template::expand_template(
-        first_bytes(bytes, read.bytes),
-        times,
+        first(bytes, read.bytes),
+        read.times,
         read.offset,
-        first_doubles(blocks, read.blocks),
-        default,
-        filling.interpolate,
+        first(blocks, read.blocks),
+        read.manifest.default,
+        read.manifest.interpolate,
     )
 }
 
-fn template(line: &[u8], at: usize, slot: usize) -> Looked
+fn template(line: &[u8], at: usize, slot: usize) -> Option<Looked>
     requires { slot < 4 }
-    ensures { Looks result }
+    ensures { IfSome result Looks }
 {
     let mut bytes = [0u8; BYTES];
     let mut blocks = [0.0f64; BLOCKS];
-    let read = read_template(line, at, &mut bytes, &mut blocks);
-    if !crate::text::is_end(line, read.at) {
-        return unreadable();
-    }
+    let read = read_template(line, at, &mut bytes, &mut blocks)?;
     let prepared = expand_read(read, &bytes, &blocks);
-    Looked {
-        readable: true,
-        slot,
-        prepared,
-    }
+    Some(Looked { slot, prepared })
 }
 
 // `SLOT explicit ..` or `SLOT template ..`
-pub(crate) fn examine(line: &[u8], at: usize) -> Looked
-    ensures { Looks result }
+pub(crate) fn examine(line: &[u8], at: usize) -> Option<Looked>
+    ensures { IfSome result Looks }
 {
-    let n = prepared::slot_at(line, at);
-    let slot = n.value as usize;
-    let fields = after(line, n.at, b"explicit");
-    if fields != NOWHERE {
-        return explicit(line, fields, slot);
+    let n = prepared::slot_at(line, at)?;
+    if let Some(fields) = after(line, n.at, b"explicit") {
+        return explicit(line, fields, n.value);
     }
-    let pattern = after(line, n.at, b"template");
-    if pattern != NOWHERE {
-        return template(line, pattern, slot);
-    }
-    unreadable()
+    template(line, after(line, n.at, b"template")?, n.value)
 }

@@ -58,41 +58,28 @@ told on standard error with its number and its first word that cannot be read. T
     );
 }
 
-fn is_help(word: &[u8]) -> bool {
-    if word.len() != 6 {
-        return false;
-    }
-    crate::text::after(word, 0, b"--help") == 6
-}
-
 // Whether the program has an argument at this place; its name stands at 0.
 pub(crate) fn has_argument(rt: &impl Env, i: usize) -> bool {
     let mut word = [0u8; 64];
-    match rt.arg(i, &mut word) {
-        Ok(_) => true,
-        Err(FillError::TooLong) => true,
-        Err(FillError::NotPresent) => false,
-    }
+    !matches!(rt.arg(i, &mut word), Err(FillError::NotPresent))
 }
 
 // The first argument is `--help`.
 fn asks_help(rt: &impl Env) -> bool {
     let mut word = [0u8; 64];
     match rt.arg(1, &mut word) {
-        Ok(n) => is_help(&word[..n]),
+        Ok(n) => &word[..n] == b"--help".as_slice(),
         Err(_) => false,
     }
 }
 
 // Answers the arguments behind the program's name. A write that fails is passed over.
 pub(crate) fn answer(rt: &(impl Env + Print + Eprint)) {
-    if asks_help(rt) {
-        if !has_argument(rt, 2) {
-            calls(rt);
-            dispatcher(rt);
-            words(rt);
-            return;
-        }
+    if asks_help(rt) && !has_argument(rt, 2) {
+        calls(rt);
+        dispatcher(rt);
+        words(rt);
+        return;
     }
     let _ = rt.eprintln(
         "cases: it takes no argument but --help, and reads calls from standard input",

@@ -13,7 +13,7 @@ mod setless;
 mod text;
 mod track_hash;
 
-ghost use Rattle.std.specs.Prelude.{◌≡◌, length};
+ghost use Rattle.std.specs.Prelude.{◌≡◌, None, IfSome, length};
 ghost use Rattle.resolver.specs.State.{Made};
 ghost use Rattle.cases.specs.Prepared.{MadeSlots, Looking, Installing};
 ghost use Rattle.cases.specs.Sessions.{Stays};
@@ -23,19 +23,18 @@ use crate::lines::held::{
     ALL_ENDS, ALL_MARKS, ALL_SAMPLES, DEFAULTS, ENTRIES, KNOT_ENTRIES, NAMES, SHAPES,
 };
 use crate::lines::input::Buffer;
-use crate::lines::lent::{Lending, Lent};
+use crate::lines::lent::Lent;
 use crate::lines::limits::LINE;
-use crate::lines::{calls, input, lent, named_calls, order, parted, reply, told};
+use crate::lines::{calls, input, lent, named_calls, order, parted, told};
 use crate::prepared::Slots;
-use crate::text::{NOWHERE, Replies};
+use crate::text::{Replies, ended, word};
 use resolver::Resolver;
 use std::io::Stdin;
 
-// What a line leaves for the next one: how much of the output buffer is in use, how many lines there were, whether the last
-// one began a case, the samples that are lent, and what stands.
+// What a line leaves for the next one: how many lines there were, whether the last one began a case, the samples that are lent,
+// and what stands.
 #[derive(Clone, Copy)]
 struct Session {
-    pub full: usize,
     pub lines: u64,
     pub begun: bool,
     pub lent: Lent,
@@ -43,17 +42,14 @@ struct Session {
 }
 
 // Nothing is lent and no set stands.
-fn begin(full: usize, lines: u64) -> Session
+fn begin(lines: u64) -> Session
     ensures { Made result.resolver }
 {
-    let none = lent::none();
-    let fresh = by_value::fresh();
     Session {
-        full,
         lines,
         begun: true,
-        lent: none,
-        resolver: fresh,
+        lent: lent::none(),
+        resolver: by_value::fresh(),
     }
 }
 
@@ -64,35 +60,15 @@ struct Held {
     pub slots: Slots,
 }
 
-// The same after more output.
-fn written(session: Session, full: usize) -> Session
-    requires { Made session.resolver }
-    ensures { Stays session result }
-{
-    let lent = session.lent;
-    let resolver = session.resolver;
-    Session {
-        full,
-        lines: session.lines,
-        begun: session.begun,
-        lent,
-        resolver,
-    }
-}
-
 // One line more.
 fn counted(session: Session) -> Session
     requires { Made session.resolver }
     ensures { Stays session result }
 {
-    let lent = session.lent;
-    let resolver = session.resolver;
     Session {
-        full: session.full,
-        lines: std::num::wrapping_add_u64(session.lines, 1),
+        lines: session.lines.wrapping_add(1),
         begun: false,
-        lent,
-        resolver,
+        ..session
     }
 }
 
@@ -115,7 +91,7 @@ fn serve(
     counts: &mut [u64; SHAPES],
     bytes: &mut [u8; NAMES],
 ) {
-    let mut session = begin(0, 0);
+    let mut session = begin(0);
     let mut slots = prepared::none();
     let mut buffer = input::empty();
     named::renew(starts, numbers, xs, ys, blocks, defaults, counts, bytes);
@@ -124,19 +100,19 @@ fn serve(
         if to < buffer.end {
             let line = input::line(input, buffer, to);
             buffer = input::past(buffer, to);
-            if calls::has_slot(line) {
-                let held = with_slot(line, session, slots, out);
+            if let Some(call) = calls::slotted_of(line) {
+                let held = with_slot(call, line, session, slots, out);
                 session = held.session;
                 slots = held.slots;
-            } else if named_calls::changes(line) {
+            } else if let Some(call) = named_calls::change_of(line) {
                 session = named::change(
-                    line, session, slots, starts, numbers, xs, ys, blocks, defaults, counts, bytes,
-                    out,
+                    call, line, session, slots, starts, numbers, xs, ys, blocks, defaults, counts,
+                    bytes, out,
                 );
-            } else if named_calls::asks(line) {
+            } else if let Some(call) = named_calls::question_of(line) {
                 session = named::ask(
-                    line, session, starts, numbers, xs, ys, blocks, defaults, counts, bytes, ends,
-                    times, values, marks, out,
+                    call, line, session, starts, numbers, xs, ys, blocks, defaults, counts, bytes,
+                    ends, times, values, marks, out,
                 );
             } else {
                 session = run(line, session, ends, times, values, marks, out);
@@ -146,39 +122,23 @@ fn serve(
                 }
             }
         } else {
-            session = flushed(session, out);
+            out.flush();
             if buffer.ended {
                 return;
             }
             let more = input::refill(from, input, buffer);
-            session = refilled(session, buffer, more, out);
+            tell_too_long(session, buffer, more, out);
             buffer = more;
         }
     }
 }
 
-fn flushed(session: Session, out: &mut Replies) -> Session
-    requires { Made session.resolver }
-    ensures { Stays session result }
-{
-    let n = crate::text::flush(out, session.full);
-    written(session, n)
-}
-
 // A line that was found to be longer than the buffer is not readable.
-fn refilled(session: Session, before: Buffer, after: Buffer, out: &mut Replies) -> Session
-    requires { Made session.resolver }
-    ensures { Stays session result }
-{
-    if before.skips {
-        return session;
+fn tell_too_long(session: Session, before: Buffer, after: Buffer, out: &mut Replies) {
+    if after.skips && !before.skips {
+        told::too_long(out.told, session.lines.wrapping_add(1));
+        out.unreadable();
     }
-    if !after.skips {
-        return session;
-    }
-    told::too_long(out.told, std::num::wrapping_add_u64(session.lines, 1));
-    let n = reply::unreadable(out, session.full);
-    written(session, n)
 }
 
 // Answers one line.
@@ -195,24 +155,25 @@ fn run(
     ensures { Made result.resolver }
 {
     let session = counted(session);
+    let lent = session.lent;
     match calls::call_of(line) {
         Call::Nothing => session,
         Call::Unreadable => unreadable(line, session, out),
-        Call::Case(at) => case(line, at, session, out),
+        Call::Case(at) => {
+            out.case_named(word(line, at));
+            begin(session.lines)
+        }
         Call::Samples(at) => {
-            let read = lent::lend(line, at, session.lent, ends, times, values, marks);
+            let read = lent::lend(line, at, lent, ends, times, values, marks);
             lend(read, line, session, out)
         }
-        Call::Order(at) => {
-            let read = order::lend(line, at, session.lent, ends, marks);
-            lend(read, line, session, out)
-        }
+        Call::Order(at) => lend(order::lend(line, at, lent, ends, marks), line, session, out),
         Call::Parted(at) => {
-            let read = parted::lend(line, at, session.lent, ends, times, values, marks);
+            let read = parted::lend(line, at, lent, ends, times, values, marks);
             lend(read, line, session, out)
         }
         Call::Changing(kind, at) => change(kind, line, at, session, out),
-        Call::Asking(kind, at) => { ask(kind, line, at, session, ends, times, values, marks, out) }
+        Call::Asking(kind, at) => ask(kind, line, at, session, ends, times, values, marks, out),
     }
 }
 
@@ -222,34 +183,19 @@ fn unreadable(line: &[u8], session: Session, out: &mut Replies) -> Session
     ensures { Stays session result }
 {
     told::unreadable(out.told, session.lines, line);
-    let n = reply::unreadable(out, session.full);
-    written(session, n)
-}
-
-// A case begins anew.
-fn case(line: &[u8], at: usize, session: Session, out: &mut Replies) -> Session
-    ensures { Made result.resolver }
-{
-    let n = reply::case_named(crate::text::word(line, at), out, session.full);
-    begin(n, session.lines)
+    out.unreadable();
+    session
 }
 
 // What a line lends from now on.
-fn lend(read: Lending, line: &[u8], session: Session, out: &mut Replies) -> Session
+fn lend(read: Option<Lent>, line: &[u8], session: Session, out: &mut Replies) -> Session
     requires { Made session.resolver }
-    ensures { Made result.resolver }
+    ensures made { Made result.resolver }
+    ensures unread { read ≡ None → Stays session result }
 {
-    if !read.readable {
-        return unreadable(line, session, out);
-    }
-    let lent = read.lent;
-    let resolver = session.resolver;
-    Session {
-        full: session.full,
-        lines: session.lines,
-        begun: session.begun,
-        lent,
-        resolver,
+    match read {
+        Some(lent) => Session { lent, ..session },
+        None => unreadable(line, session, out),
     }
 }
 
@@ -267,7 +213,7 @@ fn ask(
     requires { Made session.resolver }
     ensures { Stays session result }
 {
-    let n = crate::questions::ask(
+    let answered = crate::questions::ask(
         kind,
         line,
         at,
@@ -278,121 +224,107 @@ fn ask(
         values,
         marks,
         out,
-        session.full,
     );
-    if n == NOWHERE {
+    if answered.is_none() {
         return unreadable(line, session, out);
     }
-    written(session, n)
+    session
 }
 
 fn change(kind: Change, line: &[u8], at: usize, session: Session, out: &mut Replies) -> Session
     requires { Made session.resolver }
     ensures { Made result.resolver }
 {
-    let changed = crate::changes::change(kind, line, at, session.resolver);
-    if !changed.readable {
+    let Some(told) = crate::changes::change(kind, line, at, session.resolver) else {
         return unreadable(line, session, out);
-    }
-    let accepted = changed.accepted;
-    let n = reply::changed(accepted.number, out, session.full);
-    let lent = session.lent;
-    let resolver = accepted.resolver;
+    };
+    out.changed(told.err());
     Session {
-        full: n,
-        lines: session.lines,
-        begun: session.begun,
-        lent,
-        resolver,
+        resolver: told.unwrap_or(session.resolver),
+        ..session
     }
 }
 
 // Answers a line with a slot.
-fn with_slot(line: &[u8], session: Session, slots: Slots, out: &mut Replies) -> Held
+fn with_slot(call: Slotted, line: &[u8], session: Session, slots: Slots, out: &mut Replies) -> Held
     requires { (Made session.resolver) × (MadeSlots slots) }
     ensures { (Made result.session.resolver) × (MadeSlots result.slots) }
 {
     let session = counted(session);
-    match calls::slotted_of(line) {
+    let held = match call {
         Slotted::Examine(at) => examine(line, at, session, slots, out),
         Slotted::Prepared(at) => tell(line, at, session, slots, out),
         Slotted::Install(at) => install(line, at, session, slots, out),
-        Slotted::Nothing => Held { session, slots },
+    };
+    match held {
+        Some(held) => held,
+        None => Held {
+            session: unreadable(line, session, out),
+            slots,
+        },
     }
 }
 
 // The prepared set is put in the slot, unless it is refused; then the slot is as it was.
-fn examine(line: &[u8], at: usize, session: Session, slots: Slots, out: &mut Replies) -> Held
+fn examine(
+    line: &[u8],
+    at: usize,
+    session: Session,
+    slots: Slots,
+    out: &mut Replies,
+) -> Option<Held>
     requires { (Made session.resolver) × (MadeSlots slots) }
-    ensures { Looking session result }
+    ensures { IfSome result (Looking session) }
 {
-    let looked = examinings::examine(line, at);
-    if !looked.readable {
-        let session = unreadable(line, session, out);
-        return Held { session, slots };
-    }
-    let number = looked.prepared.number;
-    let n = reply::changed(number, out, session.full);
-    let session = written(session, n);
-    if number != 0 {
-        return Held { session, slots };
-    }
-    let slots = prepared::put(slots, looked.slot, looked.prepared.set);
-    Held { session, slots }
+    let looked = examinings::examine(line, at)?;
+    out.changed(looked.prepared.err());
+    let Ok(set) = looked.prepared else {
+        return Some(Held { session, slots });
+    };
+    let slots = prepared::put(slots, looked.slot, set);
+    Some(Held { session, slots })
 }
 
 // The set of a slot.
-fn tell(line: &[u8], at: usize, session: Session, slots: Slots, out: &mut Replies) -> Held
+fn tell(line: &[u8], at: usize, session: Session, slots: Slots, out: &mut Replies) -> Option<Held>
     requires fact_1 { Made session.resolver }
     requires fact_2 { MadeSlots slots }
-    ensures { Looking session result }
+    ensures { IfSome result (Looking session) }
 {
-    let slot = prepared::slot_at(line, at);
-    if !crate::text::is_end(line, slot.at) {
-        let session = unreadable(line, session, out);
-        return Held { session, slots };
+    let slot = prepared::slot_at(line, at)?;
+    ended(line, slot.at)?;
+    match prepared::get(slots, slot.value) {
+        Some(set) => out.put_set(&standing::installed(set)),
+        None => out.empty(),
     }
-    let i = slot.value as usize;
-    if !prepared::holds(slots, i) {
-        let n = reply::empty(out, session.full);
-        let session = written(session, n);
-        return Held { session, slots };
-    }
-    let set = standing::installed(prepared::get(slots, i));
-    let n = crate::questions::dump::put_set(set, out, session.full);
-    let session = written(session, n);
-    Held { session, slots }
+    Some(Held { session, slots })
 }
 
 // The set of a slot takes the place of the standing one; where the slot has none, no call is made.
-fn install(line: &[u8], at: usize, session: Session, slots: Slots, out: &mut Replies) -> Held
+fn install(
+    line: &[u8],
+    at: usize,
+    session: Session,
+    slots: Slots,
+    out: &mut Replies,
+) -> Option<Held>
     requires fact_1 { Made session.resolver }
     requires fact_2 { MadeSlots slots }
-    ensures { Installing session slots result }
+    ensures { IfSome result (Installing session slots) }
 {
-    let slot = prepared::slot_at(line, at);
-    if !crate::text::is_end(line, slot.at) {
-        let session = unreadable(line, session, out);
-        return Held { session, slots };
-    }
-    let i = slot.value as usize;
-    if !prepared::holds(slots, i) {
-        let n = reply::empty(out, session.full);
-        let session = written(session, n);
-        return Held { session, slots };
-    }
-    let set = prepared::get(slots, i);
-    let n = reply::changed(0, out, session.full);
-    let lent = session.lent;
+    let slot = prepared::slot_at(line, at)?;
+    ended(line, slot.at)?;
+    let Some(set) = prepared::get(slots, slot.value) else {
+        out.empty();
+        return Some(Held { session, slots });
+    };
+    out.changed(None);
     let resolver = by_value::install(session.resolver, set);
     let session = Session {
-        full: n,
-        lines: session.lines,
-        begun: session.begun,
-        lent,
         resolver,
+        ..session
     };
-    Held { session, slots }
+    Some(Held { session, slots })
 }
 
 fn zeros<const N: usize>() -> [u8; N]
@@ -414,7 +346,7 @@ fn main(rt: HostRuntime) {
         return;
     }
     let mut input = input_buffer();
-    let mut out = crate::text::no_replies(rt.stdout(), rt.stderr());
+    let mut out = Replies::new(rt.stdout(), rt.stderr());
     let mut ends = [0u64; ALL_ENDS];
     let mut times = [0.0f64; ALL_SAMPLES];
     let mut values = [0.0f64; ALL_SAMPLES];

@@ -8,9 +8,9 @@ ghost use Rattle.cases.specs.Sessions.{Stays};
 use crate::Session;
 use crate::changes::named::Said;
 use crate::lines::held::{DEFAULTS, ENTRIES, KNOT_ENTRIES, NAMES, SHAPES};
-use crate::lines::reply;
+use crate::lines::named_calls::{NamedChange, NamedQuestion};
 use crate::prepared::Slots;
-use crate::text::{NOWHERE, Replies};
+use crate::text::Replies;
 
 // No set stands under a name.
 pub(crate) fn renew(
@@ -30,6 +30,7 @@ pub(crate) fn renew(
 
 // Answers a line that may change the dispatcher.
 pub(crate) fn change(
+    call: NamedChange,
     line: &[u8],
     session: Session,
     slots: Slots,
@@ -50,30 +51,26 @@ pub(crate) fn change(
     ensures fact_2 { Pages.Made (pages starts.new numbers.new xs.new ys.new blocks.new defaults.new counts.new bytes.new) }
 {
     let said = crate::changes::named::change(
-        line, slots, starts, numbers, xs, ys, blocks, defaults, counts, bytes,
+        call, line, slots, starts, numbers, xs, ys, blocks, defaults, counts, bytes,
     );
     told(said, line, crate::counted(session), out)
 }
 
-fn told(said: Said, line: &[u8], session: Session, out: &mut Replies) -> Session
+fn told(said: Option<Said>, line: &[u8], session: Session, out: &mut Replies) -> Session
     requires { Made session.resolver }
     ensures { Stays session result }
 {
     match said {
-        Said::Unreadable => crate::unreadable(line, session, out),
-        Said::Empty => {
-            let n = reply::empty(out, session.full);
-            crate::written(session, n)
-        }
-        Said::Number(number) => {
-            let n = reply::changed(number, out, session.full);
-            crate::written(session, n)
-        }
+        None => return crate::unreadable(line, session, out),
+        Some(Said::Empty) => out.empty(),
+        Some(Said::Replied(told)) => out.changed(told.err()),
     }
+    session
 }
 
 // Answers a question to the dispatcher.
 pub(crate) fn ask<'a>(
+    call: NamedQuestion,
     line: &[u8],
     session: Session,
     starts: &'a [f64; ENTRIES],
@@ -95,7 +92,8 @@ pub(crate) fn ask<'a>(
     ensures { Stays session result }
 {
     let session = crate::counted(session);
-    let n = crate::questions::named::ask(
+    let answered = crate::questions::named::ask(
+        call,
         line,
         starts,
         numbers,
@@ -111,10 +109,9 @@ pub(crate) fn ask<'a>(
         values,
         marks,
         out,
-        session.full,
     );
-    if n == NOWHERE {
+    if answered.is_none() {
         return crate::unreadable(line, session, out);
     }
-    crate::written(session, n)
+    session
 }

@@ -1,5 +1,4 @@
-// The questions of the case text, and which function answers each. One whose line could not be read replies nothing and hands
-// back `NOWHERE`.
+// The questions of the case text, and which function answers each. One whose line could not be read replies nothing and gives none.
 pub(crate) mod dump;
 pub(crate) mod named;
 mod placed;
@@ -11,7 +10,7 @@ ghost use Rattle.resolver.specs.State.{Made};
 
 use crate::lines::calls::Question;
 use crate::lines::lent::Lent;
-use crate::text::{Replies, first_bytes, first_doubles, first_numbers};
+use crate::text::{Replies, first};
 use resolver::Resolver;
 
 // Answers a question about what stands and the first entries of the lists, which are lent.
@@ -26,8 +25,7 @@ pub(crate) fn ask(
     values: &[f64],
     marks: &[u8],
     out: &mut Replies,
-    full: usize,
-) -> usize
+) -> Option<()>
     requires { Made resolver }
 {
     answer(
@@ -35,12 +33,11 @@ pub(crate) fn ask(
         line,
         at,
         resolver,
-        first_numbers(ends, lent.ends),
-        first_doubles(times, lent.times),
-        first_doubles(values, lent.values),
-        first_bytes(marks, lent.marks),
+        first(ends, lent.ends),
+        first(times, lent.times),
+        first(values, lent.values),
+        first(marks, lent.marks),
         out,
-        full,
     )
 }
 
@@ -54,35 +51,32 @@ fn answer(
     values: &[f64],
     marks: &[u8],
     out: &mut Replies,
-    full: usize,
-) -> usize
+) -> Option<()>
     requires { Made resolver }
 {
     match kind {
-        Question::Dump => dump::dump(line, at, resolver, out, full),
-        Question::Active => timing::active(line, at, resolver, out, full),
-        Question::ClipTime => timing::clip_time(line, at, resolver, out, full),
-        Question::Name => crate::setless::name(line, at, out, full),
-        Question::Normalize => crate::setless::normalize(line, at, out, full),
-        Question::ClipTimes => crate::setless::clip_times(line, at, out, full),
-        Question::CompareKeys => crate::setless::compare_keys(line, at, out, full),
+        Question::Dump => dump::dump(line, at, resolver, out),
+        Question::Active => timing::active(line, at, resolver, out),
+        Question::ClipTime => timing::clip_time(line, at, resolver, out),
+        Question::Name => crate::setless::name(line, at, out),
+        Question::Normalize => crate::setless::normalize(line, at, out),
+        Question::ClipTimes => crate::setless::clip_times(line, at, out),
+        Question::CompareKeys => crate::setless::compare_keys(line, at, out),
         Question::Value(read) => sampled::value(
-            line, at, resolver, ends, times, values, marks, read, out, full,
+            line, at, resolver, ends, times, values, marks, read, out,
         ),
         Question::Untimed => {
-            sampled::untimed(line, at, resolver, ends, times, values, marks, out, full)
+            sampled::untimed(line, at, resolver, ends, times, values, marks, out)
         }
         Question::Times => sampled::stage_sample_times(
-            line, at, resolver, ends, times, values, marks, out, full,
+            line, at, resolver, ends, times, values, marks, out,
         ),
         Question::StageSamples => sampled::stage_samples(
-            line, at, resolver, ends, times, values, marks, out, full,
+            line, at, resolver, ends, times, values, marks, out,
         ),
-        Question::Track => sampled::track(
-            line, at, resolver, ends, times, values, marks, out, full,
-        ),
+        Question::Track => sampled::track(line, at, resolver, ends, times, values, marks, out),
         Question::TrackHash => {
-            sampled::track_hash(line, at, resolver, ends, times, values, marks, out, full)
+            sampled::track_hash(line, at, resolver, ends, times, values, marks, out)
         }
     }
 }

@@ -8,7 +8,6 @@ ghost use Rattle.cell.specs.step.Entries.{entry_is};
 ghost use Rattle.standing.specs.Standing.{Asked};
 ghost use Rattle.track.specs.Fills.{CursorIs, PageIs};
 
-use crate::lines::reply;
 use crate::text::Replies;
 use cell::place::no_place;
 use cell::step::entry::Entry;
@@ -20,28 +19,16 @@ use track::entry::entry_at;
 use track::fill::{Cursor, Filled, fill};
 use window::search::latest::latest_inverses;
 
-// A product by FNV's prime, 2^40 + 435, modulo 2^64.
-fn by_prime(x: u64) -> u64 {
-    let low = (x % 0x1_0000_0000) * 435;
-    let high = ((x / 0x1_0000_0000) * 435 % 0x1_0000_0000) * 0x1_0000_0000;
-    let top = (x % 0x100_0000) * 0x100_0000_0000;
-    std::num::wrapping_add_u64(std::num::wrapping_add_u64(low, high), top)
-}
-
-// A byte more: FNV-1a.
-fn eat(hash: u64, byte: u64) -> u64 {
-    by_prime(hash ^ byte)
+// A byte more: FNV-1a, a product by its prime, 2^40 + 435, modulo 2^64.
+fn eat(hash: u64, byte: u8) -> u64 {
+    (hash ^ u64::from(byte)).wrapping_mul(0x100_0000_01b3)
 }
 
 // Eight bytes more, the lowest first.
 fn eat_word(hash: u64, word: u64) -> u64 {
     let mut h = hash;
-    let mut rest = word;
-    let mut left: usize = 8;
-    while left > 0 {
-        h = eat(h, rest % 256);
-        rest = rest / 256;
-        left -= 1;
+    for b in word.to_le_bytes() {
+        h = eat(h, b);
     }
     h
 }
@@ -49,7 +36,7 @@ fn eat_word(hash: u64, word: u64) -> u64 {
 fn eat_change(hash: u64, time: f64, entry: Entry) -> u64 {
     let h = eat_word(hash, crate::text::bits_of(time));
     let h = eat_word(h, crate::text::bits_of(entry.value));
-    eat(h, entry.mark as u64)
+    eat(h, entry.mark)
 }
 
 // The first n changes of a page.
@@ -63,14 +50,12 @@ fn eat_page(
     requires { n ≤ 256 }
 {
     let mut h = hash;
-    let mut i: usize = 0;
-    while i < n {
+    for ((t, value), mark) in times[..n].iter().zip(values).zip(marks) {
         let entry = Entry {
-            value: values[i],
-            mark: marks[i],
+            value: *value,
+            mark: *mark,
         };
-        h = eat_change(h, times[i], entry);
-        i += 1;
+        h = eat_change(h, *t, entry);
     }
     h
 }
@@ -177,7 +162,7 @@ fn walk(
             hash,
         );
         let filled = page.filled;
-        count = std::num::wrapping_add_u64(count, filled.count as u64);
+        count = count.wrapping_add(filled.count as u64);
         hash = page.hash;
         if filled.done {
             return Walked { count, hash };
@@ -256,10 +241,11 @@ pub(crate) fn hash_of<'a>(
     )
 }
 
-pub(crate) fn put_hashed(h: Hashed, out: &mut Replies, full: usize) -> usize {
-    let n = reply::head(b"trackhash", h.mark, h.value, out, full);
-    let n = reply::decimal(h.count, out, n);
-    let n = crate::text::put_byte(out, n, b' ');
-    let n = crate::text::put_bits(out, n, h.hash);
-    crate::text::put_byte(out, n, b'\n')
+impl Replies {
+    pub(crate) fn put_hashed(&mut self, h: Hashed) {
+        self.head(b"trackhash", h.mark, h.value);
+        self.decimal(h.count);
+        self.bits(h.hash);
+        self.put_byte(b'\n');
+    }
 }

@@ -1,4 +1,5 @@
 -- The cell that is found in the window of a time is the one that the laws of cells name. Assumes nothing.
+use Rattle.std.specs.Prelude.{Option, None, Some}
 use mathlib.Core.Path.{◌≡◌, refl, sym, ap, ◌∙◌, subst}
 use mathlib.Core.Bool.{Bool, true, false, not, ◌&&◌, cond}
 use mathlib.Core.List.{List, [], ◌∷◌}
@@ -29,9 +30,7 @@ use Rattle.laws.specs.cell.Neighbours.{IsLower, IsUpper}
 use Rattle.laws.proofs.cell.Neighbours.{cell-held, cell-jump, cell_below, cell-last, cell-few}
 use Rattle.laws.specs.cell.Lent.{AcceptedLists, set_of, samples_of, knots_of, start}
 use Rattle.laws.proofs.cell.Lent.{knot-times}
-use Rattle.window.specs.declared.Bound.{Bound}
 use Rattle.window.specs.declared.Neighbours.{Neighbours}
-use Rattle.window.specs.declared.Bound.TheVariants.{At, Nothing}
 use Rattle.window.specs.Bounds.{LowerIs, UpperIs, NeighboursAre}
 use Rattle.window.specs.Parts.{part_of}
 use Rattle.window.proofs.Parts.{ready-clip, ready-readable}
@@ -64,7 +63,7 @@ pub record DirectIs (set : ClipSet) (s : Samples) (t : Float) (c : Cell) : Type 
   pub clip : Sampled set s c
 
 -- the cell of t, and its end
-pub record CellAndEndIs (set : ClipSet) (s : Samples) (t : Float) (c : Cell) (e : Bound) : Type 0 where
+pub record CellAndEndIs (set : ClipSet) (s : Samples) (t : Float) (c : Cell) (e : Option Float) : Type 0 where
   pub is : cell_is c ≡ Cells.cell_of set s (stage t)
   pub clip : Sampled set s c
   pub ends : UpperIs (boundaries set s (stage t)) t e
@@ -196,7 +195,7 @@ module _ {starts : List Float} {clips : List ℕ} {xs ys blocks : List Float} {m
 
   -- ---- up to its end
 
-  piece-few : (c : Cell) (e : Bound) → length starts < 2 → DirectIs (set_of (length ends) starts clips xs ys blocks m) (samples_of times values marks ends) t c → UpperIs xs t e
+  piece-few : (c : Cell) (e : Option Float) → length starts < 2 → DirectIs (set_of (length ends) starts clips xs ys blocks m) (samples_of times values marks ends) t c → UpperIs xs t e
       → CellAndEndIs (set_of (length ends) starts clips xs ys blocks m) (samples_of times values marks ends) t c e
   piece-few c e h d u = record { is = d.is ∙ sym (cell-few ready lent one t); clip = d.clip; ends = subst (λ (l : List Float). UpperIs l t e) (sym knots-only) u }
     where
@@ -223,29 +222,29 @@ module _ {starts : List Float} {clips : List ℕ} {xs ys blocks : List Float} {m
     window : gathered ready lent p ≡ gathered ready lent (active_position ready.active (stage t))
     window = ap (gathered ready lent) placed
 
-    upper : (e : Bound) → UpperIs (gathered ready lent p) t e → UpperIs (boundaries ready lent (stage t)) t e
+    upper : (e : Option Float) → UpperIs (gathered ready lent p) t e → UpperIs (boundaries ready lent (stage t)) t e
     upper e u = subst (λ (l : List Float). UpperIs l t e) bounds u
 
     piece-last : (c : Cell) → DirectIs (set_of (length ends) starts clips xs ys blocks m) (samples_of times values marks ends) t c
-        → UpperIs (gathered (set_of (length ends) starts clips xs ys blocks m) (samples_of times values marks ends) p) t Nothing
-        → CellAndEndIs (set_of (length ends) starts clips xs ys blocks m) (samples_of times values marks ends) t c Nothing
+        → UpperIs (gathered (set_of (length ends) starts clips xs ys blocks m) (samples_of times values marks ends) p) t None
+        → CellAndEndIs (set_of (length ends) starts clips xs ys blocks m) (samples_of times values marks ends) t c None
     piece-last c d u = record {
-      is = d.is ∙ sym (cell-last ready lent (sound R) (samples R) two t ft.fitting (subst (λ (l : List Float). UpperIs l t Nothing) window u));
+      is = d.is ∙ sym (cell-last ready lent (sound R) (samples R) two t ft.fitting (subst (λ (l : List Float). UpperIs l t None) window u));
       clip = d.clip;
-      ends = upper Nothing u;
+      ends = upper None u;
     }
 
-    module _ (h : Float) (u : UpperIs (gathered (set_of (length ends) starts clips xs ys blocks m) (samples_of times values marks ends) p) t (At h)) where
+    module _ (h : Float) (u : UpperIs (gathered (set_of (length ends) starts clips xs ys blocks m) (samples_of times values marks ends) p) t (Some h)) where
       piece-below : (c : Cell) → DirectIs (set_of (length ends) starts clips xs ys blocks m) (samples_of times values marks ends) t c
-          → LowerIs (gathered (set_of (length ends) starts clips xs ys blocks m) (samples_of times values marks ends) p) t Nothing
-          → CellAndEndIs (set_of (length ends) starts clips xs ys blocks m) (samples_of times values marks ends) t c (At h)
+          → LowerIs (gathered (set_of (length ends) starts clips xs ys blocks m) (samples_of times values marks ends) p) t None
+          → CellAndEndIs (set_of (length ends) starts clips xs ys blocks m) (samples_of times values marks ends) t c (Some h)
       piece-below c d n = record {
-        is = d.is ∙ sym (cell_below ready lent (sound R) (samples R) two t ft.fitting (subst (λ (l : List Float). LowerIs l t Nothing) window n));
+        is = d.is ∙ sym (cell_below ready lent (sound R) (samples R) two t ft.fitting (subst (λ (l : List Float). LowerIs l t None) window n));
         clip = d.clip;
-        ends = upper (At h) u;
+        ends = upper (Some h) u;
       }
 
-      module _ (l : Float) (w : LowerIs (gathered (set_of (length ends) starts clips xs ys blocks m) (samples_of times values marks ends) p) t (At l)) where
+      module _ (l : Float) (w : LowerIs (gathered (set_of (length ends) starts clips xs ys blocks m) (samples_of times values marks ends) p) t (Some l)) where
         L : IsLower (gathered ready lent (active_position ready.active (stage t))) t l
         L = subst (λ (k : List Float). IsLower k t l) window w
 
@@ -258,52 +257,52 @@ module _ {starts : List Float} {clips : List ℕ} {xs ys blocks : List Float} {m
 
         piece-jump : (c : Cell) → DirectIs (set_of (length ends) starts clips xs ys blocks m) (samples_of times values marks ends) t c
             → jump_in xs l h ≡ true
-            → CellAndEndIs (set_of (length ends) starts clips xs ys blocks m) (samples_of times values marks ends) t c (At h)
+            → CellAndEndIs (set_of (length ends) starts clips xs ys blocks m) (samples_of times values marks ends) t c (Some h)
         piece-jump c d j = record {
           is = d.is ∙ sym (cell-jump ready lent (sound R) (samples R) two t ft.fitting l h L U (jumping true j));
           clip = d.clip;
-          ends = upper (At h) u;
+          ends = upper (Some h) u;
         }
 
         piece-held : (r : Source) → r ≡ direct_source (set_of (length ends) starts clips xs ys blocks m) (samples_of times values marks ends) (stage l)
             → jump_in xs l h ≡ false
-            → CellAndEndIs (set_of (length ends) starts clips xs ys blocks m) (samples_of times values marks ends) t (Constant r) (At h)
+            → CellAndEndIs (set_of (length ends) starts clips xs ys blocks m) (samples_of times values marks ends) t (Constant r) (Some h)
         piece-held r e j = record {
           is = ap Cells.constant e ∙ sym (cell-held ready lent (sound R) (samples R) two t ft.fitting l h L U (jumping false j));
           clip = tt;
-          ends = upper (At h) u;
+          ends = upper (Some h) u;
         }
 
     -- by the neighbours
 
     module _ (n : Neighbours) (N : NeighboursAre (gathered (set_of (length ends) starts clips xs ys blocks m) (samples_of times values marks ends) p) t n) where
-      piece-direct : (c : Cell) → held_of xs n.lower n.upper ≡ Nothing → DirectIs (set_of (length ends) starts clips xs ys blocks m) (samples_of times values marks ends) t c
+      piece-direct : (c : Cell) → held_of xs n.lower n.upper ≡ None → DirectIs (set_of (length ends) starts clips xs ys blocks m) (samples_of times values marks ends) t c
           → CellAndEndIs (set_of (length ends) starts clips xs ys blocks m) (samples_of times values marks ends) t c n.upper
       piece-direct c e d = go n.lower n.upper N.lower N.upper e
         where
-          go : (l h : Bound) → LowerIs (gathered ready lent p) t l → UpperIs (gathered ready lent p) t h → held_of xs l h ≡ Nothing → CellAndEndIs ready lent t c h
-          go Nothing Nothing w u q = piece-last c d u
-          go Nothing (At h) w u q = piece-below h u c d w
-          go (At l) Nothing w u q = piece-last c d u
-          go (At l) (At h) w u q = piece-jump h u l w c d (jumped (jump_in xs l h) q)
+          go : (l h : Option Float) → LowerIs (gathered ready lent p) t l → UpperIs (gathered ready lent p) t h → held_of xs l h ≡ None → CellAndEndIs ready lent t c h
+          go None None w u q = piece-last c d u
+          go None (Some h) w u q = piece-below h u c d w
+          go (Some l) None w u q = piece-last c d u
+          go (Some l) (Some h) w u q = piece-jump h u l w c d (jumped (jump_in xs l h) q)
             where
-              jumped : (b : Bool) → cond b Nothing (At l) ≡ Nothing → b ≡ true
+              jumped : (b : Bool) → cond b None (Some l) ≡ None → b ≡ true
               jumped true q = refl
               jumped false q = let z : ◌≡◌ {A = ℕ} 0 1 = cc in absurd (omega arith)
 
-      pub piece-constant : (f : Float) (r : Source) → held_of xs n.lower n.upper ≡ At f → r ≡ direct_source (set_of (length ends) starts clips xs ys blocks m) (samples_of times values marks ends) (stage f)
+      pub piece-constant : (f : Float) (r : Source) → held_of xs n.lower n.upper ≡ Some f → r ≡ direct_source (set_of (length ends) starts clips xs ys blocks m) (samples_of times values marks ends) (stage f)
           → CellAndEndIs (set_of (length ends) starts clips xs ys blocks m) (samples_of times values marks ends) t (Constant r) n.upper
       piece-constant f r e d = go n.lower n.upper N.lower N.upper e
         where
-          none-held : Nothing ≡ At f → ⊥
+          none-held : None ≡ Some f → ⊥
           none-held q = let z : ◌≡◌ {A = ℕ} 0 1 = cc in absurd (omega arith)
 
-          go : (l h : Bound) → LowerIs (gathered ready lent p) t l → UpperIs (gathered ready lent p) t h → held_of xs l h ≡ At f → CellAndEndIs ready lent t (Constant r) h
-          go Nothing h w u q = absurd (none-held q)
-          go (At l) Nothing w u q = absurd (none-held q)
-          go (At l) (At h) w u q = let k = held (jump_in xs l h) q in piece-held h u l w r (d ∙ ap (λ (x : Float). direct_source ready lent (stage x)) (sym k.1)) k.0
+          go : (l h : Option Float) → LowerIs (gathered ready lent p) t l → UpperIs (gathered ready lent p) t h → held_of xs l h ≡ Some f → CellAndEndIs ready lent t (Constant r) h
+          go None h w u q = absurd (none-held q)
+          go (Some l) None w u q = absurd (none-held q)
+          go (Some l) (Some h) w u q = let k = held (jump_in xs l h) q in piece-held h u l w r (d ∙ ap (λ (x : Float). direct_source ready lent (stage x)) (sym k.1)) k.0
             where
-              held : (b : Bool) → cond b Nothing (At l) ≡ At f → (b ≡ false) × (l ≡ f)
+              held : (b : Bool) → cond b None (Some l) ≡ Some f → (b ≡ false) × (l ≡ f)
               held true q = absurd (none-held q)
               held false q = (refl, cc)
 
@@ -313,25 +312,25 @@ module _ {starts : List Float} {clips : List ℕ} {xs ys blocks : List Float} {m
       among : NeighboursAre (gathered ready lent p) t n
       among = subst (λ (l : List Float). NeighboursAre l t n) (sym (window-gathered R p w W)) N
 
-      near-direct : (c : Cell) → held_of xs n.lower n.upper ≡ Nothing → DirectIs (set_of (length ends) starts clips xs ys blocks m) (samples_of times values marks ends) t c
+      near-direct : (c : Cell) → held_of xs n.lower n.upper ≡ None → DirectIs (set_of (length ends) starts clips xs ys blocks m) (samples_of times values marks ends) t c
           → CellAndEndIs (set_of (length ends) starts clips xs ys blocks m) (samples_of times values marks ends) t c n.upper
       near-direct c e d = piece-direct n among c e d
 
-      near-held : (f : Float) (r : Source) → held_of xs n.lower n.upper ≡ At f → r ≡ window_source xs ys times w f
+      near-held : (f : Float) (r : Source) → held_of xs n.lower n.upper ≡ Some f → r ≡ window_source xs ys times w f
           → CellAndEndIs (set_of (length ends) starts clips xs ys blocks m) (samples_of times values marks ends) t (Constant r) n.upper
       near-held f r e q = piece-constant n among f r e (q ∙ sym (window-held R p w W t at ft.fitting f (lower n.lower n.upper e among.lower)))
         where
-          differ : {B : Type 0} → Nothing ≡ At f → B
+          differ : {B : Type 0} → None ≡ Some f → B
           differ z = let y : ◌≡◌ {A = ℕ} 0 1 = cc in absurd (omega arith)
 
-          picked : (b : Bool) (l : Float) → cond b Nothing (At l) ≡ At f → l ≡ f
+          picked : (b : Bool) (l : Float) → cond b None (Some l) ≡ Some f → l ≡ f
           picked true l z = differ z
           picked false l z = cc
 
-          lower : (l h : Bound) → held_of xs l h ≡ At f → LowerIs (gathered ready lent p) t l → IsLower (gathered ready lent p) t f
-          lower Nothing h z L = differ z
-          lower (At l) Nothing z L = differ z
-          lower (At l) (At h) z L = subst (IsLower (gathered ready lent p) t) (picked (jump_in xs l h) l z) L
+          lower : (l h : Option Float) → held_of xs l h ≡ Some f → LowerIs (gathered ready lent p) t l → IsLower (gathered ready lent p) t f
+          lower None h z L = differ z
+          lower (Some l) None z L = differ z
+          lower (Some l) (Some h) z L = subst (IsLower (gathered ready lent p) t) (picked (jump_in xs l h) l z) L
 
 -- ---- in the window of t
 
@@ -365,7 +364,7 @@ module _ {starts : List Float} {clips : List ℕ} {xs ys blocks : List Float} {m
       go false h q = let n : 0 < length starts = (let z = eqb-false (length starts) 0 h in omega arith) in direct-window R t p w (its-window n) (A.place n) c q
 
   -- what it finds is the cell of t
-  pub cell-is : (c : Cell) (e : Bound) → CellIn starts xs ys times w t c e → CellAndEndIs (set_of (length ends) starts clips xs ys blocks m) (samples_of times values marks ends) t c e
+  pub cell-is : (c : Cell) (e : Option Float) → CellIn starts xs ys times w t c e → CellAndEndIs (set_of (length ends) starts clips xs ys blocks m) (samples_of times values marks ends) t c e
   cell-is c e N = elim (dec_le 2 (length starts)) [
     | yes h ↦ between h (N.many h)
     | no h ↦ let D = N.few (omega arith) in piece-few R t c e (omega arith) (direct_is c D.is) D.ends
@@ -380,8 +379,8 @@ module _ {starts : List Float} {clips : List ℕ} {xs ys blocks : List Float} {m
           at : p ≡ last_at_most starts t
           at = A.place (omega arith)
 
-          go : (o : Bound) → held_of xs B.bounds.lower B.bounds.upper ≡ o → cell_is c ≡ cell_by starts xs ys times w t o → CellAndEndIs whole all t c B.bounds.upper
-          go Nothing q i = near-direct R t ft h p at w W B.bounds B.near c q (direct_is c i)
-          go (At f) q i =
+          go : (o : Option Float) → held_of xs B.bounds.lower B.bounds.upper ≡ o → cell_is c ≡ cell_by starts xs ys times w t o → CellAndEndIs whole all t c B.bounds.upper
+          go None q i = near-direct R t ft h p at w W B.bounds B.near c q (direct_is c i)
+          go (Some f) q i =
               subst (λ (d : Cell). CellAndEndIs whole all t d B.bounds.upper) (constant-is c (window_source xs ys times w f) i)
               (near-held R t ft h p at w W B.bounds B.near f (window_source xs ys times w f) q refl)

@@ -1,4 +1,7 @@
 -- The least of ascending times above t is the one behind those that are at most t. Assumes nothing.
+use Rattle.std.specs.Prelude.{Option, None, Some, option_copied}
+use Rattle.std.specs.Slice.{IsItemAt}
+use denote.Bor.{Bor}
 use mathlib.Core.Path.{◌≡◌, refl, sym, ap, subst}
 use mathlib.Core.Logic.{inl, inr}
 use mathlib.Core.Bool.{true, false, not}
@@ -21,6 +24,7 @@ use Rattle.laws.proofs.list.Every.{every-at, chain-far, chain-map, every-by}
 use Rattle.laws.specs.list.Places.{Le, Ascending}
 use Rattle.laws.proofs.list.Places.{at_most, beyond, last-is, key-at-most, key_above}
 use Rattle.laws.specs.cell.Neighbours.{IsUpper}
+use Rattle.window.specs.Bounds.{UpperIs}
 
 -- a time at a place is listed
 listed_at : (xs : List Float) (i : ℕ) → i < length xs → T (eq (get_or xs i nan) (get_or xs i nan)) → T (any (λ (x : Float). eq x (get_or xs i nan)) xs)
@@ -75,6 +79,11 @@ module _ (xs : List Float) (a : Ascending xs) (t : Float) (ft : FiniteDouble t) 
           let p = lt→key t (get_or xs j nan) ft.fitting (at j g).fitting (finite-no-nan t ft.finitely) (number j g) l in
           let q = key-at-most t ft nan xs a j g (omega arith) in
           omega arith
+
+  -- what a look there gives
+  pub upper-got : (i : ℕ) → at_most xs t ≡ i → (r : Option (Bor Float)) → IsItemAt xs i r → UpperIs xs t (option_copied r)
+  upper-got i e None g = let past : length xs ≤ i = g.3 in upper-end (omega arith)
+  upper-got i e (Some x) g = subst (IsUpper xs t) (sym (g.3.1 nan)) (upper-at i e g.3.0)
 
   -- the first is above t: none is at most t
   pub none-counted : 0 < length xs → lt t (get_or xs 0 nan) ≡ true → at_most xs t ≡ 0

@@ -19,7 +19,6 @@ use definitions::{Source, StageTime};
 use place::WindowPlace;
 use value::jump::is_jump;
 use value::windowed::source_in;
-use window::Bound;
 use window::search::{NeighboursAndHints, Window, neighbours_in};
 
 // What is read from a stage time on: one source, or a clip's samples held along a line.
@@ -34,28 +33,24 @@ pub enum Cell {
 #[derive(Clone, Copy)]
 pub struct CellAndEnd {
     pub cell: Cell,
-    pub end: Bound,
+    pub end: Option<f64>,
     pub knot: usize,
     pub sample: usize,
 }
 
 // The least of ascending times that is above t.
-fn first_above(xs: &[f64], t: f64) -> Bound
+fn first_above(xs: &[f64], t: f64) -> Option<f64>
     requires ascending { Ascending xs.now }
     requires finite_double { FiniteDouble t }
     ensures { UpperIs xs.now t result }
 {
     if xs.len() == 0 {
-        return Bound::Nothing;
+        return None;
     }
     if t < xs[0] {
-        return Bound::At(xs[0]);
+        return Some(xs[0]);
     }
-    let next = lists::last_at_most(xs, t) + 1;
-    if next < xs.len() {
-        return Bound::At(xs[next]);
-    }
-    Bound::Nothing
+    xs.get(lists::last_at_most(xs, t) + 1).copied()
 }
 
 // The cell of the direct reading at t, by its window.
@@ -71,38 +66,19 @@ fn direct_cell(starts: &[f64], xs: &[f64], ys: &[f64], w: Window, t: f64) -> Cel
     if w.begin < w.end {
         return Cell::Reading(w.clip, line_of(xs, ys, t));
     }
-    let gap = w.gap;
-    Cell::Constant(gap)
+    Cell::Constant(w.gap)
 }
 
 // The time whose direct value is held between two neighbours: the lower one, unless one of them is
 // missing or two knots share an x between them.
-fn held_from(xs: &[f64], near: NeighboursAndHints) -> Bound
+fn held_from(xs: &[f64], near: NeighboursAndHints) -> Option<f64>
     requires { Ascending xs.now }
     ensures { result ≡ held_of xs.now near.lower near.upper }
 {
-    let lower = near.lower;
-    let upper = near.upper;
-    let Bound::At(l) = lower else {
-        return Bound::Nothing;
-    };
-    let Bound::At(h) = upper else {
-        return Bound::Nothing;
-    };
-    if is_jump(xs, l, h, near.knot) {
-        return Bound::Nothing;
+    match (near.lower, near.upper) {
+        (Some(l), Some(h)) if !is_jump(xs, l, h, near.knot) => Some(l),
+        _ => None,
     }
-    Bound::At(l)
-}
-
-// The place before one, if there is one.
-fn place_before(n: usize) -> usize
-    ensures { result ≡ n - 1 }
-{
-    if n == 0 {
-        return 0;
-    }
-    n - 1
 }
 
 // The cell of t and its end. One start: direct, up to the next knot. Several: held from the lower
@@ -128,33 +104,25 @@ pub fn cell_at(
             sample: place.sample,
         };
     }
-    let begin = w.begin;
-    let end = w.end;
     let found = neighbours_in(
         xs,
         ys,
         latest,
-        &times[begin..end],
+        &times[w.begin..w.end],
         w,
         t,
         place.knot,
         place.sample,
     );
-    let upper = found.upper;
-    let Bound::At(l) = held_from(xs, found) else {
-        return CellAndEnd {
-            cell: direct_cell(starts, xs, ys, w, t),
-            end: upper,
-            knot: found.knot,
-            sample: found.sample,
-        };
-    };
     // the lower neighbour is the inverse time of a sample before the turn or at it
-    let hint = place_before(found.sample);
-    let held = source_in(xs, ys, times, w, StageTime(l), found.knot, hint);
+    let hint = found.sample.saturating_sub(1);
+    let cell = match held_from(xs, found) {
+        Some(l) => Cell::Constant(source_in(xs, ys, times, w, StageTime(l), found.knot, hint)),
+        None => direct_cell(starts, xs, ys, w, t),
+    };
     CellAndEnd {
-        cell: Cell::Constant(held),
-        end: upper,
+        cell,
+        end: found.upper,
         knot: found.knot,
         sample: found.sample,
     }

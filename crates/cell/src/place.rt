@@ -29,18 +29,17 @@ pub struct WindowPlace {
 pub fn no_place(starts: &[f64]) -> WindowPlace
     ensures { result ≡ no_place (length starts.now) }
 {
-    let w = Window {
-        start: 0.0,
-        min: 0.0,
-        max: 0.0,
-        clip: 0,
-        begin: 0,
-        end: 0,
-        gap: Source::Blocked,
-    };
     WindowPlace {
         start: starts.len(),
-        window: w,
+        window: Window {
+            start: 0.0,
+            min: 0.0,
+            max: 0.0,
+            clip: 0,
+            begin: 0,
+            end: 0,
+            gap: Source::Blocked,
+        },
         knot: 0,
         sample: 0,
     }
@@ -51,10 +50,7 @@ fn has_reading(blocks: &[f64], m: Missing, ends: &[u64], start: f64, clip: u64) 
     requires { clip < length ends.now }
     ensures { result ≡ (not (m.interpolate && any (λ (b : Float). eq b start) blocks.now) && ltb (clip_begin ends.now clip) (clip_end ends.now clip)) }
 {
-    if contributes(blocks, m, start) {
-        return clip_begin(ends, clip) < clip_end(ends, clip);
-    }
-    false
+    contributes(blocks, m, start) && clip_begin(ends, clip) < clip_end(ends, clip)
 }
 
 // Whether the start at p comes right after the place's, and neither of the two has samples to read.
@@ -70,17 +66,8 @@ fn follows(
     requires { clip < length ends.now }
     ensures { (result ≡ true) → Follows blocks.now m ends.now start clip place.start place.window p }
 {
-    if p == 0 {
-        return false;
-    }
-    if place.start != p - 1 {
-        return false;
-    }
     let w = place.window;
-    if w.begin < w.end {
-        return false;
-    }
-    !has_reading(blocks, m, ends, start, clip)
+    0 < p && place.start == p - 1 && w.end <= w.begin && !has_reading(blocks, m, ends, start, clip)
 }
 
 // The window of the start at p. Of windows without samples, one after the other, the same stands in
@@ -107,8 +94,6 @@ fn window_after(
     let start = starts[p];
     let clip = clips[p];
     if follows(blocks, m, ends, start, clip, place, p) {
-        let w = place.window;
-        let gap = w.gap;
         let begin = clip_begin(ends, clip);
         return Window {
             start,
@@ -117,7 +102,7 @@ fn window_after(
             clip,
             begin,
             end: begin,
-            gap,
+            gap: place.window.gap,
         };
     }
     window_of(

@@ -14,7 +14,6 @@ ghost use Rattle.laws.specs.cell.Keys.{Keys};
 ghost use Rattle.laws.specs.cell.Knots as Knots;
 ghost use Rattle.cell.specs.step.Lines.{line_is, place_on};
 
-use laws::Next;
 use line::{Line, along};
 use lists::near::is_place;
 use lists::segment::stage_time;
@@ -34,17 +33,10 @@ fn key_within(x: f64, k: u64, hi: u64) -> u64
     requires { k ≤ hi }
     ensures { (k ≤ result) × (result ≤ hi) }
 {
-    if x != x {
+    if x.is_nan() {
         return hi;
     }
-    let g = gf::key(x);
-    if g < k {
-        return k;
-    }
-    if hi < g {
-        return hi;
-    }
-    g
+    gf::key(x).clamp(k, hi)
 }
 
 // A key near the one where the sample at q is left: where the next sample's time is reached or, on a
@@ -56,22 +48,10 @@ fn guess(ts: &[f64], line: Line, q: usize, k: u64, hi: u64) -> u64
 {
     let next = q + 1;
     match line {
-        Line::Identity => {
-            if next < ts.len() {
-                return key_within(ts[next], k, hi);
-            }
-            hi
-        }
-        Line::Flat(_) => hi,
-        Line::Segment(s) => {
-            if s.b.y < s.a.y {
-                return key_within(stage_time(s, ts[q]), k, hi);
-            }
-            if next < ts.len() {
-                return key_within(stage_time(s, ts[next]), k, hi);
-            }
-            hi
-        }
+        Line::Identity if next < ts.len() => key_within(ts[next], k, hi),
+        Line::Segment(s) if s.b.y < s.a.y => key_within(stage_time(s, ts[q]), k, hi),
+        Line::Segment(s) if next < ts.len() => key_within(stage_time(s, ts[next]), k, hi),
+        _ => hi,
     }
 }
 
@@ -99,7 +79,7 @@ fn step_between(ts: &[f64], line: Line, q: usize, k: u64, hi: u64) -> u64
 }
 
 // The first step above a key where the sample at q is read, by doubling steps up to hi, where the clip time is `top`.
-fn step_above(ts: &[f64], line: Line, q: usize, top: f64, k: u64, hi: u64) -> Next
+fn step_above(ts: &[f64], line: Line, q: usize, top: f64, k: u64, hi: u64) -> Option<u64>
     requires ascending_1 { Ascending ts.now }
     requires ascending_2 { q < length ts.now }
     requires top_value { top ≡ Knots.along (line_is line) (Key.of_key hi) }
@@ -113,15 +93,15 @@ fn step_above(ts: &[f64], line: Line, q: usize, top: f64, k: u64, hi: u64) -> Ne
     while width < hi - a {
         let b = a + width;
         if !is_read(ts, line, q, b) {
-            return Next::At(step_between(ts, line, q, a, b));
+            return Some(step_between(ts, line, q, a, b));
         }
         a = b;
         width = width + width;
     }
     if is_place(ts, q, top) {
-        return Next::Nothing;
+        return None;
     }
-    Next::At(step_between(ts, line, q, a, hi))
+    Some(step_between(ts, line, q, a, hi))
 }
 
 // The step below a key where the sample at q, that is read at k, is not read any more, by doubling
@@ -151,7 +131,7 @@ fn step_below(ts: &[f64], line: Line, q: usize, k: u64, hi: u64) -> u64
 // The least key above k and up to hi at which another sample is read than at k, where it is the one
 // at q. The clip time at hi is handed in: left to the compiler, it is worked out before a loop over steps also on a line
 // that has no segment, from what happens to lie in its place.
-pub fn next_step(ts: &[f64], line: Line, q: usize, top: f64, k: u64, hi: u64) -> Next
+pub fn next_step(ts: &[f64], line: Line, q: usize, top: f64, k: u64, hi: u64) -> Option<u64>
     requires ascending_1 { Ascending ts.now }
     requires ascending_2 { q < length ts.now }
     requires top_value { top ≡ Knots.along (line_is line) (Key.of_key hi) }
@@ -164,5 +144,5 @@ pub fn next_step(ts: &[f64], line: Line, q: usize, top: f64, k: u64, hi: u64) ->
     if is_read(ts, line, q, g) {
         return step_above(ts, line, q, top, g, hi);
     }
-    Next::At(step_below(ts, line, q, k, g))
+    Some(step_below(ts, line, q, k, g))
 }

@@ -1,5 +1,4 @@
 -- What the proofs of src/ share.
-pub mod Packing
 pub mod Preparing
 pub mod Stored
 pub mod Moved

@@ -1,6 +1,6 @@
 -- The end of every way to a set: the lists' number is the set's, and the packed lists are the set. Assumes nothing.
 use Prim.Native.Nat.{ℕ}
-use mathlib.Core.Path.{◌≡◌, refl}
+use mathlib.Core.Path.{◌≡◌}
 use mathlib.Core.List.{List}
 use lib.Ieee.{Float}
 use Rattle.definitions.specs.declared.Missing.{Missing}
@@ -11,8 +11,7 @@ use Rattle.laws.proofs.cell.Lent.{active-times, knot-times}
 use Rattle.clip.specs.declared.storage.Active.{Active}
 use Rattle.clip.specs.declared.storage.Knots.{Knots}
 use Rattle.clip.specs.declared.storage.Blocks.{Blocks}
-use Rattle.clip.specs.Holding.{Holds}
-use Rattle.clip.specs.Preparing.{HandsBack}
+use Rattle.clip.specs.Holding.{Holds, IsHeld}
 use Rattle.clip.specs.Storing.{Fitting, settle_number, lists_number}
 
 module _ (clips : ℕ) (times : List Float) (numbers : List ℕ) (xs ys blocks : List Float) (m : Missing) where
@@ -22,11 +21,10 @@ module _ (clips : ℕ) (times : List Float) (numbers : List ℕ) (xs ys blocks :
 
   pub packed-is : (a : Active) (k : Knots) (b : Blocks) → Holds max_active a.items a.count (active_of times numbers) → Holds max_knots k.items k.count (knots_of xs ys)
       → Holds max_blocks b.items b.count blocks
-      → HandsBack 0 (set_of clips times numbers xs ys blocks m) (record { number = 0; set = record { clips = clips; active = a; knots = k; blocks = b; default = m.default; interpolate = m.interpolate } })
+      → IsHeld (set_of clips times numbers xs ys blocks m) (record { clips = clips; active = a; knots = k; blocks = b; default = m.default; interpolate = m.interpolate })
   unfolding set_of
   packed-is a k b p q r = record {
-    number = refl;
-    set = rw (p.list, q.list, r.list);
+    is = rw (p.list, q.list, r.list);
     held = record { active = p.room; knots = q.room; blocks = r.room };
   }
 

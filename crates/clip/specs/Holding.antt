@@ -55,6 +55,10 @@ pub record ArraysWhole (s : ClipSet) : Type 0 where
   pub knots : Room max_knots s.knots.items s.knots.count
   pub blocks : Room max_blocks s.blocks.items s.blocks.count
 
-pub record EmptySet (r : ClipSet) : Type 0 where
-  pub is : clip_set_of r ≡ empty_set
+-- the set s, in whole arrays
+pub record IsHeld (s : Definitions.ClipSet) (r : ClipSet) : Type 0 where
+  pub is : clip_set_of r ≡ s
   pub held : ArraysWhole r
+
+abbrev pub EmptySet : ClipSet → Type 0
+EmptySet = IsHeld empty_set

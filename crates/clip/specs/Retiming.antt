@@ -1,15 +1,15 @@
 -- What a retiming of a set by value replies. Assumes nothing.
-use Rattle.std.specs.Prelude.{ℕ, ◌≡◌, cond, List, length, Float}
+use Rattle.std.specs.Prelude.{ℕ, ◌≡◌, cond, List, length, Float, Result}
 use Rattle.std.specs.Float.Ieee.{lt}
 use Rattle.gf.specs.Doubles.{0·0}
 use Rattle.definitions.specs.declared.Knot.{Knot}
 use Rattle.definitions.specs.declared.LayerOffset.{LayerOffset}
+use Rattle.definitions.specs.declared.refusal.Refusal.{Refusal}
 use Rattle.definitions.specs.declared.Start.{Start}
 use Rattle.definitions.specs.ClipSet as Definitions
 use Rattle.definitions.specs.ClipSet.{sort_active, sort_knots}
 use Rattle.definitions.specs.Retime.{moved, sorted, retime_stage_times, moved_number}
 use Rattle.clip.specs.declared.ClipSet.{ClipSet}
-use Rattle.clip.specs.declared.Prepared.{Prepared}
 use Rattle.clip.specs.Holding.{clip_set_of}
 use Rattle.clip.specs.Preparing.{Prepares}
 
@@ -33,5 +33,5 @@ unfoldable pub moved_and_sorted : LayerOffset → Definitions.ClipSet → Defini
 moved_and_sorted o set = cond (lt o.scale 0·0) (sorted (moved o set)) (moved o set)
 
 -- the moved set, or the set that went in
-abbrev pub Retimes : ClipSet → LayerOffset → Prepared → Type 0
+abbrev pub Retimes : ClipSet → LayerOffset → Result ClipSet Refusal → Type 0
 Retimes set o r = Prepares (moved_number (clip_set_of set) o) (clip_set_of set) (retime_stage_times o (clip_set_of set)) r

@@ -1,12 +1,12 @@
 -- The last checks of every set: the numbers that its ordered lists may still give, and the set in its arrays. Assumes nothing.
-use Rattle.std.specs.Prelude.{ℕ, ◌≤◌, ◌≡◌, ◌||◌, List, length, Float}
+use Rattle.std.specs.Prelude.{ℕ, ◌≤◌, ◌≡◌, ◌||◌, List, length, Float, Result}
 use Rattle.definitions.specs.declared.Default.{Default}
+use Rattle.definitions.specs.declared.refusal.Refusal.{Refusal}
 use Rattle.definitions.specs.Lists.{◌if◌else◌}
 use Rattle.definitions.specs.Doubles.{two_equal, three_equal}
 use Rattle.definitions.specs.ClipSet as Definitions
 use Rattle.definitions.specs.ClipSet.{max_active, max_knots, max_blocks, any_unstorable, beyond_limits, equal_starts, equal_knots, bad_default_mark}
-use Rattle.definitions.specs.Calls.{accepted}
-use Rattle.clip.specs.declared.Prepared.{Prepared}
+use Rattle.clip.specs.declared.ClipSet.{ClipSet}
 use Rattle.clip.specs.Preparing.{HandsBack}
 
 -- lists that pair, within their limits
@@ -35,5 +35,5 @@ lists_number times xs blocks default =
     0
 
 -- the set, or the one that is kept where its own numbers refuse it
-abbrev pub Stores : (kept made : Definitions.ClipSet) → Prepared → Type 0
-Stores kept made r = HandsBack (settle_number made) (accepted (settle_number made) kept made) r
+abbrev pub Stores : (kept made : Definitions.ClipSet) → Result ClipSet Refusal → Type 0
+Stores kept made r = HandsBack (settle_number made) kept made r

@@ -11,7 +11,8 @@ ghost use Rattle.clip.specs.Preparing.{MadeSet};
 ghost use Rattle.clip.specs.Retiming.{Retimes};
 
 use definitions::limits::{BLOCKS, KNOTS, STARTS};
-use definitions::{Default, LayerOffset, refusal};
+use definitions::refusal::Refusal;
+use definitions::{Default, LayerOffset};
 use storage::{Active, Blocks, Knots};
 
 #[repr(C)]
@@ -23,15 +24,6 @@ pub struct ClipSet {
     pub blocks: Blocks,
     pub default: Default,
     pub interpolate: bool,
-}
-
-// What a call that prepares a set replies: 0 and the set, or the number that refuses it and the set that there was before: an
-// acceptance has none and hands back the empty one, a retiming hands back the set that went in.
-#[repr(C)]
-#[derive(Clone, Copy)]
-pub struct Prepared {
-    pub number: u8,
-    pub set: ClipSet,
 }
 
 // A set without clips, and with no manifest default.
@@ -56,22 +48,16 @@ pub fn empty() -> ClipSet
 }
 
 impl ClipSet {
-    // The set with its stage times moved, or, where 2, 4 or 5 refuses that, as it went in.
-    pub fn retime_stage_times(self, o: LayerOffset) -> Prepared
+    // The set with its stage times moved, unless 2, 4 or 5 refuses that; the caller still has the one that went in.
+    pub fn retime_stage_times(self, o: LayerOffset) -> Result<ClipSet, Refusal>
         requires { MadeSet self }
         ensures { Retimes self o result }
     {
         if !retiming::is_finite(o) {
-            return Prepared {
-                number: refusal::UNSTORABLE,
-                set: self,
-            };
+            return Err(Refusal::Unstorable);
         }
         if retiming::is_identity(o) {
-            return Prepared {
-                number: 0,
-                set: self,
-            };
+            return Ok(self);
         }
         let n = self.active.count;
         let m = self.knots.count;

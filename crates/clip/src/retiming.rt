@@ -7,7 +7,8 @@ ghost use Rattle.clip.specs.Holding.{ArraysWhole, clip_set_of, manifest_of};
 ghost use Rattle.clip.specs.Storing.{Stores};
 ghost use Rattle.clip.specs.Retiming.{RoomForAll, active_turned, knots_turned, moved_and_sorted};
 
-use crate::{ClipSet, Prepared, storage, storing};
+use crate::{ClipSet, storage, storing};
+use definitions::refusal::Refusal;
 use definitions::{LayerOffset, Missing};
 
 // 2: both of a retiming's numbers are finite.
@@ -68,7 +69,7 @@ fn sort_turned(scale: f64, times: &mut [f64], numbers: &mut [u64], xs: &mut [f64
     }
 }
 
-// The moved set, or the one that went in.
+// The moved set.
 pub fn retime_lists(
     set: ClipSet,
     o: LayerOffset,
@@ -77,7 +78,7 @@ pub fn retime_lists(
     xs: &mut [f64],
     ys: &mut [f64],
     blocks: &mut [f64],
-) -> Prepared
+) -> Result<ClipSet, Refusal>
     requires fact_1 { ArraysWhole set }
     requires fact_2 { RoomForAll set times.old numbers.old xs.old ys.old blocks.old }
     ensures { Stores (clip_set_of set) (moved_and_sorted o (clip_set_of set)) result }
@@ -85,13 +86,10 @@ pub fn retime_lists(
     unpack_moved(set, o, times, numbers, xs, ys, blocks);
     sort_turned(o.scale, times, numbers, xs, ys);
     let default = set.default;
-    let number = storing::lists_number(times, xs, blocks, default);
-    if number != 0 {
-        return Prepared { number, set };
-    }
+    storing::check_lists(times, xs, blocks, default)?;
     let manifest = Missing {
         default,
         interpolate: set.interpolate,
     };
-    storing::store(set.clips, times, numbers, xs, ys, blocks, manifest)
+    Ok(storing::store(set.clips, times, numbers, xs, ys, blocks, manifest))
 }

@@ -3,19 +3,13 @@ ghost use Rattle.std.specs.Prelude.{◌≡◌, ◌≤◌, length};
 ghost use Rattle.definitions.specs.ClipSet.{nan_default, sort_active, sort_knots};
 ghost use Rattle.laws.specs.cell.Lent.{active_of, knots_of, set_of};
 ghost use Rattle.definitions.specs.Examining.{empty_set};
-ghost use Rattle.clip.specs.Preparing.{HandsBack};
+ghost use Rattle.definitions.specs.Refusals.{number_in};
+ghost use Rattle.clip.specs.Holding.{IsHeld};
 ghost use Rattle.clip.specs.Storing.{Fitting, Stores, lists_number};
 
-use crate::{ClipSet, Prepared, storage};
-use definitions::{Default, Missing, refusal};
-
-// A refusal carries its number alone; the set beside it is empty.
-pub fn refused(number: u8) -> Prepared
-    ensures { HandsBack number empty_set result }
-{
-    let set = crate::empty();
-    Prepared { number, set }
-}
+use crate::{ClipSet, storage};
+use definitions::refusal::Refusal;
+use definitions::{Default, Missing};
 
 // A NaN under the mark of a value.
 pub fn is_nan_default(default: Default) -> bool
@@ -27,28 +21,33 @@ pub fn is_nan_default(default: Default) -> bool
     false
 }
 
-pub fn lists_number(times: &[f64], xs: &[f64], blocks: &[f64], default: Default) -> u8
-    ensures { result ≡ lists_number times.now xs.now blocks.now default }
+pub fn check_lists(
+    times: &[f64],
+    xs: &[f64],
+    blocks: &[f64],
+    default: Default,
+) -> Result<(), Refusal>
+    ensures { number_in result ≡ lists_number times.now xs.now blocks.now default }
 {
     if lists::any_unstorable(times) {
-        return refusal::UNSTORABLE;
+        return Err(Refusal::Unstorable);
     }
     if lists::any_unstorable(xs) {
-        return refusal::UNSTORABLE;
+        return Err(Refusal::Unstorable);
     }
     if lists::any_unstorable(blocks) {
-        return refusal::UNSTORABLE;
+        return Err(Refusal::Unstorable);
     }
     if lists::two_equal(times) {
-        return refusal::EQUAL_STARTS;
+        return Err(Refusal::EqualStarts);
     }
     if lists::three_equal(xs) {
-        return refusal::THREE_EQUAL_KNOTS;
+        return Err(Refusal::ThreeEqualKnots);
     }
     if 2 < default.mark {
-        return refusal::BAD_SAMPLES;
+        return Err(Refusal::BadSamples);
     }
-    0
+    Ok(())
 }
 
 // Lists that no number refuses, as a set.
@@ -60,26 +59,25 @@ pub fn store(
     ys: &[f64],
     blocks: &[f64],
     manifest: Missing,
-) -> Prepared
+) -> ClipSet
     requires { Fitting times.now numbers.now xs.now ys.now blocks.now }
-    ensures { HandsBack 0 (set_of clips times.now numbers.now xs.now ys.now blocks.now manifest) result }
+    ensures { IsHeld (set_of clips times.now numbers.now xs.now ys.now blocks.now manifest) result }
 {
     let default = manifest.default;
     let active = storage::pack_active(times, numbers);
     let knots = storage::pack_knots(xs, ys);
     let blocks = storage::pack_blocks(blocks);
-    let set = ClipSet {
+    ClipSet {
         clips,
         active,
         knots,
         blocks,
         default,
         interpolate: manifest.interpolate,
-    };
-    Prepared { number: 0, set }
+    }
 }
 
-// The set of lists in order, or the empty one, where 2, 4, 5 or 9 refuses it.
+// The set of lists in order, unless 2, 4, 5 or 9 refuses it.
 pub fn check_and_store(
     clips: u64,
     times: &[f64],
@@ -88,15 +86,12 @@ pub fn check_and_store(
     ys: &[f64],
     blocks: &[f64],
     manifest: Missing,
-) -> Prepared
+) -> Result<ClipSet, Refusal>
     requires { Fitting times.now numbers.now xs.now ys.now blocks.now }
     ensures { Stores empty_set (set_of clips times.now numbers.now xs.now ys.now blocks.now manifest) result }
 {
-    let number = lists_number(times, xs, blocks, manifest.default);
-    if number != 0 {
-        return refused(number);
-    }
-    store(clips, times, numbers, xs, ys, blocks, manifest)
+    check_lists(times, xs, blocks, manifest.default)?;
+    Ok(store(clips, times, numbers, xs, ys, blocks, manifest))
 }
 
 // Lists in any order, sorted. It stands apart from what stores them, whose arrays are then not on the stack while it sorts.

@@ -1,16 +1,16 @@
-// What a reply is to callers in other languages: each enum as a struct of numbers.
+// What a reply is to callers in other languages: each Result as a struct of numbers, in which a refusal has its number and 0 or false in every other field.
 
 #![tactic(auto)]
 
+pub mod changed;
 pub mod placed;
 
 ghost use Rattle.std.specs.Prelude.{◌≡◌};
-ghost use Rattle.codes.specs.Codes.{clip_code, time_code, sample_code, answer_code, value_code, untimed_code, name_code};
+ghost use Rattle.codes.specs.Codes.{clip_code, time_code, sample_code, answer_code, value_code, state_code, untimed_code, count_code, bake_code};
 
-use definitions::{Answer, ClipTime, SampleRead, ValueState};
-use names::Named;
-use resolver::{ClipReply, TimeReply, UntimedReply, ValueReply};
-use sdf::Counted;
+use definitions::refusal::Refusal;
+use definitions::{Answer, ClipTime, ValueRead, ValueState};
+use track::bake::Baked;
 
 // A clip is active, unless `found` is false.
 #[repr(C)]
@@ -48,45 +48,67 @@ pub struct UntimedCode {
     pub state: u8,
 }
 
-pub fn clip_code(r: ClipReply) -> ClipCode
-    ensures { result ≡ clip_code r }
-{
-    match r {
-        ClipReply::Clip(c) => ClipCode {
-            number: 0,
-            found: true,
-            clip: c,
-        },
-        ClipReply::NoClip => ClipCode {
-            number: 0,
-            found: false,
-            clip: 0,
-        },
-        ClipReply::Refused(n) => ClipCode {
-            number: n,
-            found: false,
-            clip: 0,
-        },
+// How many there are, or were written: a name's bytes, times, samples, changes.
+#[repr(C)]
+#[derive(Clone, Copy)]
+pub struct Counted {
+    pub number: u8,
+    pub count: usize,
+}
+
+// The head of a track, and the number of its changes.
+#[repr(C)]
+#[derive(Clone, Copy)]
+pub struct BakedCode {
+    pub number: u8,
+    pub mark: u8,
+    pub value: f64,
+    pub count: usize,
+}
+
+impl From<Result<Option<u64>, Refusal>> for ClipCode {
+    ghost from_gives = { λ r c. c ≡ clip_code r };
+
+    fn from(r: Result<Option<u64>, Refusal>) -> ClipCode {
+        match r {
+            Ok(Some(clip)) => ClipCode {
+                number: 0,
+                found: true,
+                clip,
+            },
+            Ok(None) => ClipCode {
+                number: 0,
+                found: false,
+                clip: 0,
+            },
+            Err(e) => ClipCode {
+                number: u8::from(e),
+                found: false,
+                clip: 0,
+            },
+        }
     }
 }
 
-pub fn time_code(r: TimeReply) -> TimeCode
-    ensures { result ≡ time_code r }
-{
-    match r {
-        TimeReply::Time(t) => TimeCode { number: 0, time: t },
-        TimeReply::Refused(n) => TimeCode {
-            number: n,
-            time: ClipTime(0.0),
-        },
+impl From<Result<ClipTime, Refusal>> for TimeCode {
+    ghost from_gives = { λ r c. c ≡ time_code r };
+
+    fn from(r: Result<ClipTime, Refusal>) -> TimeCode {
+        match r {
+            Ok(time) => TimeCode { number: 0, time },
+            Err(e) => TimeCode {
+                number: u8::from(e),
+                time: ClipTime(0.0),
+            },
+        }
     }
 }
 
-pub fn sample_code(mark: u8, value: f64, sample: SampleRead) -> ValueCode
+fn sample_code(mark: u8, value: f64, sample: Option<(u64, u64)>) -> ValueCode
     ensures { result ≡ sample_code mark value sample }
 {
     match sample {
-        SampleRead::Of(clip, place) => ValueCode {
+        Some((clip, place)) => ValueCode {
             number: 0,
             mark,
             sampled: true,
@@ -94,7 +116,7 @@ pub fn sample_code(mark: u8, value: f64, sample: SampleRead) -> ValueCode
             clip,
             place,
         },
-        SampleRead::Nothing => ValueCode {
+        None => ValueCode {
             number: 0,
             mark,
             sampled: false,
@@ -105,7 +127,7 @@ pub fn sample_code(mark: u8, value: f64, sample: SampleRead) -> ValueCode
     }
 }
 
-pub fn answer_code(answer: Answer, sample: SampleRead) -> ValueCode
+fn answer_code(answer: Answer, sample: Option<(u64, u64)>) -> ValueCode
     ensures { result ≡ answer_code answer sample }
 {
     match answer {
@@ -115,63 +137,82 @@ pub fn answer_code(answer: Answer, sample: SampleRead) -> ValueCode
     }
 }
 
-pub fn value_code(r: ValueReply) -> ValueCode
-    ensures { result ≡ value_code r }
-{
-    match r {
-        ValueReply::Answered(read) => {
-            let answer = read.answer;
-            let sample = read.sample;
-            answer_code(answer, sample)
+impl From<Result<ValueRead, Refusal>> for ValueCode {
+    ghost from_gives = { λ r c. c ≡ value_code r };
+
+    fn from(r: Result<ValueRead, Refusal>) -> ValueCode {
+        match r {
+            Ok(read) => answer_code(read.answer, read.sample),
+            Err(e) => ValueCode {
+                number: u8::from(e),
+                mark: 0,
+                sampled: false,
+                value: 0.0,
+                clip: 0,
+                place: 0,
+            },
         }
-        ValueReply::Refused(n) => ValueCode {
-            number: n,
-            mark: 0,
-            sampled: false,
-            value: 0.0,
-            clip: 0,
-            place: 0,
-        },
     }
 }
 
-pub fn untimed_code(r: UntimedReply) -> UntimedCode
-    ensures { result ≡ untimed_code r }
+fn state_code(s: ValueState) -> u8
+    ensures { result ≡ state_code s }
 {
-    match r {
-        UntimedReply::Answered(s) => match s {
-            ValueState::Present => UntimedCode {
+    match s {
+        ValueState::Present => 0,
+        ValueState::Blocked => 1,
+        ValueState::Absent => 2,
+    }
+}
+
+impl From<Result<ValueState, Refusal>> for UntimedCode {
+    ghost from_gives = { λ r c. c ≡ untimed_code r };
+
+    fn from(r: Result<ValueState, Refusal>) -> UntimedCode {
+        match r {
+            Ok(s) => UntimedCode {
                 number: 0,
+                state: state_code(s),
+            },
+            Err(e) => UntimedCode {
+                number: u8::from(e),
                 state: 0,
             },
-            ValueState::Blocked => UntimedCode {
-                number: 0,
-                state: 1,
-            },
-            ValueState::Absent => UntimedCode {
-                number: 0,
-                state: 2,
-            },
-        },
-        UntimedReply::Refused(n) => UntimedCode {
-            number: n,
-            state: 0,
-        },
+        }
     }
 }
 
-// The count is the name's length.
-pub fn name_code(r: Named) -> Counted
-    ensures { result ≡ name_code r }
-{
-    match r {
-        Named::Written(n) => Counted {
-            number: 0,
-            count: n,
-        },
-        Named::Refused(n) => Counted {
-            number: n,
-            count: 0,
-        },
+impl From<Result<usize, Refusal>> for Counted {
+    ghost from_gives = { λ r c. c ≡ count_code r };
+
+    fn from(r: Result<usize, Refusal>) -> Counted {
+        match r {
+            Ok(count) => Counted { number: 0, count },
+            Err(e) => {
+                let number = u8::from(e);
+                Counted { number, count: 0 }
+            }
+        }
+    }
+}
+
+impl From<Result<Baked, Refusal>> for BakedCode {
+    ghost from_gives = { λ r c. c ≡ bake_code r };
+
+    fn from(r: Result<Baked, Refusal>) -> BakedCode {
+        match r {
+            Ok(b) => BakedCode {
+                number: 0,
+                mark: b.mark,
+                value: b.value,
+                count: b.count,
+            },
+            Err(e) => BakedCode {
+                number: u8::from(e),
+                mark: 0,
+                value: 0.0,
+                count: 0,
+            },
+        }
     }
 }

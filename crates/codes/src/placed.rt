@@ -1,11 +1,11 @@
-// The reply of a dispatcher to the value question, as a struct of numbers.
+// The replies of a dispatcher as structs of numbers. The place is that of the set that answers, in the order in force, unless `placed` is false.
 ghost use Rattle.std.specs.Prelude.{◌≡◌};
-ghost use Rattle.codes.specs.PlacedCodes.{placed_code};
+ghost use Rattle.codes.specs.PlacedCodes.{placed_code, placed_bake_code};
 
-use crate::{ValueCode, answer_code};
-use set_questions::ValueReply;
+use crate::{BakedCode, ValueCode};
+use definitions::refusal::Refusal;
+use set_questions::{PlacedBake, PlacedRead};
 
-// The value's reply, and the place of the set that answers in the order in force, unless `placed` is false.
 #[repr(C)]
 #[derive(Clone, Copy)]
 pub struct PlacedCode {
@@ -14,35 +14,48 @@ pub struct PlacedCode {
     pub set: u64,
 }
 
-pub fn placed_code(r: ValueReply) -> PlacedCode
-    ensures { result ≡ placed_code r }
-{
-    match r {
-        ValueReply::Answered(x) => {
-            let read = x.read;
-            let answer = read.answer;
-            let sample = read.sample;
-            let reply = answer_code(answer, sample);
-            PlacedCode {
-                reply,
-                placed: x.placed,
-                set: x.set,
-            }
-        }
-        ValueReply::Refused(n) => {
-            let reply = ValueCode {
-                number: n,
-                mark: 0,
-                sampled: false,
-                value: 0.0,
-                clip: 0,
-                place: 0,
-            };
-            PlacedCode {
-                reply,
+#[repr(C)]
+#[derive(Clone, Copy)]
+pub struct PlacedBakeCode {
+    pub baked: BakedCode,
+    pub placed: bool,
+    pub set: u64,
+}
+
+impl From<Result<PlacedRead, Refusal>> for PlacedCode {
+    ghost from_gives = { λ r c. c ≡ placed_code r };
+
+    fn from(r: Result<PlacedRead, Refusal>) -> PlacedCode {
+        match r {
+            Ok(x) => PlacedCode {
+                reply: ValueCode::from(Ok(x.read)),
+                placed: x.place.is_some(),
+                set: x.place.unwrap_or(0),
+            },
+            Err(e) => PlacedCode {
+                reply: ValueCode::from(Err(e)),
                 placed: false,
                 set: 0,
-            }
+            },
+        }
+    }
+}
+
+impl From<Result<PlacedBake, Refusal>> for PlacedBakeCode {
+    ghost from_gives = { λ r c. c ≡ placed_bake_code r };
+
+    fn from(r: Result<PlacedBake, Refusal>) -> PlacedBakeCode {
+        match r {
+            Ok(b) => PlacedBakeCode {
+                baked: BakedCode::from(Ok(b.baked)),
+                placed: b.place.is_some(),
+                set: b.place.unwrap_or(0),
+            },
+            Err(e) => PlacedBakeCode {
+                baked: BakedCode::from(Err(e)),
+                placed: false,
+                set: 0,
+            },
         }
     }
 }

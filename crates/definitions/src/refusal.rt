@@ -1,26 +1,50 @@
-// Why a call is refused, by its number.
+// Why a call is refused.
 
-// A list above its limit, or lists of unlike lengths.
-pub const MISSHAPEN: u8 = 1;
-// A number that is not finite or not storable, or a NaN that is no block.
-pub const UNSTORABLE: u8 = 2;
+ghost use Rattle.std.specs.Prelude.{◌≡◌};
+ghost use Rattle.definitions.specs.Refusals.{number_of};
 
-pub const NO_CLIP_NUMBER: u8 = 3;
+#[derive(Clone, Copy, Debug, PartialEq, Eq)]
+pub enum Refusal {
+    // A list above its limit, or lists of unlike lengths.
+    Misshapen,
+    // A number that is not finite or not storable, or a NaN that is no block.
+    Unstorable,
+    NoClipNumber,
+    EqualStarts,
+    ThreeEqualKnots,
+    UnreadableTemplate,
+    // A template's stride, end or offset.
+    DisorderedTemplate,
+    TooManyClips,
+    // Samples that do not ascend, clip ends that do not close their list, a mark that is none.
+    BadSamples,
+    TimeNotFinite,
+    NoSet,
+    NoRoom,
+    // A set or an order list that a dispatcher cannot take: one set too many, a name that a set has or that is too long, names that do not close
+    // their list.
+    NotTaken,
+}
 
-pub const EQUAL_STARTS: u8 = 4;
+// The number that a caller gets.
+impl From<Refusal> for u8 {
+    ghost from_gives = { λ r n. n ≡ number_of r };
 
-pub const THREE_EQUAL_KNOTS: u8 = 5;
-
-pub const UNREADABLE_TEMPLATE: u8 = 6;
-// A template's stride, end or offset.
-pub const DISORDERED_TEMPLATE: u8 = 7;
-
-pub const TOO_MANY_CLIPS: u8 = 8;
-// Samples that do not ascend, clip ends that do not close their list, a mark that is none.
-pub const BAD_SAMPLES: u8 = 9;
-
-pub const TIME_NOT_FINITE: u8 = 10;
-
-pub const NO_SET: u8 = 20;
-
-pub const NO_ROOM: u8 = 22;
+    fn from(r: Refusal) -> u8 {
+        match r {
+            Refusal::Misshapen => 1,
+            Refusal::Unstorable => 2,
+            Refusal::NoClipNumber => 3,
+            Refusal::EqualStarts => 4,
+            Refusal::ThreeEqualKnots => 5,
+            Refusal::UnreadableTemplate => 6,
+            Refusal::DisorderedTemplate => 7,
+            Refusal::TooManyClips => 8,
+            Refusal::BadSamples => 9,
+            Refusal::TimeNotFinite => 10,
+            Refusal::NoSet => 20,
+            Refusal::NoRoom => 22,
+            Refusal::NotTaken => 23,
+        }
+    }
+}

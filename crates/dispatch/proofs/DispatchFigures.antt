@@ -14,8 +14,8 @@ use Rattle.gf.specs.Doubles.{within, is_whole, truncated, is_clip_number}
 use Rattle.definitions.specs.declared.LayerOffset.{LayerOffset}
 use Rattle.definitions.specs.declared.Answer.{Answer}
 use Rattle.definitions.specs.declared.Answer.TheVariants.{Value, Absent}
-use Rattle.definitions.specs.declared.SampleRead.{SampleRead}
-use Rattle.definitions.specs.declared.SampleRead.TheVariants.{Of, Nothing}
+use Rattle.std.specs.Prelude.{Some, None}
+use Rattle.definitions.specs.Value.{SampleRead}
 use Rattle.definitions.specs.declared.ValueRead.{ValueRead}
 use Rattle.definitions.specs.Lists.{all, below}
 use Rattle.definitions.specs.ClipSet.{mark_none, stage, nan_default, beyond_limits, equal_starts, equal_knots, bad_default_mark}
@@ -125,10 +125,10 @@ abbrev same : Float → Float → Bool
 same a b = eqb (to_bits binary64 a) (to_bits binary64 b)
 
 abbrev same_sample : SampleRead → SampleRead → Bool
-same_sample (Of c i) (Of d j) = eqb c d && eqb i j
-same_sample (Of c i) Nothing = false
-same_sample Nothing (Of d j) = false
-same_sample Nothing Nothing = true
+same_sample (Some (c, i)) (Some (d, j)) = eqb c d && eqb i j
+same_sample (Some (c, i)) None = false
+same_sample None (Some (d, j)) = false
+same_sample None None = true
 
 abbrev same_place : Option ℕ → Option ℕ → Bool
 same_place none none = true
@@ -154,17 +154,17 @@ refuses (replied r) k = false
 table : List Bool
 table =
     -- "list x, A, A, B; x unknown, A not declaring: B answers with place 1"
-    tells (dispatch_value ab (in_order ("x" ∷ "A" ∷ "A" ∷ "B" ∷ [])) both (stage (n 5))) (Value (n 2)) (Of 0 0) (some 1)
+    tells (dispatch_value ab (in_order ("x" ∷ "A" ∷ "A" ∷ "B" ∷ [])) both (stage (n 5))) (Value (n 2)) (Some (0, 0)) (some 1)
     ∷ same_name (order_in_force (in_order ("x" ∷ "B" ∷ "A" ∷ "B" ∷ "A" ∷ [])) (names_of ab)) (1 ∷ 0 ∷ [])
     -- an order list given without names: no set; not given: byte order; sets that the list does not name do not answer
-    ∷ tells (dispatch_value hinge (in_order []) both (stage (n 5))) Absent Nothing none
-    ∷ tells (dispatch_value hinge none both (stage (n 5))) (Value (n 2)) (Of 0 0) (some 0)
-    ∷ tells (dispatch_value hinge (in_order ("fine" ∷ "coarse" ∷ [])) both (stage (n 5))) (Value (n 1)) (Of 0 0) (some 0)
-    ∷ tells (dispatch_value ab (in_order ("A" ∷ [])) both (stage (n 5))) Absent Nothing none
+    ∷ tells (dispatch_value hinge (in_order []) both (stage (n 5))) Absent None none
+    ∷ tells (dispatch_value hinge none both (stage (n 5))) (Value (n 2)) (Some (0, 0)) (some 0)
+    ∷ tells (dispatch_value hinge (in_order ("fine" ∷ "coarse" ∷ [])) both (stage (n 5))) (Value (n 1)) (Some (0, 0)) (some 0)
+    ∷ tells (dispatch_value ab (in_order ("A" ∷ [])) both (stage (n 5))) Absent None none
     ∷ same_name (order_in_force none (names_of four)) (3 ∷ 1 ∷ 2 ∷ 0 ∷ [])
     ∷ same_name (by_name (names_of four) 3) (1 ∷ 2 ∷ 0 ∷ [])
     -- the sample's place counts from the clip's first in the set's own samples
-    ∷ tells (dispatch_value ab none (samples (1 ∷ 2 ∷ []) (1 ∷ 2 ∷ []) (n 0 ∷ n 0 ∷ n 4 ∷ []) (n 1 ∷ n 2 ∷ n 3 ∷ [])) (stage (n 5))) (Value (n 3)) (Of 0 1) (some 1)
+    ∷ tells (dispatch_value ab none (samples (1 ∷ 2 ∷ []) (1 ∷ 2 ∷ []) (n 0 ∷ n 0 ∷ n 4 ∷ []) (n 1 ∷ n 2 ∷ n 3 ∷ [])) (stage (n 5))) (Value (n 3)) (Some (0, 1)) (some 1)
     -- 23 of an order list: a name above 255 bytes, above 255 names, ends that fall or do not close it, bytes without names
     ∷ eqb (order_number (list (long 256) (256 ∷ []))) 23
     ∷ eqb (order_number (list (long 255) (255 ∷ []))) 0
@@ -197,7 +197,7 @@ table =
     ∷ eqb (set_samples_number (clips_of ab) (samples (2 ∷ 1 ∷ []) (2 ∷ 1 ∷ []) (n 1 ∷ n 0 ∷ nan ∷ []) (n 1 ∷ n 1 ∷ n 1 ∷ []))) 2
     ∷ eqb (set_samples_number (clips_of ab) falling) 9
     -- no set at all: nothing lent is accepted, one sample is 1; the order list and t are still judged; 20 is not given
-    ∷ tells (dispatch_value [] none nothing (stage (n 5))) Absent Nothing none
+    ∷ tells (dispatch_value [] none nothing (stage (n 5))) Absent None none
     ∷ refuses (dispatch_value [] none (samples [] [] (n 0 ∷ []) (n 0 ∷ [])) (stage nan)) 1
     ∷ refuses (dispatch_value [] none nothing (stage nan)) 10
     ∷ refuses (dispatch_value [] (list [] (1 ∷ [])) both (stage nan)) 23

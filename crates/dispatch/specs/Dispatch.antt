@@ -5,7 +5,7 @@ use Rattle.std.proofs.Math.ListN.{get_elem?}
 use Rattle.definitions.specs.declared.StageTime.{StageTime}
 use Rattle.definitions.specs.declared.Answer.{Answer}
 use Rattle.definitions.specs.declared.Answer.TheVariants.{Absent}
-use Rattle.definitions.specs.declared.SampleRead.TheVariants.{Nothing}
+use Rattle.std.specs.Prelude.{None}
 use Rattle.definitions.specs.declared.ValueRead.{ValueRead}
 use Rattle.definitions.specs.declared.LayerOffset.{LayerOffset}
 use Rattle.definitions.specs.Lists.{◌then◌}
@@ -47,7 +47,7 @@ named_retime_number sets name o = moved_at (found sets (set_number name (names_o
 -- ---- what answers
 
 abbrev pub nothing_read : ValueRead
-nothing_read = record { answer = Absent; sample = Nothing }
+nothing_read = record { answer = Absent; sample = None }
 
 -- "the answering set's value, with its own samples", and the sample that it was read from
 abbrev pub read_in : Option NamedSet → List NamedSet → SetSamples → ℕ → StageTime → ValueRead

@@ -16,29 +16,9 @@ use Rattle.dispatch.specs.NamedSets.{NamedSet, answering}
 use Rattle.dispatch.specs.Dispatch.{Placed, place_of, dispatch_bake_number}
 use Rattle.dispatch.specs.DispatchCalls.{DispatchCall, explicit, template, install, retime, bake, BakeArguments, dispatch_step, placed_track, DispatchBakes, DispatchDue}
 use Rattle.dispatch.proofs.Due.{due}
-use Rattle.set_questions.specs.declared.PlacedBake.{PlacedBake}
 use Rattle.pages.specs.Pages.{Pages, model, Made}
 use Rattle.pages.specs.Placing.{Begins}
-use Rattle.set_questions.specs.Asking.{is_placed, place_slot, track_code, BakesTrack}
-use Rattle.dispatcher.specs.WholeList.{Moves, place_in, track_reply, Replies, LeadsOn, Demand3}
-
--- the code's reply, read again, is the reply
-place_read : (place : Option ℕ) → place_in (is_placed place) (place_slot place) ≡ place
-place_read none = refl
-place_read (some k) = refl
-
-code_read : (n : ℕ) (x : Placed Baked) → track_reply (track_code (reply n x)) ≡ reply n x
-code_read zero x = ap (λ (place : Option ℕ). reply 0 (record { answer = x.answer; place = place })) (place_read x.place)
-code_read (suc n) x = refl
-
-pub told : (p : Pages) (a : BakeArguments) (o w : Outputs) (b : PlacedBake) → BakesTrack p a o b w → DispatchBakes (model p) a o (track_reply b) w
-told p a o w b k = subst (λ (r : Reply (Placed Baked)). DispatchBakes (model p) a o r w) (sym read) k.bakes
-  where
-    read : track_reply b ≡ k.reply
-    read =
-        ap track_reply (k.code ∙ ap track_code k.bakes.replies)
-        ∙ code_read (dispatch_bake_number (model p) a.order a.samples (slots o) (length k.bakes.track.changes)) (placed_track (place_of (answering a.order (model p))) k.bakes.track)
-        ∙ sym k.bakes.replies
+use Rattle.dispatcher.specs.WholeList.{Moves, Replies, LeadsOn, Demand3}
 
 module _ (lent fresh : Pages) (b : Begins lent true fresh) where
   abbrev Follows : List NamedSet → Pages → Type 0
@@ -56,7 +36,7 @@ module _ (lent fresh : Pages) (b : Begins lent true fresh) where
   follows-fresh = record { is = b.1; made = b.0 }
 
   bakes-due : (p : Pages) (a : BakeArguments) (o : Outputs) (r : Reply (Placed Baked)) (w : Outputs) → Made p → Replies p a o r w → DispatchDue (model p) a o r w
-  bakes-due p a o r w m q = due (model p) a o r w (subst (λ (x : Reply (Placed Baked)). DispatchBakes (model p) a o x w) q.2 (told p a o w q.0 (q.1 m)))
+  bakes-due p a o r w m q = due (model p) a o r w (subst (λ (x : Reply (Placed Baked)). DispatchBakes (model p) a o x w) q.2 (q.1 m))
 
 pub leads-on : LeadsOn
 leads-on lent p q b calls l =

@@ -1,9 +1,9 @@
 -- Demand 3 for this dispatcher, "one claim about the whole list": the statement of the definitions, `DispatchWholeList`, where a call moves the pages and a bake replies
 -- by the very promises that the operations' `ensures` cite. Assumes nothing.
-use Rattle.std.specs.Prelude.{ℕ, ◌≡◌, Bool, true, false, List, []}
-use Rattle.std.proofs.Math.Option.{Option, none, some}
+use Rattle.std.specs.Prelude.{ℕ, ◌≡◌, true, List, [], Result}
+use Rattle.definitions.specs.declared.refusal.Refusal.{Refusal}
 use Rattle.definitions.specs.Track.{Outputs}
-use Rattle.definitions.specs.Questions.{Reply, reply}
+use Rattle.definitions.specs.Questions.{Reply}
 use Rattle.definitions.specs.Calls as calls
 use Rattle.definitions.specs.WholeList.{LeftBy}
 use Rattle.dispatch.specs.Dispatch.{Placed}
@@ -15,7 +15,7 @@ use Rattle.set_questions.specs.declared.PlacedBake.{PlacedBake}
 use Rattle.pages.specs.Pages.{Pages, model, Made}
 use Rattle.pages.specs.Placing.{Begins}
 use Rattle.set_changes.specs.Promises.{Accepts, Expands, Installs, Retimes}
-use Rattle.set_questions.specs.Asking.{BakesTrack}
+use Rattle.set_questions.specs.Asking.{track_reply, BakesTrack}
 
 -- The call, given the pages p, leaves q: what the operation's `ensures` says where its `requires` holds. An installing is given a "set .. that an operation made", whichever it
 -- is. A bake writes no page: p is left.
@@ -26,20 +26,9 @@ Moves (install name declares set) p q = (number : ℕ) × (s : clip.ClipSet) × 
 Moves (retime name o) p q = (number : ℕ) × (Made p → Retimes p name o number q)
 Moves (bake order s o) p q = p ≡ q
 
--- a bake's reply in the definitions' words, by its number and whether it has a place
-abbrev pub place_in : Bool → ℕ → Option ℕ
-place_in true k = some k
-place_in false k = none
-
-abbrev pub track_reply : PlacedBake → Reply (Placed calls.Baked)
-track_reply r = reply r.baked.number (record {
-  answer = record { initial = record { value = r.baked.value; mark = r.baked.mark }; count = r.baked.count };
-  place = place_in r.placed r.set;
-})
-
 -- A bake with the arguments a, given p and the lists o, replies r and leaves the lists w.
 abbrev pub Replies : Pages → BakeArguments → Outputs → Reply (Placed calls.Baked) → Outputs → Type 0
-Replies p a o r w = (b : PlacedBake) × (Made p → BakesTrack p a o b w) × (track_reply b ≡ r)
+Replies p a o r w = (b : Result PlacedBake Refusal) × (Made p → BakesTrack p a o b w) × (track_reply b ≡ r)
 
 -- What calls lead to, in whatever number and order: pages "that an operation made", so that the next call may be given them, and the plain dispatcher's sets in them.
 abbrev pub LeadsOn : Type 0

@@ -19,9 +19,13 @@ use Rattle.laws.proofs.list.Every.{any-not-every, every-to-map, every-zip-left}
 use Rattle.laws.proofs.set.Sound.{sorted-times, sorted-xs}
 use Rattle.laws.proofs.set.SoundExplicit.{ExplicitFits, ExplicitLimits, explicit-limits, explicit-sound}
 use Rattle.laws.specs.cell.Lent.{start, set_of}
-use Rattle.clip.specs.declared.Prepared.{Prepared}
+use Rattle.std.specs.Prelude.{Result, Err}
+use Rattle.definitions.specs.declared.refusal.Refusal.{Refusal}
+use Rattle.definitions.specs.Refusals.{number_of}
+use Rattle.clip.specs.declared.ClipSet.{ClipSet}
 use Rattle.definitions.specs.Examining.{explicitly, empty_set}
-use Rattle.clip.specs.Preparing.{HandsBack, Examines}
+use Rattle.definitions.proofs.Refused.{not-zero}
+use Rattle.clip.specs.Preparing.{Examines}
 use Rattle.clip.specs.Storing.{settle_number, Stores}
 use Rattle.explicit.specs.Parsing.{explicit_fields, any_not_clip, fields_number}
 use Rattle.clip.proofs.Laws.{same_number, every-storable}
@@ -87,8 +91,8 @@ fields-first : (f : ExplicitFields) → (fields_number f ≡ 0 → ⊥) → fiel
 unfolding fields_number explicit_number
 fields-first f h = same_number 1 (explicit1 f) _ _ h (λ h. same_number 2 (explicit2 f) _ _ h (λ h. same_number 3 (explicit3 f) _ _ h (λ h. absurd (h refl))))
 
-pub parse-refuses : (f : ExplicitFields) (n : ℕ) (r : Prepared) → n ≡ fields_number f → (n ≡ 0 → ⊥) → HandsBack n empty_set r → Examines (explicitly f) r
-parse-refuses f n r e h q = examines (explicitly f) r (prepares-not empty_set (explicit_set f) r n (explicit_number f) (e ∙ fields-first f (λ z. h (e ∙ z))) h empty-sound q)
+pub parse-refuses : (f : ExplicitFields) (r : Result ClipSet Refusal) (e : Refusal) → r ≡ Err e → number_of e ≡ fields_number f → Examines (explicitly f) r
+parse-refuses f r e h n = examines (explicitly f) r (prepares-not empty_set (explicit_set f) r e (explicit_number f) h (n ∙ fields-first f (λ z. not-zero e (n ∙ z))) empty-sound)
 
-pub parse-settles : (f : ExplicitFields) (r : Prepared) → ExplicitFits f → fields_number f ≡ 0 → Stores empty_set (explicit_set f) r → Examines (explicitly f) r
+pub parse-settles : (f : ExplicitFields) (r : Result ClipSet Refusal) → ExplicitFits f → fields_number f ≡ 0 → Stores empty_set (explicit_set f) r → Examines (explicitly f) r
 parse-settles f r h z s = examines (explicitly f) r (prepares empty_set (explicit_set f) r (settle_number (explicit_set f)) (explicit_number f) (number_is f (fields-pass f z)) empty-sound (explicit-sound f h) s)

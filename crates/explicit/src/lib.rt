@@ -10,11 +10,12 @@ ghost use Rattle.clip.specs.Holding.{manifest};
 ghost use Rattle.clip.specs.Preparing.{Examines};
 ghost use Rattle.explicit.specs.Parsing.{explicit_fields};
 
-use clip::{Prepared, storing};
+use clip::ClipSet;
 use definitions::limits::{KNOTS, STARTS};
+use definitions::refusal::Refusal;
 use definitions::{Default, Missing};
 
-// Examines the fields: their set, or the empty one, where 1, 2, 3, 4, 5 or 9 refuses them.
+// Examines the fields: their set, unless 1, 2, 3, 4, 5 or 9 refuses them.
 pub fn parse_set(
     clips: u64,
     starts: &[f64],
@@ -24,17 +25,14 @@ pub fn parse_set(
     blocks: &[f64],
     default: Default,
     interpolate: bool,
-) -> Prepared
+) -> Result<ClipSet, Refusal>
     ensures { Examines (explicitly (explicit_fields clips starts.now numbers.now xs.now ys.now blocks.now (manifest default interpolate))) result }
 {
     let manifest = Missing {
         default,
         interpolate,
     };
-    let number = fields::fields_number(clips, starts, numbers, xs, ys, blocks, manifest);
-    if number != 0 {
-        return storing::refused(number);
-    }
+    fields::check_fields(clips, starts, numbers, xs, ys, blocks, manifest)?;
     let n = starts.len();
     let m = xs.len();
     let mut times = [0.0; STARTS];

@@ -7,8 +7,9 @@ ghost use Rattle.definitions.specs.Examining.{empty_set};
 ghost use Rattle.clip.specs.Storing.{Stores};
 ghost use Rattle.explicit.specs.Parsing.{Lent, Indexed, explicit_fields, fields_number};
 
-use clip::{Prepared, storing};
+use clip::{ClipSet, storing};
 use definitions::Missing;
+use definitions::refusal::Refusal;
 
 // The clip numbers as indices. -0.0 is 0.
 fn copy_clips(numbers: &[f64], to: &mut [u64])
@@ -16,10 +17,8 @@ fn copy_clips(numbers: &[f64], to: &mut [u64])
     requires fact_2 { length to.old ≡ length numbers.now }
     ensures { to.new ≡ map truncated numbers.now }
 {
-    let mut i: usize = 0;
-    while i < numbers.len() {
-        to[i] = gf::clip_number::to_index(numbers[i]);
-        i += 1;
+    for (i, number) in numbers.iter().enumerate() {
+        to[i] = gf::clip_number::to_index(*number);
     }
 }
 
@@ -36,15 +35,15 @@ pub fn parse_lists(
     indices: &mut [u64],
     us: &mut [f64],
     vs: &mut [f64],
-) -> Prepared
+) -> Result<ClipSet, Refusal>
     requires fact_1 { fields_number (explicit_fields clips starts.now numbers.now xs.now ys.now blocks.now manifest) ≡ 0 }
     requires fact_2 { Lent starts.now xs.now times.old indices.old us.old vs.old }
     ensures { Stores empty_set (explicit_set (explicit_fields clips starts.now numbers.now xs.now ys.now blocks.now manifest)) result }
 {
-    lists::writing::copy(starts, times);
+    times.copy_from_slice(starts);
     copy_clips(numbers, indices);
-    lists::writing::copy(xs, us);
-    lists::writing::copy(ys, vs);
+    us.copy_from_slice(xs);
+    vs.copy_from_slice(ys);
     storing::sort_lists(times, indices, us, vs);
     storing::check_and_store(clips, times, indices, us, vs, blocks, manifest)
 }

@@ -1,8 +1,7 @@
 -- Figures of the total order and of the keys. `figures`, `numbers`: true ones; `wrong`: false ones, each found false; `zeros-apart`: a promise that no key of both zeros keeps.
 -- Assumes nothing.
-use Rattle.std.proofs.Common.{◌≡◌, ℕ, Bool, true, false, not, ◌&&◌, eqb, ltb, List, [], ◌∷◌, map, pos, refl, arith, lit<}
+use Rattle.std.proofs.Common.{◌≡◌, ℕ, Bool, true, false, not, ◌&&◌, eqb, ltb, List, [], ◌∷◌, map, pos, refl, arith, lit<, Less, Equal, Greater}
 use lib.Ieee.{fin, binary64, to_bits, lt, eq}
-use Rattle.gf.specs.declared.total_order.Order.TheVariants.{Before, Same, After}
 use Rattle.gf.specs.TotalOrder.{smaller, before, order_of, key_of, PlacedBy}
 
 abbrev all_behind : (ℕ → ℕ → Bool) → ℕ → List ℕ → Bool
@@ -41,9 +40,9 @@ figures : (in_aRow before patterns ≡ true)
     × (key_of 0 ≡ 0x8000_0000_0000_0000)
     × (key_of 0x7fff_ffff_ffff_ffff ≡ 0xffff_ffff_ffff_ffff)
     -- NaNs that differ in the last digit of the payload, with a set sign and with a clear one
-    × (order_of 0xfff8_0000_0000_0001 0xfff8_0000_0000_0000 ≡ Before)
-    × (order_of 0x7ff8_0000_0000_0001 0x7ff8_0000_0000_0000 ≡ After)
-    × (order_of 0x7ff8_0000_0000_0001 0x7ff8_0000_0000_0001 ≡ Same)
+    × (order_of 0xfff8_0000_0000_0001 0xfff8_0000_0000_0000 ≡ Less)
+    × (order_of 0x7ff8_0000_0000_0001 0x7ff8_0000_0000_0000 ≡ Greater)
+    × (order_of 0x7ff8_0000_0000_0001 0x7ff8_0000_0000_0001 ≡ Equal)
 unfolding patterns smaller before order_of
 figures = (refl, refl, refl, refl, refl, refl, refl, refl, refl)
 

@@ -1,9 +1,10 @@
 -- The total order of patterns is the order of their keys, and no two patterns have one key. Assumes nothing.
-use Rattle.std.proofs.Common.{◌≡◌, ℕ, ◌+◌, ◌-◌, ◌*◌, ◌%◌, ◌<◌, ◌≤◌, true, false, ◌&&◌, ◌||◌, T, eqb, ltb, ◌⊎◌, sym, ◌∙◌, inl, inr, eq-zero-or-pos, arith, eqb→eq, ltb→lt, lt→ltb, le-ltb, lt-ltb}
+use Rattle.std.proofs.Common.{◌≡◌, ℕ, ◌+◌, ◌-◌, ◌*◌, ◌%◌, ◌<◌, ◌≤◌, true, false, ◌&&◌, ◌||◌, T, eqb, ltb, ◌⊎◌, sym, ◌∙◌, inl, inr, eq-zero-or-pos, arith, eqb→eq, ltb→lt, lt→ltb, le-ltb, lt-ltb, subst, Less, Equal, Greater}
 use lib.Bits.{bit_and, and_mask}
 use lib.Ieee.Fits.{and_l, and_r, and_i, eq→eqb}
 use Rattle.gf.proofs.KeyLaws.{same_test, or_l, or_r, or_split, nat-three}
-use Rattle.gf.specs.declared.total_order.Order.TheVariants.{Before, Same, After}
+use Rattle.std.specs.Cmp.{nat_cmp_is}
+use Rattle.std.specs.Ordering.{nat_cmp}
 use Rattle.gf.specs.TotalOrder.{sign_of, exponent_of, fraction_of, smaller, before, order_of, key_of, KeysInOrder, KeysApart, PlacedBy, Compared}
 
 -- ---- exponent and fraction together: the pattern without its sign
@@ -102,20 +103,22 @@ module _ (a b : ℕ) (p : a < 0x1_0000_0000_0000_0000) (q : b < 0x1_0000_0000_00
   not-before l = sym (in_order a b p q) ∙ le-ltb (key_of a) (key_of b) l
 
 module _ (a b : ℕ) (p : a < 0x1_0000_0000_0000_0000) (q : b < 0x1_0000_0000_0000_0000) where
-  pub compared-before : key_of a < key_of b → Compared a b Before
-  unfolding order_of
-  compared-before l = record { is = rw (is-before a b p q l); same = λ e. absurd (never e) }
-    where
-      never : Before ≡ Same → ⊥
-      never e = let z : ◌≡◌ {A = ℕ} 0 1 = cc in omega arith
+  less : Less ≡ Equal → ⊥
+  less e = cc
 
-  pub compared-after : key_of b < key_of a → Compared a b After
-  unfolding order_of
-  compared-after l = record { is = rw (not-before a b p q (omega arith), is-before b a q p l); same = λ e. absurd (never e) }
-    where
-      never : After ≡ Same → ⊥
-      never e = let z : ◌≡◌ {A = ℕ} 0 1 = cc in omega arith
+  greater : Greater ≡ Equal → ⊥
+  greater e = cc
 
-  pub compared_same : key_of a ≤ key_of b → key_of b ≤ key_of a → Compared a b Same
+  pub compared : Compared a b (nat_cmp (key_of a) (key_of b))
   unfolding order_of
-  compared_same l g = record { is = rw (not-before a b p q g, not-before b a q p l); same = λ e. apart a b p q (omega arith) }
+  compared = elim (nat-three (key_of a) (key_of b)) [
+    | inl l ↦ subst (Compared a b) (nat_cmp_is (key_of a) (key_of b) Less l) (record { is = rw (is-before a b p q l); same = λ e. absurd (less e) })
+    | inr r ↦ elim r [
+      | inl s ↦
+          subst (Compared a b) (nat_cmp_is (key_of a) (key_of b) Equal s)
+          (record { is = rw (not-before a b p q (omega arith), not-before b a q p (omega arith)); same = λ e. apart a b p q s })
+      | inr g ↦
+          subst (Compared a b) (nat_cmp_is (key_of a) (key_of b) Greater g)
+          (record { is = rw (not-before a b p q (omega arith), is-before b a q p g); same = λ e. absurd (greater e) })
+    ]
+  ]

@@ -2,8 +2,8 @@
 -- below 2^64: sign and payload of a NaN are in it, and cannot be had from a double.
 -- Assumes nothing.
 use Rattle.std.specs.Prelude.{◌≡◌, ℕ, ◌+◌, ◌-◌, ◌/◌, ◌%◌, ◌<◌, Bool, cond, ◌&&◌, ◌||◌, ◌==◌, nat_lt}
-use Rattle.gf.specs.declared.total_order.Order.{Order}
-use Rattle.gf.specs.declared.total_order.Order.TheVariants.{Before, Same, After}
+use Rattle.std.specs.declared.cmp.Ordering.{Ordering}
+use Rattle.std.specs.declared.cmp.Ordering.TheVariants.{Less, Equal, Greater}
 
 -- ---- the fields of a pattern
 
@@ -31,8 +31,8 @@ unfoldable pub before : ℕ → ℕ → Bool
 before a b = nat_lt (sign_of b) (sign_of a) || (sign_of a == sign_of b && cond (sign_of a == 0) (smaller a b) (smaller b a))
 
 -- one of two patterns is before the other, or they are the same
-unfoldable pub order_of : ℕ → ℕ → Order
-order_of a b = cond (before a b) Before (cond (before b a) After Same)
+unfoldable pub order_of : ℕ → ℕ → Ordering
+order_of a b = cond (before a b) Less (cond (before b a) Greater Equal)
 
 -- ---- the key
 
@@ -56,6 +56,6 @@ pub record PlacedBy (bits k : ℕ) : Type 0 where
   pub above : (b : ℕ) → b < 0x1_0000_0000_0000_0000 → nat_lt (key_of b) k ≡ before b bits
 
 -- two patterns compared; they are the same for no two that differ
-pub record Compared (a b : ℕ) (r : Order) : Type 0 where
+pub record Compared (a b : ℕ) (r : Ordering) : Type 0 where
   pub is : r ≡ order_of a b
-  pub same : r ≡ Same → a ≡ b
+  pub same : r ≡ Equal → a ≡ b

@@ -27,31 +27,28 @@ pub fn classify(x: f64) -> Class
     ensures { result ≡ class_of x }
 {
     // a NaN has no bit pattern of its own
-    if x != x {
+    if x.is_nan() {
         return Class::NotFinite;
     }
     let f = fields_of(x);
-    let exponent = f.exponent;
-    match exponent {
+    match f.exponent {
         // a zero or a subnormal
-        0 => {
-            if f.fraction == 0 {
-                return Class::Zero;
-            }
-            return Class::Fraction;
-        }
+        0 => if f.fraction == 0 {
+            Class::Zero
+        } else {
+            Class::Fraction
+        },
         // below 1
-        1..=1022 => return Class::Fraction,
+        1..=1022 => Class::Fraction,
         // the digits below the point are the fraction's low 1075 - exponent ones
-        1023..=1074 => {
-            if ends_in_zeros(f.fraction, 1075 - exponent) {
-                return Class::Whole;
-            }
-            return Class::Fraction;
-        }
+        1023..=1074 => if ends_in_zeros(f.fraction, 1075 - f.exponent) {
+            Class::Whole
+        } else {
+            Class::Fraction
+        },
         // from 2^52 on there are no digits below the point
-        1075..=2046 => return Class::Whole,
-        _ => return Class::NotFinite,
+        1075..=2046 => Class::Whole,
+        _ => Class::NotFinite,
     }
 }
 
@@ -59,11 +56,5 @@ pub fn classify(x: f64) -> Class
 pub fn is_whole(x: f64) -> bool
     ensures { result ≡ is_whole x }
 {
-    let c = classify(x);
-    match c {
-        Class::Zero => true,
-        Class::Fraction => false,
-        Class::Whole => true,
-        Class::NotFinite => false,
-    }
+    matches!(classify(x), Class::Zero | Class::Whole)
 }

@@ -6,6 +6,9 @@ ghost use Rattle.gf.specs.Doubles.{0·0, is_whole, truncated, is_clip_number};
 
 use crate::class::is_whole;
 
+// 2^64: from there on a number is above every count.
+const BEYOND_COUNTS: f64 = 18446744073709551616.0;
+
 // The whole number `x` as an index. -0.0 is 0.
 pub fn to_index(x: f64) -> u64
     requires { T (is_whole x) × T (le 0·0 x) × (truncated x < 0x1_0000_0000_0000_0000) }
@@ -18,13 +21,5 @@ pub fn to_index(x: f64) -> u64
 pub fn is_clip_number(x: f64, clips: u64) -> bool
     ensures { result ≡ is_clip_number clips x }
 {
-    if is_whole(x) {
-        if 0.0 <= x {
-            // 2^64: from there on `x` is above every count
-            if x < 18446744073709551616.0 {
-                return to_index(x) < clips;
-            }
-        }
-    }
-    false
+    is_whole(x) && 0.0 <= x && x < BEYOND_COUNTS && to_index(x) < clips
 }

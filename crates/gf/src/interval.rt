@@ -14,11 +14,6 @@ impl Interval {
     pub fn contains(self, x: f64) -> bool
         ensures { result ≡ (le self.min x && lt x self.max) }
     {
-        let min = self.min;
-        let max = self.max;
-        if min <= x {
-            return x < max;
-        }
-        false
+        self.min <= x && x < self.max
     }
 }

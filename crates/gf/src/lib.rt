@@ -14,8 +14,8 @@ ghost use Rattle.std.specs.Prelude.{◌≡◌, ◌≤◌, not, T, is_nan};
 ghost use Rattle.std.specs.Float.Ieee.Scale.{finite};
 ghost use Rattle.gf.specs.Doubles as Doubles;
 
-use crate::class::{Class, classify};
 use crate::magnitude::without_sign;
+use std::num::f64_to_bits_with_nan;
 
 // The keys of the lowest and of the greatest finite double.
 pub const LEAST: u64 = 0x0010_0000_0000_0001;
@@ -27,7 +27,7 @@ pub fn key(x: f64) -> u64
     requires { T (not (is_nan x)) }
     ensures { result ≡ Doubles.key x }
 {
-    let b = f64::to_bits(x);
+    let b = x.to_bits();
     if b < 0x8000_0000_0000_0000 {
         0x8000_0000_0000_0000 + b
     } else {
@@ -58,36 +58,23 @@ pub fn lerp(x0: f64, x1: f64, y0: f64, y1: f64, t: f64) -> f64
 const MOST_STORED: f64 = 1099511627776.0;
 
 // Finite, and of magnitude at most 2^40: a time that may be stored. Both tests compile to one comparison without a
-// branch, so that the loops over lists vectorise.
+// branch, so that no step of a loop over a list branches.
 pub fn is_storable(x: f64) -> bool
     ensures { result ≡ Doubles.storable x }
 {
-    if x != x {
-        return false;
-    }
-    without_sign(x) <= MOST_STORED
+    !x.is_nan() && without_sign(x) <= MOST_STORED
 }
 
 // Neither a NaN nor an infinity.
 pub fn is_finite(x: f64) -> bool
     ensures { result ≡ finite x }
 {
-    let c = classify(x);
-    match c {
-        Class::Zero => true,
-        Class::Fraction => true,
-        Class::Whole => true,
-        Class::NotFinite => false,
-    }
+    x.is_finite()
 }
 
-// A number whose order is that of `f64::total_cmp`, which places -0.0 before 0.0.
+// A number whose order is that of `f64::total_cmp`, which places -0.0 before 0.0. One pattern stands for every NaN.
 pub fn total_key(x: f64) -> u64
     ensures { result ≡ Doubles.total_key x }
 {
-    // the key of the pattern 7ff8_0000_0000_0000, which stands for every NaN
-    if x != x {
-        return 0xfff8_0000_0000_0000;
-    }
-    total_order::key(f64::to_bits(x))
+    total_order::key(f64_to_bits_with_nan(x))
 }

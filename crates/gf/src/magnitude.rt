@@ -18,8 +18,5 @@ pub fn without_sign(x: f64) -> f64
 pub fn abs(x: f64) -> f64
     ensures { result ≡ Doubles.abs x }
 {
-    if x != x {
-        return x;
-    }
-    without_sign(x)
+    x.abs()
 }

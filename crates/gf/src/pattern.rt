@@ -31,7 +31,7 @@ pub fn fields_of(x: f64) -> Fields
     requires { T (not (is_nan x)) }
     ensures { result ≡ fields_of x }
 {
-    let bits = f64::to_bits(x);
+    let bits = x.to_bits();
     Fields {
         exponent: (bits >> EXPONENT_AT) & EXPONENT_MASK,
         fraction: bits & FRACTION_MASK,

@@ -15,20 +15,12 @@ pub fn inverse(sa: f64, sb: f64, ca: f64, cb: f64, c: f64) -> f64
 fn lies_between(lo: f64, hi: f64, c: f64) -> bool
     ensures { result ≡ (lt lo hi && le lo c && le c hi) }
 {
-    if lo < hi {
-        if lo <= c {
-            return c <= hi;
-        }
-    }
-    false
+    lo < hi && lo <= c && c <= hi
 }
 
 // Whether `c` lies between the two clip times, ends included. Equal clip times span nothing.
 pub fn spans(ca: f64, cb: f64, c: f64) -> bool
     ensures { result ≡ spans_of ca cb c }
 {
-    if lies_between(ca, cb, c) {
-        return true;
-    }
-    lies_between(cb, ca, c)
+    lies_between(ca, cb, c) || lies_between(cb, ca, c)
 }

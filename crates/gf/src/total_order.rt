@@ -4,13 +4,7 @@
 ghost use Rattle.std.specs.Prelude.{◌≡◌};
 ghost use Rattle.gf.specs.TotalOrder.{key_of, PlacedBy, Compared};
 
-// How the first of two patterns stands to the second.
-#[derive(Clone, Copy)]
-pub enum Order {
-    Before,
-    Same,
-    After,
-}
+use std::cmp::Ordering;
 
 // A number that is lower exactly if the pattern comes earlier. Nothing branches on the sign: it is a factor, 0 or 1.
 pub fn key(bits: u64) -> u64
@@ -23,16 +17,9 @@ pub fn key(bits: u64) -> u64
     (1 - sign) * (0x8000_0000_0000_0000 + size) + sign * turned
 }
 
-pub fn compare(a: u64, b: u64) -> Order
+// How the first of two patterns stands to the second.
+pub fn compare(a: u64, b: u64) -> Ordering
     ensures { Compared a b result }
 {
-    let first = key(a);
-    let second = key(b);
-    if first < second {
-        return Order::Before;
-    }
-    if second < first {
-        return Order::After;
-    }
-    Order::Same
+    key(a).cmp(&key(b))
 }

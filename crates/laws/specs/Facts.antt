@@ -1,17 +1,15 @@
 -- What docs/VALUE-CLIPS.md claims of the definitions, for every well-formed set and samples that are accepted for it. Assumes nothing.
-use Rattle.std.specs.Prelude.{◌≡◌, List, ℕ, ◌+◌, ◌<◌, T, length, get_or, Float}
+use Rattle.std.specs.Prelude.{◌≡◌, Some, None, List, ℕ, ◌+◌, ◌<◌, T, length, get_or, Float}
 use Rattle.std.proofs.Math.Option.{Option, none, some}
 use Rattle.gf.specs.Doubles.{0·0}
 use Rattle.definitions.specs.declared.StageTime.{StageTime}
 use Rattle.definitions.specs.declared.Answer.{Answer}
 use Rattle.definitions.specs.declared.Answer.TheVariants.{Value}
-use Rattle.definitions.specs.declared.SampleRead.{SampleRead}
-use Rattle.definitions.specs.declared.SampleRead.TheVariants.{Of, Nothing}
 use Rattle.definitions.specs.Doubles.{FiniteDouble}
 use Rattle.definitions.specs.ClipSet.{ClipSet, mark_value}
 use Rattle.definitions.specs.Timing.{active_position}
 use Rattle.definitions.specs.Samples.{Samples, clip_begin, clip_end, samples_number}
-use Rattle.definitions.specs.Value.{lower_neighbour, upper_neighbour, value_in_set, value_read}
+use Rattle.definitions.specs.Value.{SampleRead, lower_neighbour, upper_neighbour, value_in_set, value_read}
 use Rattle.definitions.specs.StageSamples.{in_order, stage_sample_times}
 use Rattle.definitions.specs.Facts.{StageSampleTimesAre, last_up_to, first_above, same_time, value_in_order}
 use Rattle.laws.specs.list.Every.{Every}
@@ -41,8 +39,8 @@ ValueInOrder = (set : ClipSet) (s : Samples) → Given set s → (t : StageTime)
 
 -- its clip
 abbrev pub clip_read : SampleRead → Option ℕ
-clip_read (Of c i) = some c
-clip_read Nothing = none
+clip_read (Some (c, i)) = some c
+clip_read None = none
 
 -- the clip c has a sample at its place i, whose number is the answer
 pub record Stands (s : Samples) (c i : ℕ) (a : Answer) : Type 0 where
@@ -53,7 +51,7 @@ pub record Stands (s : Samples) (c i : ℕ) (a : Answer) : Type 0 where
 
 -- "The sample stands in the lent lists at its clip's beginning and its place."
 abbrev pub SampleStands : Type 0
-SampleStands = (set : ClipSet) (s : Samples) → Given set s → (t : StageTime) (c i : ℕ) → (value_read set s t).sample ≡ Of c i → Stands s c i (value_read set s t).answer
+SampleStands = (set : ClipSet) (s : Samples) → Given set s → (t : StageTime) (c i : ℕ) → (value_read set s t).sample ≡ Some (c, i) → Stands s c i (value_read set s t).answer
 
 -- "From a start up to the next every number is read from one clip, or from none."
 abbrev pub OneClip : Type 0

@@ -1,9 +1,3 @@
-// A search over the keys of doubles replies with a key, or with none.
+// The laws that the crates above share: specs and proofs, and no code.
 
 #![tactic(auto)]
-
-#[derive(Clone, Copy)]
-pub enum Next {
-    At(u64),
-    Nothing,
-}

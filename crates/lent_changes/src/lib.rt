@@ -2,16 +2,18 @@
 
 #![tactic(auto)]
 
+ghost use Rattle.definitions.specs.Refusals.{number_in};
 ghost use Rattle.clip.specs.Holding.{manifest};
 ghost use Rattle.clip.specs.Preparing.{MadeSet};
 ghost use Rattle.explicit.specs.Parsing.{explicit_fields};
 ghost use Rattle.template.specs.Expanding.{template_fields};
-ghost use Rattle.resolver.specs.State.{Made, lent_state, settled_state};
+ghost use Rattle.resolver.specs.State.{Made, left, lent_state};
 ghost use Rattle.resolver.specs.Promises.{BeginsLent, Accepts, Expands, Retimes, Installs};
 
 use clip::ClipSet;
-use definitions::{Default, LayerOffset, Missing, TemplateTimes, refusal};
-use resolver::{Settled, Shape};
+use definitions::refusal::Refusal;
+use definitions::{Default, LayerOffset, Missing, TemplateTimes};
+use resolver::Shape;
 use standing::Counts;
 
 // No set stands, whatever the lists hold.
@@ -55,9 +57,9 @@ pub fn accept(
     newblocks: &[f64],
     default: Default,
     interpolate: bool,
-) -> Settled
+) -> Result<Shape, Refusal>
     requires { Made (lent_state shape starts.old numbers.old xs.old ys.old blocks.old) }
-    ensures { Accepts (lent_state shape starts.old numbers.old xs.old ys.old blocks.old) (explicit_fields clips newstarts.now newnumbers.now newxs.now newys.now newblocks.now (manifest default interpolate)) (settled_state result starts.new numbers.new xs.new ys.new blocks.new) }
+    ensures { Accepts (lent_state shape starts.old numbers.old xs.old ys.old blocks.old) (explicit_fields clips newstarts.now newnumbers.now newxs.now newys.now newblocks.now (manifest default interpolate)) (number_in result) (lent_state (left shape result) starts.new numbers.new xs.new ys.new blocks.new) }
 {
     let prepared = explicit::parse_set(
         clips,
@@ -68,18 +70,8 @@ pub fn accept(
         newblocks,
         default,
         interpolate,
-    );
-    if prepared.number != 0 {
-        return Settled {
-            number: prepared.number,
-            shape,
-        };
-    }
-    let next = install(shape, starts, numbers, xs, ys, blocks, prepared.set);
-    Settled {
-        number: 0,
-        shape: next,
-    }
+    )?;
+    Ok(install(shape, starts, numbers, xs, ys, blocks, prepared))
 }
 
 // The set that the template expands to takes the place of the standing one, unless a number refuses it.
@@ -97,9 +89,9 @@ pub fn accept_template(
     newblocks: &[f64],
     default: Default,
     interpolate: bool,
-) -> Settled
+) -> Result<Shape, Refusal>
     requires { Made (lent_state shape starts.old numbers.old xs.old ys.old blocks.old) }
-    ensures { Expands (lent_state shape starts.old numbers.old xs.old ys.old blocks.old) (template_fields template.now times offset newblocks.now (manifest default interpolate)) (settled_state result starts.new numbers.new xs.new ys.new blocks.new) }
+    ensures { Expands (lent_state shape starts.old numbers.old xs.old ys.old blocks.old) (template_fields template.now times offset newblocks.now (manifest default interpolate)) (number_in result) (lent_state (left shape result) starts.new numbers.new xs.new ys.new blocks.new) }
 {
     let expanded = template::expand_template(
         template,
@@ -108,18 +100,8 @@ pub fn accept_template(
         newblocks,
         default,
         interpolate,
-    );
-    if expanded.number != 0 {
-        return Settled {
-            number: expanded.number,
-            shape,
-        };
-    }
-    let next = install(shape, starts, numbers, xs, ys, blocks, expanded.set);
-    Settled {
-        number: 0,
-        shape: next,
-    }
+    )?;
+    Ok(install(shape, starts, numbers, xs, ys, blocks, expanded))
 }
 
 // The prepared set takes the place of the standing one. Nothing refuses it.
@@ -159,15 +141,12 @@ pub fn retime(
     ys: &mut [f64],
     blocks: &mut [f64],
     o: LayerOffset,
-) -> Settled
+) -> Result<Shape, Refusal>
     requires { Made (lent_state shape starts.old numbers.old xs.old ys.old blocks.old) }
-    ensures { Retimes (lent_state shape starts.old numbers.old xs.old ys.old blocks.old) o (settled_state result starts.new numbers.new xs.new ys.new blocks.new) }
+    ensures { Retimes (lent_state shape starts.old numbers.old xs.old ys.old blocks.old) o (number_in result) (lent_state (left shape result) starts.new numbers.new xs.new ys.new blocks.new) }
 {
     if !shape.stands {
-        return Settled {
-            number: refusal::NO_SET,
-            shape,
-        };
+        return Err(Refusal::NoSet);
     }
     let set = standing::packed(
         shape.clips,
@@ -179,16 +158,6 @@ pub fn retime(
         shape.counts,
         shape.manifest,
     );
-    let moved = set.retime_stage_times(o);
-    if moved.number != 0 {
-        return Settled {
-            number: moved.number,
-            shape,
-        };
-    }
-    let next = install(shape, starts, numbers, xs, ys, blocks, moved.set);
-    Settled {
-        number: 0,
-        shape: next,
-    }
+    let moved = set.retime_stage_times(o)?;
+    Ok(install(shape, starts, numbers, xs, ys, blocks, moved))
 }

@@ -2,19 +2,15 @@
 
 #![tactic(auto)]
 
-ghost use Rattle.std.specs.Prelude.{◌≡◌};
 ghost use Rattle.definitions.specs.Moments.{outputs};
-ghost use Rattle.definitions.specs.Questions.{refused};
 ghost use Rattle.laws.specs.cell.Lent.{samples_of};
-ghost use Rattle.track.specs.Bakes.{bake_code};
 ghost use Rattle.resolver.specs.State.{Made, lent_state};
 ghost use Rattle.resolver.specs.Promises.{BakesTrack, TellsTimes, TellsSamples, TellsSampleCount, TellsChangeCount, TellsClip, TellsTime, TellsValue, TellsUntimed};
 
-use definitions::{StageTime, refusal};
-use resolver::{ClipReply, Shape, TimeReply, UntimedReply, ValueReply};
-use sdf::Counted;
+use definitions::refusal::Refusal;
+use definitions::{ClipTime, StageTime, ValueRead, ValueState};
+use resolver::Shape;
 use standing::questions;
-use standing::questions::ActiveClip;
 use track::bake::Baked;
 
 // The clip time at a stage time, by the standing set's knots.
@@ -26,17 +22,17 @@ pub fn clip_time<'a>(
     ys: &'a [f64],
     blocks: &'a [f64],
     t: StageTime,
-) -> TimeReply
+) -> Result<ClipTime, Refusal>
     requires { Made (lent_state shape starts.now numbers.now xs.now ys.now blocks.now) }
     ensures { TellsTime (lent_state shape starts.now numbers.now xs.now ys.now blocks.now) t result }
 {
     if !shape.stands {
-        return TimeReply::Refused(refusal::NO_SET);
+        return Err(Refusal::NoSet);
     }
     if !gf::is_finite(t.0) {
-        return TimeReply::Refused(refusal::TIME_NOT_FINITE);
+        return Err(Refusal::TimeNotFinite); // 10, not 2: any finite time may be asked about
     }
-    TimeReply::Time(questions::map_stage_to_clip(xs, ys, shape.counts.knots, t))
+    Ok(questions::map_stage_to_clip(xs, ys, shape.counts.knots, t))
 }
 
 // The clip that is active at a stage time, none in a set without starts.
@@ -48,21 +44,17 @@ pub fn active_clip<'a>(
     ys: &'a [f64],
     blocks: &'a [f64],
     t: StageTime,
-) -> ClipReply
+) -> Result<Option<u64>, Refusal>
     requires { Made (lent_state shape starts.now numbers.now xs.now ys.now blocks.now) }
     ensures { TellsClip (lent_state shape starts.now numbers.now xs.now ys.now blocks.now) t result }
 {
     if !shape.stands {
-        return ClipReply::Refused(refusal::NO_SET);
+        return Err(Refusal::NoSet); // that is not "no clip"
     }
     if !gf::is_finite(t.0) {
-        return ClipReply::Refused(refusal::TIME_NOT_FINITE);
+        return Err(Refusal::TimeNotFinite);
     }
-    let active = questions::active_clip(starts, numbers, shape.counts.starts, t);
-    match active {
-        ActiveClip::Clip(c) => ClipReply::Clip(c),
-        ActiveClip::NoClip => ClipReply::NoClip,
-    }
+    Ok(questions::active_clip(starts, numbers, shape.counts.starts, t))
 }
 
 // The value at a stage time, and the sample that it was read from.
@@ -78,21 +70,18 @@ pub fn value<'a>(
     marks: &[u8],
     ends: &[u64],
     t: StageTime,
-) -> ValueReply
+) -> Result<ValueRead, Refusal>
     requires { Made (lent_state shape starts.now numbers.now xs.now ys.now blocks.now) }
     ensures { TellsValue (lent_state shape starts.now numbers.now xs.now ys.now blocks.now) (samples_of times.now values.now marks.now ends.now) t result }
 {
     if !shape.stands {
-        return ValueReply::Refused(refusal::NO_SET);
+        return Err(Refusal::NoSet); // 20 comes first
     }
-    let number = sdf::samples_number(shape.clips, times, values, marks, ends);
-    if number != 0 {
-        return ValueReply::Refused(number);
-    }
+    sdf::check_samples(shape.clips, times, values, marks, ends)?; // 1, 2, 9 before 10
     if !gf::is_finite(t.0) {
-        return ValueReply::Refused(refusal::TIME_NOT_FINITE);
+        return Err(Refusal::TimeNotFinite);
     }
-    ValueReply::Answered(questions::value(
+    Ok(questions::value(
         starts,
         numbers,
         xs,
@@ -120,18 +109,15 @@ pub fn untimed<'a>(
     values: &[f64],
     marks: &[u8],
     ends: &[u64],
-) -> UntimedReply
+) -> Result<ValueState, Refusal>
     requires { Made (lent_state shape starts.now numbers.now xs.now ys.now blocks.now) }
     ensures { TellsUntimed (lent_state shape starts.now numbers.now xs.now ys.now blocks.now) (samples_of times.now values.now marks.now ends.now) result }
 {
     if !shape.stands {
-        return UntimedReply::Refused(refusal::NO_SET);
+        return Err(Refusal::NoSet);
     }
-    let number = sdf::samples_number(shape.clips, times, values, marks, ends);
-    if number != 0 {
-        return UntimedReply::Refused(number);
-    }
-    UntimedReply::Answered(questions::untimed(numbers, shape.counts.starts, shape.manifest, ends))
+    sdf::check_samples(shape.clips, times, values, marks, ends)?; // whichever of 1, 2, 9 it is
+    Ok(questions::untimed(numbers, shape.counts.starts, shape.manifest, ends))
 }
 
 // The stage sample times, written to the lent list.
@@ -147,17 +133,14 @@ pub fn stage_sample_times<'a>(
     marks: &[u8],
     ends: &[u64],
     out: &mut [f64],
-) -> Counted
+) -> Result<usize, Refusal>
     requires { Made (lent_state shape starts.now numbers.now xs.now ys.now blocks.now) }
     ensures { TellsTimes (lent_state shape starts.now numbers.now xs.now ys.now blocks.now) (samples_of times.now values.now marks.now ends.now) out.old out.new result }
 {
     if !shape.stands {
-        return refused_list(refusal::NO_SET);
+        return Err(Refusal::NoSet);
     }
-    let number = sdf::samples_number(shape.clips, times, values, marks, ends);
-    if number != 0 {
-        return refused_list(number);
-    }
+    sdf::check_samples(shape.clips, times, values, marks, ends)?;
     questions::stage_sample_times(starts, numbers, xs, ys, shape.counts, times, ends, out)
 }
 
@@ -175,17 +158,14 @@ pub fn stage_samples<'a>(
     ends: &[u64],
     outtimes: &mut [f64],
     outmarks: &mut [u8],
-) -> Counted
+) -> Result<usize, Refusal>
     requires { Made (lent_state shape starts.now numbers.now xs.now ys.now blocks.now) }
     ensures { TellsSamples (lent_state shape starts.now numbers.now xs.now ys.now blocks.now) (samples_of times.now values.now marks.now ends.now) outtimes.old outtimes.new outmarks.old outmarks.new result }
 {
     if !shape.stands {
-        return refused_list(refusal::NO_SET);
+        return Err(Refusal::NoSet);
     }
-    let number = sdf::samples_number(shape.clips, times, values, marks, ends);
-    if number != 0 {
-        return refused_list(number);
-    }
+    sdf::check_samples(shape.clips, times, values, marks, ends)?;
     questions::stage_samples(
         starts,
         numbers,
@@ -214,22 +194,15 @@ pub fn stage_sample_count<'a>(
     values: &[f64],
     marks: &[u8],
     ends: &[u64],
-) -> Counted
+) -> Result<usize, Refusal>
     requires { Made (lent_state shape starts.now numbers.now xs.now ys.now blocks.now) }
     ensures { TellsSampleCount (lent_state shape starts.now numbers.now xs.now ys.now blocks.now) (samples_of times.now values.now marks.now ends.now) result }
 {
     if !shape.stands {
-        return refused_list(refusal::NO_SET);
+        return Err(Refusal::NoSet);
     }
-    let refused = sdf::samples_number(shape.clips, times, values, marks, ends);
-    if refused != 0 {
-        return refused_list(refused);
-    }
-    let samples = questions::stage_sample_count(starts, numbers, xs, ys, shape.counts, times, ends);
-    Counted {
-        number: 0,
-        count: samples,
-    }
+    sdf::check_samples(shape.clips, times, values, marks, ends)?; // a count is of accepted samples
+    Ok(questions::stage_sample_count(starts, numbers, xs, ys, shape.counts, times, ends))
 }
 
 // How many changes the track has: the slots to lend for a bake.
@@ -244,18 +217,15 @@ pub fn change_count<'a>(
     values: &[f64],
     marks: &[u8],
     ends: &[u64],
-) -> Counted
+) -> Result<usize, Refusal>
     requires { Made (lent_state shape starts.now numbers.now xs.now ys.now blocks.now) }
     ensures { TellsChangeCount (lent_state shape starts.now numbers.now xs.now ys.now blocks.now) (samples_of times.now values.now marks.now ends.now) result }
 {
     if !shape.stands {
-        return refused_list(refusal::NO_SET);
+        return Err(Refusal::NoSet);
     }
-    let judged = sdf::samples_number(shape.clips, times, values, marks, ends);
-    if judged != 0 {
-        return refused_list(judged);
-    }
-    let changes = questions::change_count(
+    sdf::check_samples(shape.clips, times, values, marks, ends)?; // no 22: nothing is written
+    Ok(questions::change_count(
         starts,
         numbers,
         xs,
@@ -267,11 +237,7 @@ pub fn change_count<'a>(
         values,
         marks,
         ends,
-    );
-    Counted {
-        number: 0,
-        count: changes,
-    }
+    ))
 }
 
 // The track of the standing set's value: the head and the count, and the changes written to the lent lists.
@@ -289,17 +255,14 @@ pub fn bake<'a>(
     outtimes: &mut [f64],
     outvalues: &mut [f64],
     outmarks: &mut [u8],
-) -> Baked
+) -> Result<Baked, Refusal>
     requires { Made (lent_state shape starts.now numbers.now xs.now ys.now blocks.now) }
     ensures { BakesTrack (lent_state shape starts.now numbers.now xs.now ys.now blocks.now) (samples_of times.now values.now marks.now ends.now) (outputs outtimes.old outvalues.old outmarks.old) result (outputs outtimes.new outvalues.new outmarks.new) }
 {
     if !shape.stands {
-        return refused_bake(refusal::NO_SET);
+        return Err(Refusal::NoSet);
     }
-    let number = sdf::samples_number(shape.clips, times, values, marks, ends);
-    if number != 0 {
-        return refused_bake(number);
-    }
+    sdf::check_samples(shape.clips, times, values, marks, ends)?; // 1, 2, 9 before 22
     questions::bake(
         starts,
         numbers,
@@ -316,21 +279,4 @@ pub fn bake<'a>(
         outvalues,
         outmarks,
     )
-}
-
-fn refused_bake(number: u8) -> Baked
-    ensures { result ≡ bake_code (refused number) }
-{
-    Baked {
-        number,
-        mark: 0,
-        value: 0.0,
-        count: 0,
-    }
-}
-
-fn refused_list(number: u8) -> Counted
-    ensures { (result.number ≡ number) × (result.count ≡ 0) }
-{
-    Counted { number, count: 0 }
 }

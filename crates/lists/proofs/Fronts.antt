@@ -1,14 +1,12 @@
 -- A list from a place on: its first entry and the rest, and what a test over the whole list comes to there. Assumes nothing.
-use mathlib.Core.Path.{◌≡◌, refl, sym, ap, ap₂, ◌∙◌}
+use mathlib.Core.Path.{◌≡◌, ap, ◌∙◌}
 use mathlib.Core.Bool.{Bool, true, false, ◌||◌, cond}
 use mathlib.Core.List.{List, [], ◌∷◌}
 use Prim.Native.Nat.{ℕ, ◌+◌, ◌≤◌, ◌<◌}
 use native.Mathlib.Numerals.{add-one}
 use native.Mathlib.Omega.{arith}
-use lib.Dec.{ltb}
 use lib.ListN.{length, get_or, drop, drop_of_length-le}
 use lib.Seq.{drop-cons}
-use borrow.Author.Tests.{lt-ltb}
 use Rattle.definitions.specs.Lists.{any}
 
 module _ {A : Type 0} where
@@ -28,28 +26,6 @@ module _ {A : Type 0} (p : A → Bool) (l : List A) (i : ℕ) where
 
   pub any-end : length l ≤ i → any p (drop i l) ≡ false
   any-end h = ap (any p) (no_front l i h)
-
-  -- so many have passed before i: with the entry at i, one more or as many
-  pub any_found : (found : ℕ) (d : A) → i < length l → (ltb 0 found || any p (drop i l)) ≡ (ltb 0 (found + cond (p (get_or l i d)) 1 0) || any p (drop (i + 1) l))
-  any_found found d h = go (p (get_or l i d)) refl
-    where
-      either : (b : Bool) → (b || true) ≡ true
-      either true = refl
-      either false = refl
-
-      go : (b : Bool) → p (get_or l i d) ≡ b → (ltb 0 found || any p (drop i l)) ≡ (ltb 0 (found + cond b 1 0) || any p (drop (i + 1) l))
-      go true e =
-          ap (λ (b : Bool). ltb 0 found || b) (any_here d h e) ∙ either (ltb 0 found)
-          ∙ sym (ap (λ (b : Bool). b || any p (drop (i + 1) l)) (lt-ltb 0 (found + 1) (omega arith)))
-      go false e = let q : found ≡ found + 0 = omega arith in ap₂ (λ (n : ℕ) (b : Bool). ltb 0 n || b) q (any-later d h e)
-
-  -- none is left: those counted answer
-  pub counted-all : (found : ℕ) → length l ≤ i → any p l ≡ (ltb 0 found || any p (drop i l)) → ltb 0 found ≡ any p l
-  counted-all found h e = sym (e ∙ ap (λ (b : Bool). ltb 0 found || b) (any-end h) ∙ or-false (ltb 0 found))
-    where
-      or-false : (b : Bool) → (b || false) ≡ b
-      or-false true = refl
-      or-false false = refl
 
 -- what is counted of one entry
 pub at_most_one : (b : Bool) {n : ℕ} → n ≡ cond b 1 0 → n ≤ 1

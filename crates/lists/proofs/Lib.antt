@@ -1,6 +1,7 @@
 -- Laws that belong to no one function.
 pub mod ClipTimes
-pub mod Neighbours
+pub mod Windows
+pub mod Counted
 pub mod Buckets
 pub mod ByDigits
 pub mod ByPlaces

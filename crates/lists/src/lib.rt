@@ -10,11 +10,8 @@ pub mod segment;
 pub mod sorting;
 pub mod writing;
 
-ghost use Rattle.std.specs.Prelude.{◌≡◌, not, ◌&&◌, cond, ◌+◌, ◌≤◌, length, get_or};
-ghost use Rattle.std.specs.Float.{nan};
-ghost use Rattle.std.specs.Float.Ieee.{eq, le};
-ghost use Rattle.gf.specs.Doubles.{storable};
-ghost use Rattle.definitions.specs.Lists.{count_from};
+ghost use Rattle.std.specs.Prelude.{◌≡◌, length, count_by};
+ghost use Rattle.std.specs.Float.Ieee.{le};
 ghost use Rattle.definitions.specs.Doubles.{two_equal, three_equal};
 ghost use Rattle.definitions.specs.ClipSet.{any_unstorable};
 ghost use Rattle.definitions.specs.Timing.{last_at_most, map_time, map_stage_to_clip};
@@ -25,25 +22,13 @@ ghost use Rattle.laws.specs.cell.Lent.{knots_of};
 use definitions::{ClipTime, Segment, StageTime};
 use segment::{clip_time, knot_at, segment_at};
 
-// 1 for a time that may not be stored, else 0.
-fn unstorable(time: f64) -> u64
-    ensures { result ≡ cond (not (storable time)) 1 0 }
-{
-    if gf::is_storable(time) {
-        return 0;
-    }
-    1
-}
-
-// A time that is not finite, or beyond 2^40, is among them. No early exit, so that the loop vectorises.
+// A time that is not finite, or beyond 2^40, is among them. No early exit, so that no step branches.
 pub fn any_unstorable(times: &[f64]) -> bool
     ensures { result ≡ any_unstorable times.now }
 {
     let mut found: u64 = 0;
-    let mut i: usize = 0;
-    while i < times.len() {
-        found += unstorable(times[i]);
-        i += 1;
+    for time in times {
+        found += u64::from(!gf::is_storable(*time));
     }
     0 < found
 }
@@ -52,58 +37,23 @@ pub fn any_unstorable(times: &[f64]) -> bool
 pub fn two_equal(times: &[f64]) -> bool
     ensures { result ≡ two_equal times.now }
 {
-    let mut i: usize = 0;
-    while i + 1 < times.len() {
-        if times[i] == times[i + 1] {
-            return true;
-        }
-        i += 1;
-    }
-    false
-}
-
-fn are_equal(a: f64, b: f64, c: f64) -> bool
-    ensures { result ≡ (eq a b && eq b c) }
-{
-    if a == b {
-        return b == c;
-    }
-    false
+    times.windows(2).any(|w| w[0] == w[1])
 }
 
 // Three neighbours are equal.
 pub fn three_equal(times: &[f64]) -> bool
     ensures { result ≡ three_equal times.now }
 {
-    let mut i: usize = 0;
-    while i + 2 < times.len() {
-        if are_equal(times[i], times[i + 1], times[i + 2]) {
-            return true;
-        }
-        i += 1;
-    }
-    false
+    times.windows(3).any(|w| w[0] == w[1] && w[1] == w[2])
 }
 
-fn one_if(b: bool) -> usize
-    ensures { result ≡ cond b 1 0 }
-{
-    if b {
-        return 1;
-    }
-    0
-}
-
-// How many of the n times from a place on are at most `t`. No early exit, so that the loop vectorises.
-fn count_at_most(times: &[f64], from: usize, n: usize, t: f64) -> usize
-    requires { from + n ≤ length times.now }
-    ensures { result ≡ count_from (λ i. le (get_or times.now i nan) t) from n }
+// How many of the times are at most `t`. No early exit, so that no step branches.
+fn count_at_most(times: &[f64], t: f64) -> usize
+    ensures { result ≡ count_by (λ x. le x t) times.now }
 {
     let mut found: usize = 0;
-    let mut i: usize = 0;
-    while i < n {
-        found += one_if(times[from + i] <= t);
-        i += 1;
+    for time in times {
+        found += usize::from(*time <= t);
     }
     found
 }
@@ -123,11 +73,11 @@ pub fn partition_point(times: &[f64], t: f64) -> usize
         }
         n -= half;
     }
-    at + count_at_most(times, at, n, t)
+    at + count_at_most(&times[at..at + n], t)
 }
 
 // The place of the last of the times that is at most `t`, and 0 if none is: the Rust's `partition_point` less one. In lists as short as
-// starts and knots are, halves alone are quicker.
+// starts and knots are, these halves are quicker than the method of slices.
 pub fn last_at_most(times: &[f64], t: f64) -> usize
     requires { Ascending times.now }
     ensures { result ≡ last_at_most times.now t }
@@ -142,7 +92,7 @@ pub fn last_at_most(times: &[f64], t: f64) -> usize
             hi = mid;
         }
     }
-    if lo > 0 { lo - 1 } else { 0 }
+    lo.saturating_sub(1)
 }
 
 // The y at `t` of the knots (x, y), bare as the lists are.

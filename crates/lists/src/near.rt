@@ -11,10 +11,7 @@ fn is_reached(times: &[f64], place: usize, t: f64) -> bool
     requires fact_2 { place < length times.now }
     ensures { result ≡ leb place (last_at_most times.now t) }
 {
-    if place == 0 {
-        return true;
-    }
-    times[place] <= t
+    place == 0 || times[place] <= t
 }
 
 // Whether it is behind this place.
@@ -24,10 +21,7 @@ fn is_passed(times: &[f64], place: usize, t: f64) -> bool
     ensures { result ≡ ltb place (last_at_most times.now t) }
 {
     let next = place + 1;
-    if next < times.len() {
-        return times[next] <= t;
-    }
-    false
+    next < times.len() && times[next] <= t
 }
 
 // Whether this is the place of the last of the times that is at most `t`, and 0 if none is.
@@ -36,10 +30,7 @@ pub fn is_place(times: &[f64], place: usize, t: f64) -> bool
     requires fact_2 { place < length times.now }
     ensures { result ≡ eqb (last_at_most times.now t) place }
 {
-    if is_passed(times, place, t) {
-        return false;
-    }
-    is_reached(times, place, t)
+    !is_passed(times, place, t) && is_reached(times, place, t)
 }
 
 // A hint may be any number: one beyond the list is never the place.
@@ -47,10 +38,7 @@ fn is_near(times: &[f64], place: usize, t: f64) -> bool
     requires { Ascending times.now }
     ensures { (result ≡ true) → last_at_most times.now t ≡ place }
 {
-    if place < times.len() {
-        return is_place(times, place, t);
-    }
-    false
+    place < times.len() && is_place(times, place, t)
 }
 
 // As `last_at_most`, wherever the search begins: at the hint, then behind it and before it.

@@ -60,21 +60,19 @@ module _ (width : ℕ) (x : Float) (s : Bool) (n : ℕ) (sign : s ≡ sign_bit x
   unfolding whole_body whole_of
   whole_is = ap₂ (whole_of width) sign is
 
-  pub with-minus : (w : ℕ) → (s && ltb 0 n) ≡ true → w ≡ max (width - 1) (places n)
-      → body_of (record { minus = true; width = w; whole = n; fraction = 0; rest = 0 }) ≡ whole_body width x
+  -- the minus counted
+  pub whole-body : (t : Bool) (w : ℕ) → t ≡ (s && ltb 0 n) → w ≡ max (width - length (sign_of t)) (places n)
+      → body_of (record { minus = t; width = w; whole = n; fraction = 0; rest = 0 }) ≡ whole_body width x
   unfolding body_of whole_of padded
-  with-minus w t e =
+  whole-body true w t e =
       ap (λ (l : List ℕ). minus ∷ l) (append-nil (digits w n) ∙ ap (λ (k : ℕ). digits k n) e)
-      ∙ sym (ap (λ (b : Bool). cond b (minus ∷ padded (width - 1) n) (padded width n)) t)
+      ∙ ap (λ (b : Bool). cond b (minus ∷ padded (width - 1) n) (padded width n)) t
       ∙ whole_is
-
-  pub without-minus : (w : ℕ) → (s && ltb 0 n) ≡ false → w ≡ max width (places n)
-      → body_of (record { minus = false; width = w; whole = n; fraction = 0; rest = 0 }) ≡ whole_body width x
-  unfolding body_of whole_of padded
-  without-minus w t e =
+  whole-body false w t e =
+      let all : max (width - 0) (places n) ≡ max width (places n) = omega arith in
       append-nil (digits w n)
-      ∙ ap (λ (k : ℕ). digits k n) e
-      ∙ sym (ap (λ (b : Bool). cond b (minus ∷ padded (width - 1) n) (padded width n)) t)
+      ∙ ap (λ (k : ℕ). digits k n) (e ∙ all)
+      ∙ ap (λ (b : Bool). cond b (minus ∷ padded (width - 1) n) (padded width n)) t
       ∙ whole_is
 
 -- ---- with one

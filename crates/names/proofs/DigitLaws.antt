@@ -1,10 +1,10 @@
 -- Decimal digits: how many a number has, a tenth at a time, and writing them from the last one on. Assumes nothing.
-use Prim.Native.Nat.{ℕ, zero, suc, ◌+◌, ◌/◌, ◌%◌, ◌^◌, ◌≤◌, ◌<◌}
+use Prim.Native.Nat.{ℕ, zero, suc, ◌+◌, ◌*◌, ◌/◌, ◌%◌, ◌^◌, ◌≤◌, ◌<◌}
 use mathlib.Core.Path.{◌≡◌, refl, sym, ap, ◌∙◌}
 use mathlib.Core.Bool.{Bool, true, false, not}
 use mathlib.Core.Logic.{◌⊎◌, inl, inr}
 use mathlib.Core.List.{List, [], ◌∷◌}
-use native.Mathlib.Nat.{pow-suc}
+use native.Mathlib.Nat.{pow-suc, one-le-pow}
 use native.Mathlib.Omega.{arith}
 use borrow.Author.Tests.{lt-ltb, le-ltb}
 use lib.Dec.{T, leb, leb→le, nleb→lt}
@@ -58,12 +58,12 @@ places-le (suc k) n h = go (tenfold n) (places-le k (n / 10) (omega (arith, pow-
     go (inl b) e = omega (arith, places-more n b)
     go (inr s) e = omega (arith, places-one n s)
 
-pub places-pos : (n : ℕ) → 1 ≤ places n
-places-pos n = go (tenfold n)
-  where
-    go : (10 ≤ n) ⊎ (n < 10) → 1 ≤ places n
-    go (inl b) = omega (arith, places-more n b)
-    go (inr s) = omega (arith, places-one n s)
+-- by the powers of ten about it
+pub places-between : (k n : ℕ) → 10 ^ k ≤ n → n < 10 * 10 ^ k → places n ≡ k + 1
+places-between zero n lo hi = places-one n (omega arith)
+places-between (suc k) n lo hi =
+    let p = pow-suc 10 k in
+    places-more n (omega (arith, one-le-pow k 10 (omega arith))) ∙ ap suc (places-between k (n / 10) (omega arith) (omega arith)) ∙ omega arith
 
 -- ---- the digits
 

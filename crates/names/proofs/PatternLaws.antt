@@ -1,76 +1,55 @@
 -- The scans of a template. A scan's invariant says that the answer for the whole is the answer for what is left, `drop i l`; each law takes one byte off it.
 -- `parsed`: the places found one after the other are those of the split template. Assumes nothing.
-use Prim.Native.Nat.{ℕ, zero, suc, ◌+◌, ◌≤◌, ◌<◌}
+use Prim.Native.Nat.{ℕ, zero, suc, ◌+◌, ◌≤◌}
 use mathlib.Core.Path.{◌≡◌, refl, sym, ap, ap₂, ◌∙◌}
-use mathlib.Core.Bool.{Bool, true, false, not, ◌&&◌, cond, false≢true}
+use mathlib.Core.Bool.{Bool, true, false, not, ◌&&◌, ◌||◌, cond, false≢true}
 use mathlib.Core.List.{List, [], ◌∷◌}
 use mathlib.Core.Option.{none, some}
-use native.Mathlib.Numerals.{add-one}
 use native.Mathlib.Omega.{arith}
-use borrow.Author.Tests.{eq-eqb, ne_eqb, lt-ltb, le-leb, lt-leb}
+use borrow.Author.Tests.{eq-eqb, lt-ltb}
 use lib.Dec.{T, eqb, ltb, leb, leb→le}
-use lib.ListN.{length, get_or, take, drop, length-drop, drop_of_length-le}
-use lib.Seq.{drop-cons, drop-drop}
+use lib.ListN.{length, get_or, take, drop, length-drop}
+use lib.Seq.{drop-drop}
+use Rattle.definitions.specs.Lists.{any}
+use Rattle.std.specs.Prelude.{◌==◌}
+use Rattle.std.specs.List.{list_any, prefix_len}
 use Rattle.definitions.specs.Names.{HashPattern, hash, dot, before_hash, hash_run, with_fraction, split, fraction_ok, readable}
 use Rattle.names.specs.declared.pattern.Pattern.{Pattern}
 use Rattle.names.specs.Pattern.{fraction_run, has_hash, width_of, pattern_of, with_dot, Parses}
 
--- ---- one byte off the front of what is left
+-- ---- the runs are std's longest prefixes, and the search of a list is std's
 
-pub head_of : {A : Type 0} (l : List A) (i : ℕ) (d : A) → i < length l → drop i l ≡ get_or l i d ∷ drop (i + 1) l
-head_of l i d h = rw add-one (drop-cons l i d h)
+pub before-prefix : (l : List ℕ) → prefix_len (λ (b : ℕ). not (b == hash)) l ≡ length (before_hash l)
+unfolding before_hash
+before-prefix [] = refl
+before-prefix (b ∷ bs) = go (eqb b hash) (before-prefix bs)
+  where
+    go : (t : Bool) → prefix_len (λ (b : ℕ). not (b == hash)) bs ≡ length (before_hash bs)
+        → cond (not t) (1 + prefix_len (λ (b : ℕ). not (b == hash)) bs) 0 ≡ length (cond t [] (b ∷ before_hash bs))
+    go true e = refl
+    go false e = omega arith
 
-pub none_of : {A : Type 0} (l : List A) (i : ℕ) → length l ≤ i → drop i l ≡ []
-none_of l i h = drop_of_length-le l {i = i} h
+pub run-prefix : (l : List ℕ) → prefix_len (λ (b : ℕ). b == hash) l ≡ hash_run l
+unfolding hash_run
+run-prefix [] = refl
+run-prefix (b ∷ bs) = go (eqb b hash) (run-prefix bs)
+  where
+    go : (t : Bool) → prefix_len (λ (b : ℕ). b == hash) bs ≡ hash_run bs
+        → cond t (1 + prefix_len (λ (b : ℕ). b == hash) bs) 0 ≡ cond t (suc (hash_run bs)) 0
+    go true e = omega arith
+    go false e = refl
 
-module _ (l : List ℕ) (i : ℕ) where
-  module _ (h : i < length l) where
-    pub before-stop : get_or l i 0 ≡ hash → length (before_hash (drop i l)) ≡ 0
-    unfolding before_hash
-    before-stop e = rw (head_of l i 0 h, eq-eqb (get_or l i 0) hash e)
+pub any-is : (p : ℕ → Bool) (l : List ℕ) → list_any p l ≡ any p l
+any-is p [] = refl
+any-is p (x ∷ xs) = ap (λ (b : Bool). p x || b) (any-is p xs)
 
-    pub before_more : (get_or l i 0 ≡ hash → ⊥) → length (before_hash (drop i l)) ≡ suc (length (before_hash (drop (i + 1) l)))
-    unfolding before_hash
-    before_more e = rw (head_of l i 0 h, ne_eqb (get_or l i 0) hash e)
-
-    pub run_more : get_or l i 0 ≡ hash → hash_run (drop i l) ≡ suc (hash_run (drop (i + 1) l))
-    unfolding hash_run
-    run_more e = rw (head_of l i 0 h, eq-eqb (get_or l i 0) hash e)
-
-    pub run-stop : (get_or l i 0 ≡ hash → ⊥) → hash_run (drop i l) ≡ 0
-    unfolding hash_run
-    run-stop e = rw (head_of l i 0 h, ne_eqb (get_or l i 0) hash e)
-
-    pub has_here : get_or l i 0 ≡ hash → has_hash (drop i l) ≡ true
-    has_here e = rw (head_of l i 0 h, eq-eqb (get_or l i 0) hash e)
-
-    pub has-later : (get_or l i 0 ≡ hash → ⊥) → has_hash (drop i l) ≡ has_hash (drop (i + 1) l)
-    has-later e = rw (head_of l i 0 h, ne_eqb (get_or l i 0) hash e)
-
-    pub dot-here : get_or l i 0 ≡ dot → fraction_run (drop i l) ≡ hash_run (drop (i + 1) l)
-    dot-here e = rw (head_of l i 0 h, eq-eqb (get_or l i 0) dot e)
-
-    pub dot-not : (get_or l i 0 ≡ dot → ⊥) → fraction_run (drop i l) ≡ 0
-    dot-not e = rw (head_of l i 0 h, ne_eqb (get_or l i 0) dot e)
-
-  module _ (h : length l ≤ i) where
-    pub before-end : length (before_hash (drop i l)) ≡ 0
-    unfolding before_hash
-    before-end = rw (none_of l i h)
-
-    pub run_end : hash_run (drop i l) ≡ 0
-    unfolding hash_run
-    run_end = rw (none_of l i h)
-
-    pub has_end : has_hash (drop i l) ≡ false
-    has_end = rw (none_of l i h)
-
-    pub dot-end : fraction_run (drop i l) ≡ 0
-    dot-end = rw (none_of l i h)
+pub behind-dot : (l : List ℕ) (n : ℕ) → 1 ≤ length l → get_or l 0 0 ≡ dot → n ≡ prefix_len (λ (b : ℕ). b == hash) (drop 1 l) → n ≡ fraction_run l
+behind-dot [] n h d e = absurd (omega arith)
+behind-dot (b ∷ bs) n h d e = rw (eq-eqb b dot d) (e ∙ run-prefix bs)
 
 -- ---- what is found lies in the template
 
-before-le : (l : List ℕ) → length (before_hash l) ≤ length l
+pub before-le : (l : List ℕ) → length (before_hash l) ≤ length l
 unfolding before_hash
 before-le [] = omega arith
 before-le (b ∷ bs) = go (eqb b hash) (before-le bs)
@@ -88,7 +67,7 @@ run-le (b ∷ bs) = go (eqb b hash) (run-le bs)
     go true h = omega arith
     go false h = omega arith
 
-fraction-le : (l : List ℕ) → with_dot (fraction_run l) ≤ length l
+pub fraction-le : (l : List ℕ) → with_dot (fraction_run l) ≤ length l
 fraction-le [] = omega arith
 fraction-le (b ∷ bs) = go (eqb b dot) (hash_run bs) (run-le bs)
   where
@@ -110,9 +89,6 @@ before-take (b ∷ bs) = go (eqb b hash) (before-take bs)
 pub with-dot : (n : ℕ) → (n ≡ 0 → ⊥) → with_dot n ≡ n + 1
 with-dot zero h = absurd (h refl)
 with-dot (suc n) h = omega arith
-
-pub without-dot : (n : ℕ) → n ≡ 0 → with_dot n ≡ 0
-without-dot n h = ap with_dot h
 
 -- ---- the split, by the places
 
@@ -166,28 +142,31 @@ module _ (l : List ℕ) (p : Pattern) (first : p.first ≡ length (before_hash l
 
 -- ---- readable: a law for each answer
 
+and-assoc3 : (a b c d : Bool) → ((a && b && c) && d) ≡ (a && b && c && d)
+and-assoc3 true true c d = refl
+and-assoc3 true false c d = refl
+and-assoc3 false b c d = refl
+
 fraction-ok : (n : ℕ) → fraction_ok (width_of n) ≡ leb n 6
 fraction-ok zero = refl
 fraction-ok (suc n) = refl
 
 module _ (l : List ℕ) (p : Pattern) where
-  pub too-narrow : p.width < 1 → false ≡ readable (pattern_of l p)
+  abbrev limits : Bool
+  limits = leb 1 p.width && leb p.width 32 && leb p.fraction 6
+
+  readable-is : (limits && not (has_hash (drop p.suffix l))) ≡ readable (pattern_of l p)
   unfolding readable
-  too-narrow h = rw (lt-leb 1 p.width h)
+  readable-is = rw (fraction-ok p.fraction) (and-assoc3 (leb 1 p.width) (leb p.width 32) (leb p.fraction 6) (not (has_hash (drop p.suffix l))))
 
-  module _ (one : 1 ≤ p.width) where
-    pub too_wide : 32 < p.width → false ≡ readable (pattern_of l p)
-    unfolding readable
-    too_wide h = rw (le-leb 1 p.width one, lt-leb p.width 32 h)
+  pub no-later-hash : (ok h : Bool) → ok ≡ limits → ok ≡ true → h ≡ list_any (λ (b : ℕ). b == hash) (drop p.suffix l) → not h ≡ readable (pattern_of l p)
+  no-later-hash ok h e t f =
+      ap not (f ∙ any-is (λ (b : ℕ). b == hash) (drop p.suffix l))
+      ∙ ap (λ (b : Bool). b && not (has_hash (drop p.suffix l))) (sym t ∙ e)
+      ∙ readable-is
 
-    module _ (wide : p.width ≤ 32) where
-      pub fraction-too-wide : 6 < p.fraction → false ≡ readable (pattern_of l p)
-      unfolding readable
-      fraction-too-wide h = rw (le-leb 1 p.width one, le-leb p.width 32 wide, fraction-ok p.fraction, lt-leb p.fraction 6 h)
-
-      pub no-later-hash : p.fraction ≤ 6 → not (has_hash (drop p.suffix l)) ≡ readable (pattern_of l p)
-      unfolding readable
-      no-later-hash h = rw (le-leb 1 p.width one, le-leb p.width 32 wide, fraction-ok p.fraction, le-leb p.fraction 6 h)
+  pub beyond-limits : (ok : Bool) → ok ≡ limits → ok ≡ false → ok ≡ readable (pattern_of l p)
+  beyond-limits ok e t = t ∙ ap (λ (b : Bool). b && not (has_hash (drop p.suffix l))) (sym t ∙ e) ∙ readable-is
 
 -- ---- the other way: what a readable pattern is within
 

@@ -6,8 +6,9 @@ use mathlib.Core.List.{List, [], ◌∷◌, ◌++◌, append_assoc}
 use native.Mathlib.Nat.{add-zero, zero-add, add_assoc}
 use native.Mathlib.Numerals.{add-one}
 use native.Mathlib.Omega.{arith}
-use lib.ListN.{length, get_or, take, drop, set, length-append, length-drop, take-append-drop}
-use lib.Seq.{length-take-le, take_at, drop_at, take-append-le, take-take, drop-drop, set_split, slice, slice-cons}
+use lib.ListN.{length, take, drop, set, length-append, length-drop, take-append-drop}
+use borrow.Rule.Slice.PartMut.{put_mid}
+use lib.Seq.{length-take-le, take_at, drop_at, take-append-le, take-take, drop-drop, set_split}
 use Rattle.definitions.specs.Lists.{written_over}
 use Rattle.names.specs.Put.{put}
 
@@ -72,16 +73,18 @@ put-before out at a b room =
     ap₂ (λ (l r : List ℕ). l ++ (a ++ r)) before behind
     ∙ ap (λ (l : List ℕ). take at out ++ l) (sym (append_assoc a b rest) ∙ ap (λ (n : ℕ). (a ++ b) ++ drop n out) end)
 
--- ---- a copy, a byte at a time
-
 pub put_byte : (out : List ℕ) (at b : ℕ) (rest : List ℕ) → at < length out → put (set out at b) (at + 1) rest ≡ put out at (b ∷ rest)
 put_byte out at b rest h = ap (λ (l : List ℕ). put l (at + 1) rest) (put-set out at b h) ∙ put-append out at (b ∷ []) (omega arith) rest
 
-module _ (out template : List ℕ) (at i to : ℕ) (inside : i < to) (held : to ≤ length template) where
-  pub copy_more : at < length out → put (set out at (get_or template i 0)) (at + 1) (slice (i + 1) to template) ≡ put out at (slice i to template)
-  copy_more room =
-      put_byte out at (get_or template i 0) (slice (i + 1) to template) room
-      ∙ ap (put out at) (ap (λ (n : ℕ). get_or template i 0 ∷ slice n to template) (add-one i) ∙ sym (slice-cons i to template 0 inside held))
+-- what a write to a part of a list leaves
+pub put-part : (out bytes : List ℕ) (at k : ℕ) → k ≡ length bytes → put_mid at k out bytes ≡ put out at bytes
+unfolding put
+put-part out bytes at k e =
+    ap (λ (l : List ℕ). take at out ++ (bytes ++ l)) (drop-drop k at out ∙ ap (λ (n : ℕ). drop (at + n) out) e)
+
+pub put-front-part : (out bytes : List ℕ) (k : ℕ) → k ≡ length bytes → bytes ++ drop k out ≡ put out 0 bytes
+unfolding put
+put-front-part out bytes k e = ap (λ (n : ℕ). bytes ++ drop n out) (e ∙ sym (zero-add (length bytes)))
 
 -- ---- three parts, one after the other
 

@@ -3,7 +3,7 @@
 use Prim.Native.Nat.{ℕ, zero, suc, ◌+◌, ◌-◌, ◌*◌, ◌/◌, ◌%◌, ◌^◌, ◌≤◌, ◌<◌, compare, Ordering}
 use mathlib.Core.Path.{◌≡◌, refl, sym, ap, ap₂, ◌∙◌}
 use mathlib.Core.Bool.{true, false, true≢false, false≢true}
-use native.Mathlib.Nat.{suc-mul, add-mul, add_assoc, mul_assoc, mul_right_comm, mul-le-mul, mul-le-mul_right, mod-lt, div-add-mod', div-le_self, div-eq_of_lt, mod-eq_of_lt, pow-le-pow_right, two-pow-succ}
+use native.Mathlib.Nat.{suc-mul, add-mul, add_assoc, mul_assoc, mul_right_comm, mul-le-mul, mul-le-mul_right, mod-lt, div-add-mod', div-eq_of_lt, mod-eq_of_lt, pow-le-pow_right, two-pow-succ}
 use native.Mathlib.Numerals.{add-one}
 use native.Mathlib.Omega.{arith}
 use borrow.Author.Tests.{le-leb, lt-leb, eq-eqb, ne_eqb}
@@ -120,21 +120,15 @@ module _ (high low shift : ℕ) (few : low < 2048) (one : 1 ≤ shift) where
     at-power : {n : ℕ} → n ≡ closest (high * 2048 + low) (unit * 2048) → Rounded n
     at-power e = e ∙ ap (λ (u : ℕ). closest (high * 2048 + low) (u * 2048)) is
 
-    pub down : high % unit < unit / 2 → Rounded (high / unit)
-    down h = at-power (round-down high low unit 2048 few unit-pos (unit / 2) two h)
-
     pub up : unit / 2 < high % unit → Rounded (high / unit + 1)
     up h = at-power (round_up high low unit 2048 few unit-pos (unit / 2) two h)
 
-    module _ (below : unit / 2 ≤ high % unit) (above : high % unit ≤ unit / 2) where
+    module _ (tie : high % unit ≡ unit / 2) where
       pub up-by-low : 0 < low → Rounded (high / unit + 1)
-      up-by-low h = at-power (round-up-low high low unit 2048 few unit-pos (unit / 2) two (omega arith) h)
+      up-by-low h = at-power (round-up-low high low unit 2048 few unit-pos (unit / 2) two tie h)
 
-      pub even : low ≤ 0 → Rounded (high / unit + high / unit % 2)
-      even h = at-power (round-even high low unit 2048 few unit-pos (unit / 2) two (omega arith) (omega arith))
-
-    pub quotient-lt : high < 2 ^ 63 → high / unit < 2 ^ 63
-    quotient-lt h = omega (arith, div-le_self high unit)
+      pub even : low ≡ 0 → Rounded (high / unit + high / unit % 2)
+      even h = at-power (round-even high low unit 2048 few unit-pos (unit / 2) two tie h)
 
 -- ---- 10 ^ k digits more: the product, with its 11 lowest bits apart
 

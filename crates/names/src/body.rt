@@ -1,6 +1,6 @@
 // What stands for the runs of `#` in a name: a minus, the whole part, and a fraction.
 
-ghost use Rattle.std.specs.Prelude.{◌≡◌, ◌&&◌, ◌+◌, ◌≤◌, ◌<◌, max, T, ltb, length};
+ghost use Rattle.std.specs.Prelude.{◌≡◌, ◌&&◌, ◌+◌, ◌≤◌, ◌<◌, ◌^◌, max, T, ltb, length};
 ghost use Rattle.gf.specs.Doubles.{storable};
 ghost use Rattle.definitions.specs.Names as Names;
 ghost use Rattle.names.specs.Pattern.{width_of, with_dot};
@@ -21,20 +21,11 @@ pub struct Body {
     pub rest: u64,
 }
 
-fn wider(a: usize, b: usize) -> usize
-    ensures { result ≡ max a b }
-{
-    if a < b { b } else { a }
-}
-
 // Zero has no minus, whatever its sign bit.
 fn has_minus(m: Magnitude, n: u64) -> bool
     ensures { result ≡ (m.negative && ltb 0 n) }
 {
-    if m.negative {
-        return 0 < n;
-    }
-    false
+    m.negative && 0 < n
 }
 
 // Truncated toward zero, zeros to the width, the minus counted.
@@ -44,19 +35,11 @@ fn whole_body(width: usize, x: f64) -> Body
 {
     let m = crate::magnitude::measure(x);
     let n = crate::magnitude::whole(m);
-    let digits = crate::digits::places(n);
-    if has_minus(m, n) {
-        return Body {
-            minus: true,
-            width: wider(width - 1, digits),
-            whole: n,
-            fraction: 0,
-            rest: 0,
-        };
-    }
+    let minus = has_minus(m, n);
+    let width = (width - sign_length(minus)).max(crate::digits::places(n));
     Body {
-        minus: false,
-        width: wider(width, digits),
+        minus,
+        width,
         whole: n,
         fraction: 0,
         rest: 0,
@@ -70,11 +53,11 @@ fn fraction_body(width: usize, k: usize, x: f64) -> Body
 {
     let m = crate::magnitude::measure(x);
     let n = crate::magnitude::decimals(m, k);
-    let ten = crate::magnitude::power_of_ten(k);
+    let ten = 10u64.pow(k as u32);
     let whole = n / ten;
     Body {
         minus: m.negative,
-        width: wider(width, crate::digits::places(whole)),
+        width: width.max(crate::digits::places(whole)),
         whole,
         fraction: k,
         rest: n % ten,
@@ -97,18 +80,15 @@ pub fn body_at(p: Pattern, x: f64) -> Body
 fn sign_length(minus: bool) -> usize
     ensures { result ≡ length (sign_of minus) }
 {
-    if minus { 1 } else { 0 }
+    usize::from(minus)
 }
 
 // How many bytes k digits and their `.` take.
-fn fraction_length(k: usize) -> usize
-    requires { with_dot k ≤ 268 }
+pub fn fraction_length(k: usize) -> usize
+    requires { with_dot k < 2 ^ 64 }
     ensures { result ≡ with_dot k }
 {
-    if k == 0 {
-        return 0;
-    }
-    k + 1
+    if k == 0 { 0 } else { k + 1 }
 }
 
 // How many bytes a body takes.

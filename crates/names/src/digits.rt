@@ -8,13 +8,7 @@ ghost use Rattle.names.specs.Put.{put};
 pub fn places(n: u64) -> usize
     ensures { (result ≡ Names.places n) × (result ≤ 20) }
 {
-    let mut count = 1usize;
-    let mut left = n;
-    while 10 <= left {
-        left = left / 10;
-        count += 1;
-    }
-    count
+    n.max(1).ilog10() as usize + 1
 }
 
 // Writes the last `width` digits of n from the slot `at` on, the last one first.
@@ -23,10 +17,8 @@ pub fn put_digits(n: u64, width: usize, out: &mut [u8], at: usize)
     ensures { out.new ≡ put out.old at (Names.digits width n) }
 {
     let mut left = n;
-    let mut i = width;
-    while 0 < i {
-        i -= 1;
-        out[at + i] = 48 + (left % 10) as u8;
-        left = left / 10;
+    for i in (0..width).rev() {
+        out[at + i] = b'0' + (left % 10) as u8;
+        left /= 10;
     }
 }

@@ -3,7 +3,6 @@
 #![tactic(auto)]
 
 mod body;
-mod copy;
 mod digits;
 mod magnitude;
 pub mod pattern;
@@ -15,16 +14,10 @@ ghost use Rattle.names.specs.Body.{body_of};
 ghost use Rattle.names.specs.Named.{Names};
 
 use body::Body;
+use definitions::ClipTime;
 use definitions::limits::TEMPLATE_BYTES;
-use definitions::{ClipTime, refusal};
+use definitions::refusal::Refusal;
 use pattern::Pattern;
-
-// What the name question replies: the number that refuses it, or how many bytes were written.
-#[derive(Clone, Copy)]
-pub enum Named {
-    Refused(u8),
-    Written(usize),
-}
 
 // Whether a template has a pattern that can be read.
 pub fn is_readable(template: &[u8]) -> bool
@@ -41,34 +34,32 @@ fn put_name(template: &[u8], p: Pattern, b: Body, out: &mut [u8])
     requires b_len_bound { length (body_of b) ≤ 268 }
     ensures { out.new ≡ put out.old 0 (take p.first template.now ++ (body_of b ++ drop p.suffix template.now)) }
 {
-    let first = p.first;
-    let suffix = p.suffix;
-    let length = template.len();
-    let rest = first + body::body_length(b);
-    copy::put_bytes(template, 0, first, out, 0);
-    body::put_body(b, out, first);
-    copy::put_bytes(template, suffix, length, out, rest);
+    let suffix = &template[p.suffix..];
+    let rest = p.first + body::body_length(b);
+    out[..p.first].copy_from_slice(&template[..p.first]);
+    body::put_body(b, out, p.first);
+    out[rest..rest + suffix.len()].copy_from_slice(suffix);
 }
 
-// The name of the template at a clip time: 1, 2, 6, then 22.
-pub fn name(template: &[u8], time: ClipTime, out: &mut [u8]) -> Named
+// The name of the template at a clip time, written to the front of the lent bytes: its length. Refused by 1, 2, 6, then 22.
+pub fn name(template: &[u8], time: ClipTime, out: &mut [u8]) -> Result<usize, Refusal>
     ensures { Names template.now time out.old out.new result }
 {
     if TEMPLATE_BYTES < template.len() {
-        return Named::Refused(refusal::MISSHAPEN);
+        return Err(Refusal::Misshapen);
     }
     if !gf::is_storable(time.0) {
-        return Named::Refused(refusal::UNSTORABLE);
+        return Err(Refusal::Unstorable);
     }
     let p = pattern::parse(template);
     if !pattern::is_readable(template, p) {
-        return Named::Refused(refusal::UNREADABLE_TEMPLATE);
+        return Err(Refusal::UnreadableTemplate);
     }
     let b = body::body_at(p, time.0);
     let n = p.first + body::body_length(b) + (template.len() - p.suffix);
     if out.len() < n {
-        return Named::Refused(refusal::NO_ROOM);
+        return Err(Refusal::NoRoom);
     }
     put_name(template, p, b, out);
-    Named::Written(n)
+    Ok(n)
 }

@@ -5,6 +5,8 @@ ghost use Rattle.std.specs.Float.Ieee.Nearest.{closest};
 ghost use Rattle.gf.specs.Doubles.{storable};
 ghost use Rattle.names.specs.Magnitude.{Measures};
 
+use std::cmp::Ordering;
+
 // The number digits / 2^shift, and the sign bit.
 #[derive(Clone, Copy)]
 pub struct Magnitude {
@@ -47,20 +49,6 @@ pub fn whole(m: Magnitude) -> u64
     m.digits >> m.shift
 }
 
-// 10^k.
-pub fn power_of_ten(k: usize) -> u64
-    requires { k ≤ 6 }
-    ensures { result ≡ 10 ^ k }
-{
-    let mut n = 1u64;
-    let mut i = 0usize;
-    while i < k {
-        n = n * 10;
-        i += 1;
-    }
-    n
-}
-
 // 2^k.
 fn power_of_two(k: u64) -> u64
     requires { k < 64 }
@@ -81,16 +69,11 @@ fn nearest(high: u64, low: u64, shift: u64) -> u64
     let whole = high / unit;
     let rest = high % unit;
     let half = unit / 2;
-    if rest < half {
-        return whole;
+    match rest.cmp(&half) {
+        Ordering::Less => whole,
+        Ordering::Equal if low == 0 => whole + whole % 2,
+        _ => whole + 1,
     }
-    if half < rest {
-        return whole + 1;
-    }
-    if 0 < low {
-        return whole + 1;
-    }
-    whole + whole % 2
 }
 
 // The size in units of 10^-k, rounded. The product with 10^k takes up to 73 bits: its 11 lowest
@@ -99,7 +82,7 @@ pub fn decimals(m: Magnitude, k: usize) -> u64
     requires { (m.digits < 2 ^ 53) × (12 ≤ m.shift) × (k ≤ 6) }
     ensures { result ≡ closest (m.digits * 10 ^ k) (2 ^ m.shift) }
 {
-    let ten = power_of_ten(k);
+    let ten = 10u64.pow(k as u32);
     let low = m.digits % 2048 * ten;
     let high = m.digits / 2048 * ten + low / 2048;
     nearest(high, low % 2048, m.shift - 11)

@@ -11,7 +11,7 @@ use lib.Ieee.{Float, nan, eq}
 use Rattle.laws.specs.list.Every.{Every}
 use Rattle.laws.proofs.list.Every.{every_drop}
 use Rattle.lists.specs.Placed.{Inside}
-use Rattle.normal_form.specs.Runs.{Run, alone, meets, join, runs, firsts, lasts, RunsFrom}
+use Rattle.normal_form.specs.Runs.{Run, alone, meets, join, runs, firsts, lasts}
 
 -- ---- lists
 
@@ -108,10 +108,6 @@ module _ (times : List Float) (places : List ℕ) where
     unfolding R
     met b e = ap (meets times (here i)) (sym s.firsts-are) ∙ e
 
-    pub same-inside : meets times (here i) (drop at first) ≡ true → at < length first
-    unfolding R
-    same-inside e = omega (arith, (join-same times (here i) R (met true e)).0, s.count, s.first-long)
-
     pub standing-same : meets times (here i) (drop at first) ≡ true → Standing (set first at (here i)) last at (i - 1)
     unfolding R
     standing-same e =
@@ -143,6 +139,3 @@ module _ (times : List Float) (places : List ℕ) where
   pub standing-inside : (first last : List ℕ) (at i : ℕ) → Standing first last at i → Every (Inside times) places → Every (Inside times) (take (length first - at) (drop at first))
   standing-inside first last at i s e =
       subst (λ (l : List ℕ). Every (Inside times) l) (sym (part-rest at first ∙ s.firsts-are)) (runs-every times (Inside times) (drop i places) (every_drop (Inside times) i places e)).0
-
-  pub standing-all : (first last : List ℕ) (at : ℕ) → Standing first last at 0 → RunsFrom times places first last at
-  standing-all first last at s = record { count = s.count; firsts-are = s.firsts-are; lasts_are = s.lasts_are }

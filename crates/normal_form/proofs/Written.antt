@@ -2,7 +2,7 @@
 use mathlib.Core.Path.{◌≡◌, refl, sym, ap, ◌∙◌, subst}
 use mathlib.Core.Bool.{false}
 use mathlib.Core.List.{List, map}
-use Prim.Native.Nat.{ℕ, zero, suc, ◌-◌, ◌≤◌, ◌<◌}
+use Prim.Native.Nat.{ℕ, ◌-◌, ◌≤◌, ◌<◌}
 use native.Mathlib.Omega.{arith}
 use lib.ListN.{length, get_or, take, drop, length-map}
 use lib.Ieee.{Float, nan}
@@ -18,20 +18,19 @@ use Rattle.laws.proofs.list.Sorting.{every-sort, length-sort}
 use Rattle.lists.specs.Placed.{Inside}
 use Rattle.normal_form.specs.Placed.{key_at, in_order}
 use Rattle.normal_form.specs.Runs.{Run, runs, firsts, lasts, RunsFrom}
-use Rattle.sdf.specs.declared.Counted.{Counted}
+use Rattle.std.specs.Prelude.{Ok, Err}
+use Rattle.definitions.specs.declared.refusal.Refusal.{Refusal}
+use Rattle.definitions.specs.declared.refusal.Refusal.TheVariants.{NoRoom}
+use Rattle.definitions.specs.Refusals.{number_of}
 use Rattle.normal_form.specs.Normalizes.{normal_form, Normalizes, listed_number, InRuns}
 use Rattle.sdf.proofs.Lent.{paired}
 use Rattle.lists.proofs.ByPlaces.{length-below, below-inside}
 use Rattle.normal_form.proofs.Merged.{runs-every, part-rest}
 use Rattle.normal_form.proofs.Normal.{normal-length, normal-times, normal-values, normal-marks, passes, too_short, suffices, all-long}
 
--- a reply that writes nothing
-abbrev pub refusal : ℕ → Counted
-refusal n = record { number = n; count = 0 }
-
-pub untouched : (times values : List Float) (marks : List ℕ) (o : Outputs) (n : ℕ) → (n ≡ 0 → ⊥) → n ≡ normalize_number times values marks (slots o) → Normalizes times values marks o o (refusal n)
-untouched times values marks o zero z e = absurd (z refl)
-untouched times values marks o (suc n) z e = record { number = e; count = refl; times-are = refl; values-are = refl; marks-are = refl }
+-- a refusal writes nothing
+pub untouched : (times values : List Float) (marks : List ℕ) (o : Outputs) (r : Refusal) → number_of r ≡ normalize_number times values marks (slots o) → Normalizes times values marks o o (Err r)
+untouched times values marks o r e = record { number = e; count = tt; times-are = refl; values-are = refl; marks-are = refl }
 
 -- ---- the input passes
 
@@ -75,15 +74,15 @@ module _ (times values : List Float) (marks first last : List ℕ) (g : InRuns t
   last-marks = last-below (length marks) (long times values marks g.passes).2
 
   -- an output has no room
-  pub no_room : (o : Outputs) → slots o < length first → Normalizes times values marks o o (refusal 22)
-  no_room o h = untouched times values marks o 22 (λ e. absurd (omega arith)) (too_short times values marks g.passes o (omega (arith, first-length)))
+  pub no_room : (o : Outputs) → slots o < length first → Normalizes times values marks o o (Err NoRoom)
+  no_room o h = untouched times values marks o NoRoom (too_short times values marks g.passes o (omega (arith, first-length)))
 
   pub written : (o : Outputs) (t v : List Float) (m : List ℕ)
       → length first ≤ length o.times → length first ≤ length o.values → length first ≤ length o.marks
       → t ≡ written_over (map (λ (i : ℕ). get_or times i nan) first) o.times
       → v ≡ written_over (map (λ (i : ℕ). get_or values i nan) last) o.values
       → m ≡ written_over (map (λ (i : ℕ). get_or marks i 0) last) o.marks
-      → Normalizes times values marks o (outputs t v m) (record { number = 0; count = length first })
+      → Normalizes times values marks o (outputs t v m) (Ok (length first))
   unfolding R
   written o t v m a b c et ev em =
       let l = long times values marks g.passes in

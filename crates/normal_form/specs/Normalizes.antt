@@ -1,33 +1,29 @@
 -- What normalising promises, for every argument. Assumes nothing.
-use Rattle.std.specs.Prelude.{◌≡◌, List, map, ℕ, zero, suc, length, Float}
+use Rattle.std.specs.Prelude.{◌≡◌, List, map, ℕ, length, Float, Result, Ok, Err, IfOk}
+use Rattle.definitions.specs.declared.refusal.Refusal.{Refusal}
+use Rattle.definitions.specs.Refusals.{number_in}
 use Rattle.definitions.specs.Lists.{◌if◌else◌, written_over}
 use Rattle.definitions.specs.Samples.{unlike_lengths, samples2, bad_marks}
 use Rattle.definitions.specs.Normalize.{TimeSample, time_samples, normalize_time_samples, normalize_number}
 use Rattle.definitions.specs.Track.{Outputs, slots}
 use Rattle.normal_form.specs.Placed.{in_order}
 use Rattle.normal_form.specs.Runs.{runs, firsts, lasts}
-use Rattle.sdf.specs.declared.Counted.{Counted}
 
 -- the samples in their normal form
 abbrev pub normal_form : List Float → List Float → List ℕ → List TimeSample
 normal_form times values marks = normalize_time_samples (time_samples times values marks)
 
--- an output list after a reply with that number: only a 0 writes
-abbrev pub after : {A : Type 0} → ℕ → List A → List A → List A
-after zero new old = written_over new old
-after (suc n) new old = old
+-- an output list after that reply: no refusal writes
+abbrev pub after : {A : Type 0} → Result ℕ Refusal → List A → List A → List A
+after (Ok n) new old = written_over new old
+after (Err r) new old = old
 
--- "A refusal carries its number alone": its count is 0
-abbrev pub count_after : ℕ → ℕ → ℕ
-count_after zero count = count
-count_after (suc n) count = 0
-
-pub record Normalizes (times values : List Float) (marks : List ℕ) (old new : Outputs) (r : Counted) : Type 0 where
-  pub number : r.number ≡ normalize_number times values marks (slots old)
-  pub count : r.count ≡ count_after r.number (length (normal_form times values marks))
-  pub times-are : new.times ≡ after r.number (map (λ (s : TimeSample). s.time) (normal_form times values marks)) old.times
-  pub values-are : new.values ≡ after r.number (map (λ (s : TimeSample). s.value) (normal_form times values marks)) old.values
-  pub marks-are : new.marks ≡ after r.number (map (λ (s : TimeSample). s.mark) (normal_form times values marks)) old.marks
+pub record Normalizes (times values : List Float) (marks : List ℕ) (old new : Outputs) (r : Result ℕ Refusal) : Type 0 where
+  pub number : number_in r ≡ normalize_number times values marks (slots old)
+  pub count : IfOk r (λ (n : ℕ). n ≡ length (normal_form times values marks))
+  pub times-are : new.times ≡ after r (map (λ (s : TimeSample). s.time) (normal_form times values marks)) old.times
+  pub values-are : new.values ≡ after r (map (λ (s : TimeSample). s.value) (normal_form times values marks)) old.values
+  pub marks-are : new.marks ≡ after r (map (λ (s : TimeSample). s.mark) (normal_form times values marks)) old.marks
 
 -- ---- between the functions
 

@@ -4,36 +4,37 @@
 
 ghost use Rattle.std.specs.Prelude.{◌≡◌};
 ghost use Rattle.definitions.specs.Moments.{outputs};
+ghost use Rattle.definitions.specs.Refusals.{number_in};
 ghost use Rattle.normal_form.specs.Normalizes.{Normalizes, listed_number};
 
 use definitions::limits::SAMPLES;
-use definitions::refusal;
-use sdf::{Counted, scans};
+use definitions::refusal::Refusal;
+use sdf::scans;
 
 mod merging;
 mod sorting;
 
-// The number by which lists in any order are refused, before their normal form is looked at.
-fn listed_number(times: &[f64], values: &[f64], marks: &[u8]) -> u8
-    ensures { result ≡ listed_number times.now values.now marks.now }
+// Whether lists in any order are accepted, before their normal form is looked at: refused by 1, 2 or 9.
+fn check_listed(times: &[f64], values: &[f64], marks: &[u8]) -> Result<(), Refusal>
+    ensures { number_in result ≡ listed_number times.now values.now marks.now }
 {
     if scans::unlike_lengths(times, values, marks) {
-        return refusal::MISSHAPEN;
+        return Err(Refusal::Misshapen);
     }
     if lists::any_unstorable(times) {
-        return refusal::UNSTORABLE;
+        return Err(Refusal::Unstorable);
     }
     if scans::any_nan(values, marks) {
-        return refusal::UNSTORABLE;
+        return Err(Refusal::Unstorable);
     }
     if scans::bad_marks(marks) {
-        return refusal::BAD_SAMPLES;
+        return Err(Refusal::BadSamples);
     }
-    0
+    Ok(())
 }
 
 // The samples sorted stably by time, and of equal times the first time with the last value and mark.
-// Nothing is written before the merged count is known to fit.
+// Nothing is written before the merged count, which is the reply, is known to fit.
 pub fn normalize_time_samples(
     times: &[f64],
     values: &[f64],
@@ -41,13 +42,10 @@ pub fn normalize_time_samples(
     outtimes: &mut [f64],
     outvalues: &mut [f64],
     outmarks: &mut [u8],
-) -> Counted
+) -> Result<usize, Refusal>
     ensures { Normalizes times.now values.now marks.now (outputs outtimes.old outvalues.old outmarks.old) (outputs outtimes.new outvalues.new outmarks.new) result }
 {
-    let number = listed_number(times, values, marks);
-    if number != 0 {
-        return Counted { number, count: 0 };
-    }
+    check_listed(times, values, marks)?;
     let n = times.len();
     let mut places = [0u16; SAMPLES];
     let mut firsts = [0u16; SAMPLES];

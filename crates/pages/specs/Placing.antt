@@ -1,14 +1,15 @@
 -- What is promised of a set that is written to its page: what the page holds, and that the others are as they were. Assumes nothing.
-use Rattle.std.specs.Prelude.{ℕ, suc, ◌+◌, ◌*◌, ◌≤◌, ◌<◌, ◌≡◌, Bool, true, false, List, [], get_or, length, take, set as write, Float}
+use Rattle.std.specs.Prelude.{ℕ, suc, ◌+◌, ◌*◌, ◌≤◌, ◌<◌, ◌≡◌, Bool, true, false, List, [], get_or, length, take, set as write, Float, Result}
 use Rattle.definitions.specs.declared.LayerOffset.{LayerOffset}
+use Rattle.definitions.specs.declared.refusal.Refusal.{Refusal}
+use Rattle.definitions.specs.Refusals.{number_in}
 use Rattle.laws.specs.list.Every.{Every}
 use Rattle.dispatch.specs.SetOrder.{max_name, insert_number}
 use Rattle.dispatch.specs.NamedSets.{max_sets}
 use Rattle.clip.specs.declared.ClipSet as clip
 use Rattle.resolver.specs.declared.Shape.{Shape}
 use Rattle.resolver.specs.declared.Resolver.{Resolver}
-use Rattle.resolver.specs.declared.Settled.{Settled}
-use Rattle.resolver.specs.State.{lent_state}
+use Rattle.resolver.specs.State.{left, lent_state}
 use Rattle.resolver.specs.Promises as desk
 use Rattle.set_names.specs.Pages.{name_in, names_in, NamePages}
 use Rattle.pages.specs.Pages.{Pages, Sizes, Sized, bit, part, over, page_state, state_at, set_count, model, Made}
@@ -74,10 +75,10 @@ pub record Entered (n : ℕ) (h : Shape) (name : List ℕ) (declares : Bool) (de
   pub bytes_after : bytes' ≡ name_stored name declares n marked
 
 -- the set on the i-th page of each is moved, as on a desk that is lent
-pub record MovedAt (i : ℕ) (h : Shape) (o : LayerOffset) (starts : List Float) (numbers : List ℕ) (xs ys blocks : List Float) (r : Settled) (starts' : List Float) (numbers' : List ℕ) (xs' ys' blocks' : List Float) : Type 0 where
+pub record MovedAt (i : ℕ) (h : Shape) (o : LayerOffset) (starts : List Float) (numbers : List ℕ) (xs ys blocks : List Float) (r : Result Shape Refusal) (starts' : List Float) (numbers' : List ℕ) (xs' ys' blocks' : List Float) : Type 0 where
   pub own : Resolver
-  pub retimes : desk.Retimes (page_state h i starts numbers xs ys blocks) o (record { number = r.number; resolver = own })
-  pub is : own ≡ lent_state r.shape own.set.starts own.set.numbers own.set.xs own.set.ys own.set.blocks
+  pub retimes : desk.Retimes (page_state h i starts numbers xs ys blocks) o (number_in r) own
+  pub is : own ≡ lent_state (left h r) own.set.starts own.set.numbers own.set.xs own.set.ys own.set.blocks
   pub starts-after : starts' ≡ over (i * 256) own.set.starts starts
   pub numbers_after : numbers' ≡ over (i * 256) own.set.numbers numbers
   pub xs-after : xs' ≡ over (i * 512) own.set.xs xs

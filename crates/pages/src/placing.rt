@@ -9,7 +9,8 @@ ghost use Rattle.pages.specs.Placing.{PageRoom, PutAt, Enters, Entered, MovedAt}
 use crate::{layout, storing};
 use clip::ClipSet;
 use definitions::LayerOffset;
-use resolver::{Settled, Shape};
+use definitions::refusal::Refusal;
+use resolver::Shape;
 
 // The set on the i-th page of its lists; what of it is no list is handed back.
 pub fn put_set(
@@ -60,7 +61,7 @@ pub fn enter(
     counts[0] = n as u64 + 1;
 }
 
-// The set on the i-th page of its lists moved, unless a number refuses it; the shape is that of the set.
+// The set on the i-th page of its lists moved, unless a number refuses it; the shape is that of the moved set.
 pub fn move_set(
     starts: &mut [f64],
     numbers: &mut [u64],
@@ -70,7 +71,7 @@ pub fn move_set(
     i: usize,
     shape: Shape,
     o: LayerOffset,
-) -> Settled
+) -> Result<Shape, Refusal>
     requires fact_1 { PageRoom starts.old numbers.old xs.old ys.old blocks.old }
     requires fact_2 { i < max_sets }
     requires fact_3 { desk.Made (page_state shape i starts.old numbers.old xs.old ys.old blocks.old) }

@@ -2,7 +2,7 @@
 ghost use Rattle.std.specs.Prelude.{◌≡◌, ◌≤◌, ◌<◌, length};
 ghost use Rattle.dispatch.specs.SetOrder.{max_name};
 ghost use Rattle.dispatch.specs.NamedSets.{max_sets};
-ghost use Rattle.pages.specs.Pages.{pages, SizedIs, shape_in, Sizes, bit};
+ghost use Rattle.pages.specs.Pages.{pages, SizedIs, shape_in, Sizes};
 ghost use Rattle.pages.specs.Placing.{ShapeStored, name_stored};
 
 use crate::layout;
@@ -24,31 +24,14 @@ pub fn sized(
 ) -> bool
     ensures { SizedIs (pages starts.now numbers.now xs.now ys.now blocks.now defaults.now counts.now bytes.now) result }
 {
-    if starts.len() != layout::ENTRIES {
-        return false;
-    }
-    if numbers.len() != layout::ENTRIES {
-        return false;
-    }
-    if xs.len() != layout::KNOT_ENTRIES {
-        return false;
-    }
-    if ys.len() != layout::KNOT_ENTRIES {
-        return false;
-    }
-    if blocks.len() != layout::ENTRIES {
-        return false;
-    }
-    if defaults.len() != layout::DEFAULTS {
-        return false;
-    }
-    if counts.len() != layout::COUNTS {
-        return false;
-    }
-    if bytes.len() != layout::BYTES {
-        return false;
-    }
-    true
+    starts.len() == layout::ENTRIES
+        && numbers.len() == layout::ENTRIES
+        && xs.len() == layout::KNOT_ENTRIES
+        && ys.len() == layout::KNOT_ENTRIES
+        && blocks.len() == layout::ENTRIES
+        && defaults.len() == layout::DEFAULTS
+        && counts.len() == layout::COUNTS
+        && bytes.len() == layout::BYTES
 }
 
 // The shape of the i-th set.
@@ -77,15 +60,6 @@ pub fn shape_at(defaults: &[f64], counts: &[u64], bytes: &[u8], i: usize) -> Sha
     }
 }
 
-fn bit_of(b: bool) -> u8
-    ensures { result ≡ bit b }
-{
-    if b {
-        return 1;
-    }
-    0
-}
-
 pub fn store_shape(
     shape: Shape,
     i: usize,
@@ -106,18 +80,7 @@ pub fn store_shape(
     counts[layout::BLOCKS + i] = entries.blocks as u64;
     defaults[i] = default.value;
     bytes[layout::MARKS + i] = default.mark;
-    bytes[layout::FLAGS + i] = bit_of(manifest.interpolate);
-}
-
-fn copy_bytes(from: &[u8], to: &mut [u8])
-    requires { length to.old ≡ length from.now }
-    ensures { to.new ≡ from.now }
-{
-    let mut i: usize = 0;
-    while i < from.len() {
-        to[i] = from[i];
-        i += 1;
-    }
+    bytes[layout::FLAGS + i] = u8::from(manifest.interpolate);
 }
 
 // The i-th name, and whether its set declares.
@@ -130,7 +93,7 @@ pub fn store_name(name: &[u8], declares: bool, i: usize, bytes: &mut [u8])
     let at = i * PAGE;
     let begin = at + 1;
     let end = begin + name.len();
-    copy_bytes(name, &mut bytes[begin..end]);
+    bytes[begin..end].copy_from_slice(name);
     bytes[at] = name.len() as u8;
-    bytes[layout::DECLARES + i] = bit_of(declares);
+    bytes[layout::DECLARES + i] = u8::from(declares);
 }

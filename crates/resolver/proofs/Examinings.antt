@@ -9,6 +9,7 @@ use Rattle.definitions.specs.Samples.{Samples, samples_number}
 use Rattle.definitions.specs.StageSamples.{StageSample}
 use Rattle.definitions.specs.Value.{value_in_set}
 use Rattle.definitions.specs.Track.{Track, Outputs, slots, bake_number}
+use Rattle.definitions.specs.Refusals.{reply_of}
 use Rattle.definitions.specs.Questions.{Reply, reply, ask_active_clip, ask_clip_time, ask_value, ask_untimed, ask_stage_sample_times, ask_stage_samples, ask_stage_sample_count}
 use Rattle.definitions.specs.Calls.{explicit, template, install, retime, bake, step, accepted, Baked, baked_of, outputs_after, Bakes, CountsChanges}
 use Rattle.definitions.specs.Explicit.{explicit_number}
@@ -20,33 +21,43 @@ use Rattle.definitions.proofs.Traces as traces
 use Rattle.definitions.proofs.Traces.{in_a_row, no-trace}
 use Rattle.sdf.specs.Counted.{counted, listed as listing, itself}
 use Rattle.standing.specs.Lists.{time_of, mark_in}
-use Rattle.clip.specs.Preparing.{Examines}
+use Rattle.std.specs.Prelude.{Result, Ok, Err, IfOk}
+use Rattle.definitions.specs.declared.refusal.Refusal.{Refusal}
+use Rattle.definitions.specs.Refusals.{number_of, number_in}
+use Rattle.definitions.specs.Examining.{empty_set}
+use Rattle.clip.specs.declared.ClipSet as clip
+use Rattle.clip.specs.Preparing.{set_after, Examines}
+use Rattle.clip.proofs.Preparing.{is-kept}
 use Rattle.resolver.specs.declared.Resolver.{Resolver}
 use Rattle.resolver.specs.State.{model, Made}
-use Rattle.resolver.specs.Promises.{count_code}
+use Rattle.resolver.specs.Promises.{Installs}
 use Rattle.resolver.specs.Examinings.{AcceptsFields, AsTheTwo, AcceptanceInARow, Operation, listed, active-clip, clip-time, value, untimed, stage-sample-times, stage-samples, stage-sample-count, change-count, Told, Does, Looks, NoTrace}
-use Rattle.resolver.proofs.WholeList.{told}
 
 -- ---- acceptance
 
 pub acceptance-in-a-row : AcceptanceInARow
 unfolding step examine
-acceptance-in-a-row d f p e r x i a = go f x a
+acceptance-in-a-row d f p e n a x i h = go f x h
   where
-    stands : (f : Fields) → Examines f p → model r.resolver ≡ step (model d) (acceptance f) → model r.resolver ≡ accepted p.number (model d) (model e)
-    stands f x a =
-        a ∙ in_a_row (model d) f ∙ ap (λ (y : Examined). accepted y.number (model d) (standing y.set)) (sym x.reply) ∙ ap (accepted p.number (model d)) (sym i.after)
+    installed : (p : Result clip.ClipSet Refusal) → IfOk p (λ (s : clip.ClipSet). Installs d s e)
+        → accepted (number_in p) (model d) (standing (set_after empty_set p)) ≡ accepted (number_in p) (model d) (model e)
+    installed (Ok s) i = sym i.after
+    installed (Err r) i = sym (is-kept (model d) (standing empty_set) r (number_of r) refl) ∙ is-kept (model d) (model e) r (number_of r) refl
 
-    number-of : (f : Fields) → Examines f p → (examine f).number ≡ p.number
+    stands : (f : Fields) → Examines f p → model a ≡ step (model d) (acceptance f) → model a ≡ accepted (number_in p) (model d) (model e)
+    stands f x q =
+        q ∙ in_a_row (model d) f ∙ ap (λ (y : Examined). accepted y.number (model d) (standing y.set)) (sym x.reply) ∙ installed p i
+
+    number-of : (f : Fields) → Examines f p → (examine f).number ≡ number_in p
     number-of f x = ap (λ (y : Examined). y.number) (sym x.reply)
 
-    go : (f : Fields) → Examines f p → AcceptsFields d f r → AsTheTwo d p e r
-    go (explicitly f) x a =
-        let n : r.number ≡ p.number = a.number ∙ number-of (explicitly f) x in
-        record { number = n; kept = λ h. a.kept (λ z. h (sym n ∙ z)); stands = stands (explicitly f) x a.after }
-    go (by_template f) x a =
-        let n : r.number ≡ p.number = a.number ∙ number-of (by_template f) x in
-        record { number = n; kept = λ h. a.kept (λ z. h (sym n ∙ z)); stands = stands (by_template f) x a.after }
+    go : (f : Fields) → Examines f p → AcceptsFields d f n a → AsTheTwo d p e n a
+    go (explicitly f) x h =
+        let q : n ≡ number_in p = h.number ∙ number-of (explicitly f) x in
+        record { number = q; kept = λ k. h.kept (λ z. k (sym q ∙ z)); stands = stands (explicitly f) x h.after }
+    go (by_template f) x h =
+        let q : n ≡ number_in p = h.number ∙ number-of (by_template f) x in
+        record { number = q; kept = λ k. h.kept (λ z. k (sym q ∙ z)); stands = stands (by_template f) x h.after }
 
 -- ---- one reply
 
@@ -96,7 +107,7 @@ counts-once (standing set) s r r' k k' = go (samples_number set s) refl
 abbrev Settled : (c : Operation) → Told c → Told c → Resolver → Resolver → Type 0
 Settled c r r' e e' = traces.Settled Told Does Looks model Made c r r' e e'
 
--- a call that hands back a number and a resolver, of each of which the model says what it is
+-- a call of whose number and of the resolver after it the model says what they are
 by-step : (c : Operation) {r r' : Told c} (d d' e e' : Resolver) (n : Model → Told c) (after : Model → Model) → model d ≡ model d'
     → r ≡ n (model d) → r' ≡ n (model d') → model e ≡ after (model d) → model e' ≡ after (model d') → Made e → Made e' → Settled c r r' e e'
 by-step c d d' e e' n after q a a' b b' m m' = record { reply = a ∙ ap n q ∙ sym a'; stands = b ∙ ap after q ∙ sym b'; made = m; made' = m' }
@@ -106,21 +117,18 @@ asked : (c : Operation) {r r' : Told c} (d d' e e' : Resolver) → model d ≡ m
 asked c d d' e e' q a l l' m m' = record { reply = a; stands = ap model (sym l) ∙ q ∙ ap model l'; made = subst Made l m; made' = subst Made l' m' }
 
 settles : (c : Operation) (d d' e e' : Resolver) (r r' : Told c) → Made d → Made d' → model d ≡ model d' → Does c d r e → Does c d' r' e' → Settled c r r' e e'
-settles (listed (explicit f)) d d' e e' n n' m m' q (r, p, a, b) (r', p', a', b') =
-    by-step (listed (explicit f)) d d' e e' (λ (x : Model). explicit_number f) (λ (x : Model). step x (explicit f)) q (sym a ∙ (p m).number) (sym a' ∙ (p' m').number)
-    (ap model (sym b) ∙ (p m).after) (ap model (sym b') ∙ (p' m').after) (subst Made b (p m).made) (subst Made b' (p' m').made)
-settles (listed (template f)) d d' e e' n n' m m' q (r, p, a, b) (r', p', a', b') =
-    by-step (listed (template f)) d d' e e' (λ (x : Model). template_number f) (λ (x : Model). step x (template f)) q (sym a ∙ (p m).number) (sym a' ∙ (p' m').number)
-    (ap model (sym b) ∙ (p m).after) (ap model (sym b') ∙ (p' m').after) (subst Made b (p m).made) (subst Made b' (p' m').made)
+settles (listed (explicit f)) d d' e e' n n' m m' q p p' =
+    by-step (listed (explicit f)) d d' e e' (λ (x : Model). explicit_number f) (λ (x : Model). step x (explicit f)) q (p m).number (p' m').number (p m).after (p' m').after (p m).made (p' m').made
+settles (listed (template f)) d d' e e' n n' m m' q p p' =
+    by-step (listed (template f)) d d' e e' (λ (x : Model). template_number f) (λ (x : Model). step x (template f)) q (p m).number (p' m').number (p m).after (p' m').after (p m).made (p' m').made
 settles (listed (install set)) d d' e e' n n' m m' q (p, k, c, i) (p', k', c', i') =
     by-step (listed (install set)) d d' e e' (λ (x : Model). tt) (λ (x : Model). step x (install set)) q refl refl
     ((i m k).after ∙ ap (λ (x : ClipSet). step (model d) (install x)) c) ((i' m' k').after ∙ ap (λ (x : ClipSet). step (model d') (install x)) c') (i m k).made (i' m' k').made
-settles (listed (retime o)) d d' e e' n n' m m' q (r, p, a, b) (r', p', a', b') =
-    by-step (listed (retime o)) d d' e e' (λ (x : Model). retime_number x o) (λ (x : Model). step x (retime o)) q (sym a ∙ (p m).number) (sym a' ∙ (p' m').number)
-    (ap model (sym b) ∙ (p m).after) (ap model (sym b') ∙ (p' m').after) (subst Made b (p m).made) (subst Made b' (p' m').made)
+settles (listed (retime o)) d d' e e' n n' m m' q p p' =
+    by-step (listed (retime o)) d d' e e' (λ (x : Model). retime_number x o) (λ (x : Model). step x (retime o)) q (p m).number (p' m').number (p m).after (p' m').after (p m).made (p' m').made
 settles (listed (bake s o)) d d' e e' (r, p) (r', p') m m' q ((b, k, a), l) ((b', k', a'), l') =
-    let first : Bakes (model d') s o r p = subst (λ (x : Model). Bakes x s o r p) q (subst (λ (x : Reply Baked). Bakes (model d) s o x p) a (told d s o p b (k m))) in
-    let second : Bakes (model d') s o r' p' = subst (λ (x : Reply Baked). Bakes (model d') s o x p') a' (told d' s o p' b' (k' m')) in
+    let first : Bakes (model d') s o r p = subst (λ (x : Model). Bakes x s o r p) q (subst (λ (x : Reply Baked). Bakes (model d) s o x p) a (k m)) in
+    let second : Bakes (model d') s o r' p' = subst (λ (x : Reply Baked). Bakes (model d') s o x p') a' (k' m') in
     let same = bakes-once (model d') s o r r' p p' first second in
     asked (listed (bake s o)) d d' e e' q (λ i. (same.0 i, same.1 i)) l l' m m'
 settles (active-clip t) d d' e e' r r' m m' q (a, p, b, l) (a', p', b', l') =
@@ -131,22 +139,22 @@ settles (value s t) d d' e e' r r' m m' q (a, p, b, l) (a', p', b', l') =
     asked (value s t) d d' e e' q (sym b ∙ p m ∙ ap (λ (x : Model). ask_value x s t) q ∙ sym (p' m') ∙ b') l l' m m'
 settles (untimed s) d d' e e' r r' m m' q (a, p, b, l) (a', p', b', l') =
     asked (untimed s) d d' e e' q (sym b ∙ p m ∙ ap (λ (x : Model). ask_untimed x s) q ∙ sym (p' m') ∙ b') l l' m m'
-settles (stage-sample-times s times) d d' e e' (r, t) (r', t') m m' q (p, l) (p', l') =
+settles (stage-sample-times s times) d d' e e' (r, t) (r', t') m m' q (a, p, b, l) (a', p', b', l') =
     let ask = ap (λ (x : Model). ask_stage_sample_times x s (length times)) q in
-    let same = (p m).count ∙ ap counted ask ∙ sym (p' m').count in
+    let same = sym b ∙ (p m).count ∙ ap counted ask ∙ sym (p' m').count ∙ b' in
     let written = (p m).times ∙ ap (λ (x : Reply (List Float)). listing itself x times) ask ∙ sym (p' m').times in
     asked (stage-sample-times s times) d d' e e' q (λ i. (same i, written i)) l l' m m'
-settles (stage-samples s times marks) d d' e e' (r, t, k) (r', t', k') m m' q (p, l) (p', l') =
+settles (stage-samples s times marks) d d' e e' (r, t, k) (r', t', k') m m' q (a, p, b, l) (a', p', b', l') =
     let ask = ap (λ (x : Model). ask_stage_samples x s (min (length times) (length marks))) q in
-    let same = (p m).count ∙ ap counted ask ∙ sym (p' m').count in
+    let same = sym b ∙ (p m).count ∙ ap counted ask ∙ sym (p' m').count ∙ b' in
     let first = (p m).written-times ∙ ap (λ (x : Reply (List StageSample)). listing time_of x times) ask ∙ sym (p' m').written-times in
     let second = (p m).written-marks ∙ ap (λ (x : Reply (List StageSample)). listing mark_in x marks) ask ∙ sym (p' m').written-marks in
     asked (stage-samples s times marks) d d' e e' q (λ i. (same i, first i, second i)) l l' m m'
-settles (stage-sample-count s) d d' e e' r r' m m' q (p, l) (p', l') =
-    asked (stage-sample-count s) d d' e e' q (p m ∙ ap (λ (x : Model). count_code (ask_stage_sample_count x s)) q ∙ sym (p' m')) l l' m m'
-settles (change-count s) d d' e e' r r' m m' q (p, l) (p', l') =
-    let first = subst (λ (x : Model). CountsChanges x s (p m).reply) q (p m).counts in
-    asked (change-count s) d d' e e' q ((p m).code ∙ ap count_code (counts-once (model d') s (p m).reply (p' m').reply first (p' m').counts) ∙ sym (p' m').code) l l' m m'
+settles (stage-sample-count s) d d' e e' r r' m m' q (a, p, b, l) (a', p', b', l') =
+    asked (stage-sample-count s) d d' e e' q (sym b ∙ p m ∙ ap (λ (x : Model). ask_stage_sample_count x s) q ∙ sym (p' m') ∙ b') l l' m m'
+settles (change-count s) d d' e e' r r' m m' q (a, p, b, l) (a', p', b', l') =
+    let first = subst (λ (x : Model). CountsChanges x s (reply_of a)) q (p m) in
+    asked (change-count s) d d' e e' q (sym b ∙ counts-once (model d') s (reply_of a) (reply_of a') first (p' m') ∙ b') l l' m m'
 
 pub examinings-leave-no-trace : NoTrace
 examinings-leave-no-trace = no-trace Told Does Looks model Made settles

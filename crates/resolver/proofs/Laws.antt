@@ -1,4 +1,5 @@
 -- What stands after a call, by its number; one law for each return of an operation. Assumes nothing.
+use Rattle.std.specs.Prelude.{None, Some}
 use Prim.Native.Nat.{ℕ, zero, suc, min}
 use mathlib.Core.Path.{◌≡◌, refl, sym, ap, ap₂, ◌∙◌, subst}
 use mathlib.Core.Bool.{Bool, true, false, not, cond}
@@ -18,11 +19,15 @@ use Rattle.definitions.specs.Retime.{moved_number, retime_number, retime_stage_t
 use Rattle.definitions.specs.Lists.{◌if◌else◌, ◌then◌, written_over}
 use Rattle.definitions.specs.StageSamples.{StageSample, stage_sample_times}
 use Rattle.definitions.specs.Facts.{StageSampleTimesAre}
-use Rattle.sdf.specs.declared.Counted.{Counted}
 use Rattle.definitions.specs.Samples.{Samples, samples_number}
 use Rattle.sdf.specs.Judged.{Judged}
 use Rattle.sdf.proofs.Judged.{judged-accepted}
 use Rattle.definitions.specs.declared.StageTime.{StageTime}
+use Rattle.std.specs.Prelude as Prelude
+use Rattle.std.specs.Prelude.{Result, Ok, Err, IfOk}
+use Rattle.definitions.specs.declared.refusal.Refusal.{Refusal}
+use Rattle.definitions.specs.Refusals.{number_of}
+use Rattle.definitions.specs.Questions as Questions
 use Rattle.definitions.specs.Questions.{Reply, refused, replied, reply, of_set, stage_time_number, room_number, ask_stage_sample_times, ask_stage_samples}
 use Rattle.gf.specs.Doubles.{0·0}
 use Rattle.definitions.specs.Value.{value_in_set}
@@ -33,37 +38,34 @@ use Rattle.laws.proofs.cell.Numbers.{sound-values}
 use Rattle.laws.proofs.cell.Tracks.{track-is}
 use Rattle.laws.proofs.cell.StageTimes.{stage-sample-times}
 use Rattle.track.specs.declared.bake.Baked.{Baked}
-use Rattle.track.specs.Bakes.{track_of, bake_code, BakeIs}
+use Rattle.track.specs.Bakes.{track_of, baked_reply, BakeIs}
 use Rattle.track.proofs.Bakes.{same-standing, bakes}
-use Rattle.definitions.specs.Examining.{Fields, explicitly, by_template, fields_number, Examined, examine, acceptance}
+use Rattle.definitions.specs.Examining.{Fields, explicitly, by_template, empty_set, fields_number, Examined, examine, acceptance}
 use Rattle.definitions.proofs.Traces.{in_a_row}
 use Rattle.definitions.specs.Calls.{step, accepted, retimed, baked_of, outputs_after, Bakes, CountsChanges}
 use Rattle.laws.specs.list.Places.{Ascending}
 use Rattle.laws.specs.set.Sound.{Sound, SoundModel}
 use Rattle.laws.proofs.set.Sound.{sound-active, sound-knots}
 use Rattle.laws.specs.set.Accepted.{Accepted as AcceptedSamples}
-use Rattle.standing.specs.declared.questions.ActiveClip.TheVariants.{Clip, NoClip}
 use Rattle.clip.specs.declared.ClipSet as clip
-use Rattle.clip.specs.declared.Prepared.{Prepared}
+use Rattle.std.specs.Prelude.{Result, Ok, Err}
+use Rattle.definitions.specs.declared.refusal.Refusal.{Refusal}
+use Rattle.definitions.specs.declared.refusal.Refusal.TheVariants.{NoSet}
+use Rattle.definitions.specs.Refusals.{number_of, number_in}
 use Rattle.clip.specs.Retiming as sets
 use Rattle.clip.specs.Holding.{Room, clip_set_of, manifest_of}
-use Rattle.clip.specs.Preparing.{MadeSet, Examines}
-use Rattle.clip.proofs.Preparing.{made-is}
+use Rattle.clip.specs.Preparing.{MadeSet, set_after, Examines}
+use Rattle.clip.proofs.Preparing.{is-kept, made-is}
 use Rattle.resolver.specs.declared.Resolver.{Resolver}
-use Rattle.resolver.specs.declared.Accepted.{Accepted}
 use Rattle.standing.specs.declared.StandingSet.{StandingSet}
 use Rattle.standing.specs.declared.Counts.{Counts}
 use Rattle.standing.specs.Standing.{set_in, Installed, Unpacked, Packed, Asked, lent_set, answered}
 use Rattle.sdf.specs.Counted.{counted, listed, itself}
 use Rattle.standing.specs.Lists.{time_of, mark_in, ListsTimes, ListsSamples}
 use Rattle.resolver.specs.State.{model, Made, lent_state}
-use Rattle.resolver.specs.Promises.{Accepts, Expands, Retimes, BakesTrack, TellsTimes, TellsSamples, count_code, TellsChangeCount, Installs, Settles}
+use Rattle.resolver.specs.Promises.{Kept, Accepts, Expands, Retimes, BakesTrack, TellsTimes, TellsSamples, clip_reply, Installs}
 
 -- ---- installing
-
-accepted-refused : (n : ℕ) (before after : Model) → (n ≡ 0 → ⊥) → before ≡ accepted n before after
-accepted-refused zero b a h = absurd (h refl)
-accepted-refused (suc n) b a h = refl
 
 accepted-granted : (n : ℕ) (before after : Model) → n ≡ 0 → after ≡ accepted n before after
 accepted-granted n b a e = ap (λ (k : ℕ). accepted k b a) (sym e)
@@ -81,29 +83,59 @@ pub unpacks : (d : Resolver) (p : clip.ClipSet) {c : Counts} {starts : List Floa
     → Installs d p (lent_state (record { stands = true; clips = p.clips; counts = c; manifest = manifest_of p }) starts numbers xs ys blocks)
 unpacks d p m u = installs d p _ m (record { whole = u.whole; is = u.is })
 
-pub settles-not : (d : Resolver) (p : Prepared) → Made d → (p.number ≡ 0 → ⊥) → Settles d p (record { number = p.number; resolver = d })
-settles-not d p m h = record { number = refl; kept = λ n. refl; after = accepted-refused p.number (model d) (standing (clip_set_of p.set)) h; made = m }
+-- what stands after a preparation whose set is installed
+abbrev stands_after : Model → Result clip.ClipSet Refusal → Model
+stands_after m (Ok s) = standing (clip_set_of s)
+stands_after m (Err r) = m
 
-pub settles : (d : Resolver) (p : Prepared) (e : Resolver) → p.number ≡ 0 → Installs d p.set e → Settles d p (record { number = 0; resolver = e })
+stands-after-is : (m : Model) (kept : ClipSet) (p : Result clip.ClipSet Refusal) → stands_after m p ≡ accepted (number_in p) m (standing (set_after kept p))
+stands-after-is m kept (Ok s) = refl
+stands-after-is m kept (Err r) = is-kept m (standing kept) r (number_of r) refl
+
+-- a prepared set is installed, or what stood still stands
+record Settles (d : Resolver) (p : Result clip.ClipSet Refusal) (n : ℕ) (e : Resolver) : Type 0 where
+  number : n ≡ number_in p
+  kept : Kept d n e
+  after : model e ≡ stands_after (model d) p
+  made : Made e
+
+settles-not : (d : Resolver) (r : Refusal) → Made d → Settles d (Err r) (number_of r) d
+settles-not d r m = record { number = refl; kept = λ n. refl; after = refl; made = m }
+
+settles : (d : Resolver) (s : clip.ClipSet) (e : Resolver) → Installs d s e → Settles d (Ok s) 0 e
 unfolding step
-settles d p e z i = record { number = sym z; kept = λ n. absurd (n refl); after = i.after ∙ accepted-granted p.number (model d) (standing (clip_set_of p.set)) z; made = i.made }
+settles d s e i = record { number = refl; kept = λ n. absurd (n refl); after = i.after; made = i.made }
 
 -- ---- acceptance: examining and installing in a row
 
-module _ (d : Resolver) (f : Fields) (p : Prepared) (q : Examines f p) where
-  settled-number : (r : Accepted) → Settles d p r → r.number ≡ fields_number f
+module _ (d : Resolver) (f : Fields) (p : Result clip.ClipSet Refusal) (q : Examines f p) (n : ℕ) (e : Resolver) (i : Settles d p n e) where
+  settled-number : n ≡ fields_number f
   unfolding examine
-  settled-number r i = i.number ∙ ap (λ (x : Examined). x.number) q.reply
+  settled-number = i.number ∙ ap (λ (x : Examined). x.number) q.reply
 
-  settled-after : (r : Accepted) → Settles d p r → model r.resolver ≡ step (model d) (acceptance f)
+  settled-after : model e ≡ step (model d) (acceptance f)
   unfolding step
-  settled-after r i = i.after ∙ ap (λ (x : Examined). accepted x.number (model d) (standing x.set)) q.reply ∙ sym (in_a_row (model d) f)
+  settled-after = i.after ∙ stands-after-is (model d) empty_set p ∙ ap (λ (x : Examined). accepted x.number (model d) (standing x.set)) q.reply ∙ sym (in_a_row (model d) f)
 
-pub accepts : (d : Resolver) (f : ExplicitFields) (p : Prepared) (r : Accepted) → Examines (explicitly f) p → Settles d p r → Accepts d f r
-accepts d f p r q i = record { number = settled-number d (explicitly f) p q r i; kept = i.kept; after = settled-after d (explicitly f) p q r i; made = i.made }
+module _ (d : Resolver) (f : ExplicitFields) where
+  settled-accepts : (p : Result clip.ClipSet Refusal) (n : ℕ) (e : Resolver) → Examines (explicitly f) p → Settles d p n e → Accepts d f n e
+  settled-accepts p n e q i = record { number = settled-number d (explicitly f) p q n e i; kept = i.kept; after = settled-after d (explicitly f) p q n e i; made = i.made }
 
-pub expands : (d : Resolver) (f : TemplateFields) (p : Prepared) (r : Accepted) → Examines (by_template f) p → Settles d p r → Expands d f r
-expands d f p r q i = record { number = settled-number d (by_template f) p q r i; kept = i.kept; after = settled-after d (by_template f) p q r i; made = i.made }
+  pub accepts-not : (r : Refusal) → Made d → Examines (explicitly f) (Err r) → Accepts d f (number_of r) d
+  accepts-not r m q = settled-accepts (Err r) (number_of r) d q (settles-not d r m)
+
+  pub accepts : (s : clip.ClipSet) (e : Resolver) → Examines (explicitly f) (Ok s) → Installs d s e → Accepts d f 0 e
+  accepts s e q i = settled-accepts (Ok s) 0 e q (settles d s e i)
+
+module _ (d : Resolver) (f : TemplateFields) where
+  settled-expands : (p : Result clip.ClipSet Refusal) (n : ℕ) (e : Resolver) → Examines (by_template f) p → Settles d p n e → Expands d f n e
+  settled-expands p n e q i = record { number = settled-number d (by_template f) p q n e i; kept = i.kept; after = settled-after d (by_template f) p q n e i; made = i.made }
+
+  pub expands-not : (r : Refusal) → Made d → Examines (by_template f) (Err r) → Expands d f (number_of r) d
+  expands-not r m q = settled-expands (Err r) (number_of r) d q (settles-not d r m)
+
+  pub expands : (s : clip.ClipSet) (e : Resolver) → Examines (by_template f) (Ok s) → Installs d s e → Expands d f 0 e
+  expands s e q i = settled-expands (Ok s) 0 e q (settles d s e i)
 
 -- ---- retiming
 
@@ -131,25 +163,30 @@ knots-ascend d m e =
     subst Ascending (knot-times (take d.set.counts.knots d.set.xs) (take d.set.counts.knots d.set.ys) (paired m.whole.in-xs m.whole.in_ys))
     (unfold set_of in sound-knots (set_in d.set) (stands-sound d m e))
 
-refused-retime : (d : Resolver) (o : LayerOffset) (n : ℕ) → Made d → n ≡ retime_number (model d) o → (n ≡ 0 → ⊥) → Retimes d o (record { number = n; resolver = d })
-unfolding step
-refused-retime d o n m e h = record { number = e; kept = λ n. refl; after = accepted-refused (retime_number (model d) o) (model d) (retimed o (model d)) (λ z. h (e ∙ z)); made = m }
-
-pub retimes-20 : (d : Resolver) (o : LayerOffset) → Made d → d.stands ≡ false → Retimes d o (record { number = 20; resolver = d })
-unfolding retime_number
-retimes-20 d o m e = refused-retime d o 20 m (sym (ap (λ (x : Model). retime_number x o) (none-stands d e))) (λ z. omega arith)
-
-pub retimes : (d : Resolver) (o : LayerOffset) (set : clip.ClipSet) (p : Prepared) (r : Accepted) → d.stands ≡ true → Packed (set_in d.set) set → sets.Retimes set o p → Settles d p r → Retimes d o r
+pub retimes-20 : (d : Resolver) (o : LayerOffset) → Made d → d.stands ≡ false → Retimes d o 20 d
 unfolding step retime_number
-retimes d o set p r e k q i =
-    let n : p.number ≡ retime_number (model d) o = q.reply.number ∙ ap (λ (x : ClipSet). moved_number x o) k.is ∙ sym (ap (λ (x : Model). retime_number x o) (stands-as d e)) in
-    record {
-      number = i.number ∙ n;
-      kept = i.kept;
-      after = i.after ∙ accepted-same p.number (retime_number (model d) o) (model d) (standing (clip_set_of p.set)) (retimed o (model d)) n
-          (λ z. ap standing (made-is (clip_set_of set) (retime_stage_times o (clip_set_of set)) p (moved_number (clip_set_of set) o) q z ∙ ap (retime_stage_times o) k.is) ∙ sym (ap (retimed o) (stands-as d e)));
-      made = i.made;
-    }
+retimes-20 d o m e =
+    let n : 20 ≡ retime_number (model d) o = sym (ap (λ (x : Model). retime_number x o) (none-stands d e)) in
+    record { number = n; kept = λ n. refl; after = is-kept (model d) (retimed o (model d)) NoSet (retime_number (model d) o) n; made = m }
+
+module _ (d : Resolver) (o : LayerOffset) (set : clip.ClipSet) (h : d.stands ≡ true) (k : Packed (set_in d.set) set) where
+  settled-retimes : (p : Result clip.ClipSet Refusal) (n : ℕ) (e : Resolver) → sets.Retimes set o p → Settles d p n e → Retimes d o n e
+  unfolding step retime_number
+  settled-retimes p n e q i =
+      let m : number_in p ≡ retime_number (model d) o = q.reply.number ∙ ap (λ (x : ClipSet). moved_number x o) k.is ∙ sym (ap (λ (x : Model). retime_number x o) (stands-as d h)) in
+      record {
+        number = i.number ∙ m;
+        kept = i.kept;
+        after = i.after ∙ stands-after-is (model d) (clip_set_of set) p ∙ accepted-same (number_in p) (retime_number (model d) o) (model d) (standing (set_after (clip_set_of set) p)) (retimed o (model d)) m
+            (λ z. ap standing (made-is (clip_set_of set) (retime_stage_times o (clip_set_of set)) p (moved_number (clip_set_of set) o) q z ∙ ap (retime_stage_times o) k.is) ∙ sym (ap (retimed o) (stands-as d h)));
+        made = i.made;
+      }
+
+  pub retimes-not : (r : Refusal) → Made d → sets.Retimes set o (Err r) → Retimes d o (number_of r) d
+  retimes-not r m q = settled-retimes (Err r) (number_of r) d q (settles-not d r m)
+
+  pub retimes : (s : clip.ClipSet) (e : Resolver) → sets.Retimes set o (Ok s) → Installs d s e → Retimes d o 0 e
+  retimes s e q i = settled-retimes (Ok s) 0 e q (settles d s e i)
 
 -- ---- questions
 
@@ -229,20 +266,16 @@ module _ (d : Resolver) {times values : List Float} {marks ends : List ℕ} {n :
   pub times-are-so : StageSampleTimesAre (set_in d.set) (stage_sample_times (set_in d.set) (samples_of times values marks ends))
   times-are-so = stage-sample-times (set_in d.set) (samples_of times values marks ends) (record { sound = stands-sound d m e; doubles = j.times-fit; accepted = sym (judged-number d j) ∙ z })
 
-  pub bakes-set : (before after : Outputs) (r : Baked)
+  pub bakes-set : (before after : Outputs) (r : Result Baked Refusal)
       → BakeIs (lent_set (length ends) d.set.counts d.set.starts d.set.numbers d.set.xs d.set.ys d.set.blocks d.set.manifest) (samples_of times values marks ends) before after r
       → BakesTrack d (samples_of times values marks ends) before r after
   bakes-set before after r p =
       let s = samples_of times values marks ends in
       let sound = stands-sound d m e in
       let q = subst (λ (x : ClipSet). BakeIs x s before after r) lent-is p in
-      record {
-        reply = reply (room_number (slots before) (length (track_of (set_in d.set) s).changes)) (baked_of (track_of (set_in d.set) s));
-        bakes = subst (λ (x : Model). Bakes x s before (reply (room_number (slots before) (length (track_of (set_in d.set) s).changes)) (baked_of (track_of (set_in d.set) s))) after) (sym (stands-as d e))
-            (bakes (set_in d.set) s (sound-set (set_in d.set) sound) (sound-samples (set_in d.set) s is-accepted)
-            (sound-values (set_in d.set) s sound is-accepted j.values-fit) (sym (judged-number d j) ∙ z) before after r q);
-        code = q.replies;
-      }
+      subst (λ (x : Model). Bakes x s before (baked_reply r) after) (sym (stands-as d e))
+      (bakes (set_in d.set) s (sound-set (set_in d.set) sound) (sound-samples (set_in d.set) s is-accepted)
+      (sound-values (set_in d.set) s sound is-accepted j.values-fit) (sym (judged-number d j) ∙ z) before after r q)
 
   pub counts-set : (n : ℕ) → n ≡ length (track_of (lent_set (length ends) d.set.counts d.set.starts d.set.numbers d.set.xs d.set.ys d.set.blocks d.set.manifest) (samples_of times values marks ends)).changes
       → CountsChanges (model d) (samples_of times values marks ends) (replied n)
@@ -257,20 +290,19 @@ module _ (d : Resolver) {times values : List Float} {marks ends : List ℕ} {n :
         replies = ap replied (q ∙ ap (λ (x : ClipSet). length (track_of x s).changes) lent-is) ∙ ap (λ (k : ℕ). reply k (length (track_of (set_in d.set) s).changes)) (sym (sym (judged-number d j) ∙ z));
       })
 
--- ---- the active clip, case by case
+-- ---- the active clip
+
+pub clip-told : (o : Option ℕ) (r : Prelude.Option ℕ) → r ≡ answered o → clip_reply (Ok r) ≡ replied o
+clip-told o r e = ap (λ (x : Prelude.Option ℕ). clip_reply (Ok x)) e ∙ told o
+  where
+    told : (o : Option ℕ) → clip_reply (Ok (answered o)) ≡ replied o
+    told none = refl
+    told (some x) = refl
+
+-- ---- the bake
 
 other : {A : Type 0} → ◌≡◌ {A = ℕ} 0 1 → A
 other e = absurd (omega arith)
-
-pub clip-told : (x : ℕ) (o : Option ℕ) → Clip x ≡ answered o → replied (some x) ≡ replied o
-clip-told x none e = other (cc)
-clip-told x (some y) e = ap (λ (n : ℕ). replied (some n)) (cc)
-
-pub none_told : (o : Option ℕ) → NoClip ≡ answered o → replied none ≡ replied o
-none_told none e = refl
-none_told (some y) e = other (cc)
-
--- ---- the bake
 
 -- a track that nobody asks for
 abbrev no_track : Track
@@ -307,10 +339,6 @@ bakes-refused d s o n e q h = subst (λ (m : Model). Bakes m s o (refused n) o) 
     keeps zero g = absurd (g refl)
     keeps (suc m) g = refl
 
--- a refusal as the code hands it back
-pub bakes-code : {d : Resolver} {s : Samples} {o p : Outputs} {n : ℕ} {r : Baked} → Bakes (model d) s o (refused n) p → r ≡ bake_code (refused n) → BakesTrack d s o r p
-bakes-code {n = n} k e = record { reply = refused n; bakes = k; code = e }
-
 -- ---- the count of the changes, where it is refused
 
 pub counts-20 : (d : Resolver) (s : Samples) → d.stands ≡ false → CountsChanges (model d) s (refused 20)
@@ -323,57 +351,53 @@ counts-refused d s n e q h = record {
   replies = plainly-refused s (λ (x : ClipSet). 0) d e n q h;
 }
 
--- ---- replies that are lists
-
--- a refusal's count is 0
-pub counted-refused : (r : Counted) (n : ℕ) → r.number ≡ n → r.count ≡ 0 → r ≡ record { number = n; count = 0 }
-counted-refused r n e f = λ i. record { number = e i; count = f i }
-
-pub count-refused : {r : Counted} {n : ℕ} {a : Reply ℕ} → (r.number ≡ n) × (r.count ≡ 0) → refused n ≡ a → r ≡ count_code a
-count-refused {r = r} {n = n} (e, f) q = counted-refused r n e f ∙ ap count_code q
-
-pub counts-code : {d : Resolver} {s : Samples} {n : ℕ} {r : Counted} → CountsChanges (model d) s (refused n) → (r.number ≡ n) × (r.count ≡ 0) → TellsChangeCount d s r
-counts-code {n = n} {r = r} k (e, f) = record { reply = refused n; counts = k; code = counted-refused r n e f }
-
 -- ---- the questions whose reply is a list, by their replies
 
-pub times-refused : (d : Resolver) (s : Samples) (before : List Float) (r : Counted) (n : ℕ) → (r.number ≡ n) × (r.count ≡ 0) → (n ≡ 0 → ⊥) → refused n ≡ ask_stage_sample_times (model d) s (length before) → TellsTimes d s before before r
-times-refused d s before r n (e, f) h q = record {
-  count = counted-refused r n e f ∙ ap counted q;
+pub times-refused : (d : Resolver) (s : Samples) (before : List Float) (r : Refusal) → refused (number_of r) ≡ ask_stage_sample_times (model d) s (length before) → TellsTimes d s before before (Err r)
+times-refused d s before r q = record {
+  count = ap counted q;
   times = ap (λ (x : Reply (List Float)). listed itself x before) q;
-  are = λ set p z. absurd (h (sym e ∙ z));
+  are = λ set p. tt;
 }
 
 -- where it is replied to, the list stands at the front
-list_written : (l before after : List Float) (r : Counted) → ListsTimes l before after r → r.number ≡ 0 → take r.count after ≡ l
-list_written l before after r p z = go (room_number (length before) (length l)) p.count p.times
+list_written : (l before after : List Float) (n : ℕ) → ListsTimes l before after (Ok n) → take n after ≡ l
+list_written l before after n p = go (room_number (length before) (length l)) p.count p.times
   where
     themselves : (l : List Float) → map itself l ≡ l
     themselves [] = refl
     themselves (x ∷ l) = ap (λ (k : List Float). x ∷ k) (themselves l)
 
-    go : (n : ℕ) → r ≡ counted (reply n l) → after ≡ listed itself (reply n l) before → take r.count after ≡ l
-    go zero c t = ap₂ take (ap (λ (x : Counted). x.count) c) (t ∙ ap (λ (k : List Float). written_over k before) (themselves l)) ∙ take-append_seam l (drop (length l) before)
-    go (suc n) c t = let e : suc n ≡ 0 = sym (ap (λ (x : Counted). x.number) c) ∙ z in absurd (omega arith)
+    count : Reply ℕ → ℕ
+    count (refused k) = 0
+    count (replied k) = k
 
-pub times-replied : (d : Resolver) (s : Samples) (l l' before after : List Float) (r : Counted) → l ≡ l' → ListsTimes l before after r → reply (room_number (length before) (length l')) l' ≡ ask_stage_sample_times (model d) s (length before)
+    go : (k : ℕ) → replied n ≡ counted (reply k l) → after ≡ listed itself (reply k l) before → take n after ≡ l
+    go zero c t = ap₂ take (ap count c) (t ∙ ap (λ (k : List Float). written_over k before) (themselves l)) ∙ take-append_seam l (drop (length l) before)
+    go (suc k) c t = absurd (omega (arith, ap Questions.number_of c))
+
+pub times-replied : (d : Resolver) (s : Samples) (l l' before after : List Float) (r : Result ℕ Refusal) → l ≡ l' → ListsTimes l before after r → reply (room_number (length before) (length l')) l' ≡ ask_stage_sample_times (model d) s (length before)
     → d.stands ≡ true → StageSampleTimesAre (set_in d.set) l' → TellsTimes d s before after r
 times-replied d s l l' before after r e p q b are =
     let k = subst (λ (x : List Float). ListsTimes x before after r) e p in
     record {
       count = k.count ∙ ap counted q;
       times = k.times ∙ ap (λ (x : Reply (List Float)). listed itself x before) q;
-      are = λ set m z. subst (λ (x : ClipSet). StageSampleTimesAre x (take r.count after)) (same-standing (set_in d.set) set (sym (stands-as d b) ∙ m)) (subst (StageSampleTimesAre (set_in d.set)) (sym (list_written l' before after r k z)) are);
+      are = λ set m. subst (λ (x : ClipSet). IfOk r (λ (n : ℕ). StageSampleTimesAre x (take n after))) (same-standing (set_in d.set) set (sym (stands-as d b) ∙ m)) (go r k);
     }
+  where
+    go : (r : Result ℕ Refusal) → ListsTimes l' before after r → IfOk r (λ (n : ℕ). StageSampleTimesAre (set_in d.set) (take n after))
+    go (Ok n) k = subst (StageSampleTimesAre (set_in d.set)) (sym (list_written l' before after n k)) are
+    go (Err x) k = tt
 
-pub list-refused : (d : Resolver) (s : Samples) (ts : List Float) (ms : List ℕ) (r : Counted) (n : ℕ) → (r.number ≡ n) × (r.count ≡ 0) → refused n ≡ ask_stage_samples (model d) s (min (length ts) (length ms)) → TellsSamples d s ts ts ms ms r
-list-refused d s ts ms r n (e, f) q = record {
-  count = counted-refused r n e f ∙ ap counted q;
+pub list-refused : (d : Resolver) (s : Samples) (ts : List Float) (ms : List ℕ) (r : Refusal) → refused (number_of r) ≡ ask_stage_samples (model d) s (min (length ts) (length ms)) → TellsSamples d s ts ts ms ms (Err r)
+list-refused d s ts ms r q = record {
+  count = ap counted q;
   written-times = ap (λ (x : Reply (List StageSample)). listed time_of x ts) q;
   written-marks = ap (λ (x : Reply (List StageSample)). listed mark_in x ms) q;
 }
 
-pub list-replied : (d : Resolver) (s : Samples) (l l' : List StageSample) (ts ts' : List Float) (ms ms' : List ℕ) (r : Counted) → l ≡ l' → ListsSamples l ts ts' ms ms' r
+pub list-replied : (d : Resolver) (s : Samples) (l l' : List StageSample) (ts ts' : List Float) (ms ms' : List ℕ) (r : Result ℕ Refusal) → l ≡ l' → ListsSamples l ts ts' ms ms' r
     → reply (room_number (min (length ts) (length ms)) (length l')) l' ≡ ask_stage_samples (model d) s (min (length ts) (length ms)) → TellsSamples d s ts ts' ms ms' r
 list-replied d s l l' ts ts' ms ms' r e p q =
     let k = subst (λ (x : List StageSample). ListsSamples x ts ts' ms ms' r) e p in

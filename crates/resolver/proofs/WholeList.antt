@@ -9,9 +9,6 @@ use Rattle.definitions.specs.Samples.{Samples, samples_number}
 use Rattle.definitions.specs.Questions.{Reply, reply}
 use Rattle.definitions.specs.Track.{Outputs, slots, bake_number}
 use Rattle.definitions.specs.Calls.{Call, explicit, template, install, retime, bake, step, Baked, baked_of, outputs_after, Bakes, Due}
-use Rattle.track.specs.declared.bake.Baked as track
-use Rattle.track.specs.Bakes.{bake_code, baked_reply}
-use Rattle.track.proofs.Bakes.{code_read}
 use Rattle.definitions.proofs.WholeList as any
 use Rattle.definitions.proofs.WholeList.{left_is, whole-list}
 use Rattle.definitions.proofs.TrackFacts.{whole-list-values}
@@ -44,33 +41,23 @@ due m s o r p k set e z = (
   λ h. by_number m s o r p k 22 (short m set e s z (slots o) (length k.track.changes) h),
 )
 
--- the reply that the code stands for, read from the struct
-pub told : (d : Resolver) (s : Samples) (o p : Outputs) (b : track.Baked) → BakesTrack d s o b p → Bakes (model d) s o (baked_reply b) p
-told d s o p b k = subst (λ (r : Reply Baked). Bakes (model d) s o r p) (sym read) k.bakes
-  where
-    read : baked_reply b ≡ k.reply
-    read =
-        ap baked_reply (k.code ∙ ap bake_code k.bakes.replies)
-        ∙ code_read (bake_number (model d) s (slots o) (length k.bakes.track.changes)) (baked_of k.bakes.track)
-        ∙ sym k.bakes.replies
-
 module _ (fresh : Resolver) (b : Begins fresh) where
   abbrev Follows : Model → Resolver → Type 0
   Follows = any.Follows no_set step fresh Moves Replies Due model Made
 
   -- a call takes the model by its step, and leaves a state that is made
   moves-on : (c : Call) (d e : Resolver) → Made d → Moves c d e → Follows (step (model d) c) e
-  moves-on (explicit f) d e m (r, p, q) = subst (Follows (step (model d) (explicit f))) q (record { is = (p m).after; made = (p m).made })
-  moves-on (template f) d e m (r, p, q) = subst (Follows (step (model d) (template f))) q (record { is = (p m).after; made = (p m).made })
+  moves-on (explicit f) d e m (n, p) = record { is = (p m).after; made = (p m).made }
+  moves-on (template f) d e m (n, p) = record { is = (p m).after; made = (p m).made }
   moves-on (install set) d e m (p, k, q, i) = subst (λ (x : ClipSet). Follows (step (model d) (install x)) e) q (record { is = (i m k).after; made = (i m k).made })
-  moves-on (retime o) d e m (r, p, q) = subst (Follows (step (model d) (retime o))) q (record { is = (p m).after; made = (p m).made })
+  moves-on (retime o) d e m (n, p) = record { is = (p m).after; made = (p m).made }
   moves-on (bake s o) d e m q = unfold step in subst (Follows (model d)) q (record { is = refl; made = m })
 
   follows-fresh : Follows no_set fresh
   follows-fresh = record { is = b.empty; made = b.made }
 
   bakes-due : (d : Resolver) (s : Samples) (o : Outputs) (r : Reply Baked) (p : Outputs) → Made d → Replies d s o r p → Due (model d) s o r p
-  bakes-due d s o r p m q = due (model d) s o r p (subst (λ (x : Reply Baked). Bakes (model d) s o x p) q.2 (told d s o p q.0 (q.1 m)))
+  bakes-due d s o r p m q = due (model d) s o r p (subst (λ (x : Reply Baked). Bakes (model d) s o x p) q.2 (q.1 m))
 
 pub leads-on : LeadsOn
 leads-on fresh e b calls l = let f = left_is no_set step fresh Moves Replies Due model Made (follows-fresh fresh b) (moves-on fresh b) (bakes-due fresh b) calls e l in (f.made, f.is)

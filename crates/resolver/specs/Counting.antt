@@ -1,6 +1,6 @@
 -- Counting first: who lends as many slots as were counted is given the track, of that count. Assumes nothing.
-use Rattle.std.specs.Prelude.{◌≤◌, ◌≡◌}
-use Rattle.sdf.specs.declared.Counted.{Counted}
+use Rattle.std.specs.Prelude.{ℕ, ◌≤◌, ◌≡◌, Result, Ok, IsOkAnd}
+use Rattle.definitions.specs.declared.refusal.Refusal.{Refusal}
 use Rattle.definitions.specs.Samples.{Samples}
 use Rattle.definitions.specs.Track.{Outputs, slots}
 use Rattle.laws.specs.list.Every.{Every}
@@ -13,5 +13,5 @@ use Rattle.resolver.specs.Promises.{TellsChangeCount, BakesTrack}
 -- of lists of doubles that a program can hold, "22 means precisely fewer slots than changes"
 abbrev pub CountSuffices : Type 0
 CountSuffices =
-    (d : Resolver) (s : Samples) (c : Counted) (o p : Outputs) (b : Baked) → Made d → Every Fits s.times → Every Fits s.values
-    → TellsChangeCount d s c → c.number ≡ 0 → c.count ≤ slots o → BakesTrack d s o b p → (b.number ≡ 0) × (b.count ≡ c.count)
+    (d : Resolver) (s : Samples) (n : ℕ) (o p : Outputs) (b : Result Baked Refusal) → Made d → Every Fits s.times → Every Fits s.values
+    → TellsChangeCount d s (Ok n) → n ≤ slots o → BakesTrack d s o b p → IsOkAnd b (λ (x : Baked). x.count ≡ n)

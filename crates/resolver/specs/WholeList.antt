@@ -1,6 +1,7 @@
 -- Demand 3 for this resolver, "one claim about the whole list": the statement of the definitions, `WholeList`, where a call moves the state and a bake replies
 -- by the very promises that the operations' `ensures` cite. Assumes nothing.
-use Rattle.std.specs.Prelude.{◌≡◌, List}
+use Rattle.std.specs.Prelude.{ℕ, ◌≡◌, List, Result}
+use Rattle.definitions.specs.declared.refusal.Refusal.{Refusal}
 use Rattle.definitions.specs.Samples.{Samples}
 use Rattle.definitions.specs.Track.{Outputs}
 use Rattle.definitions.specs.Questions.{Reply}
@@ -16,22 +17,21 @@ use Rattle.clip.specs.Preparing.{MadeSet}
 use Rattle.track.specs.declared.bake.Baked.{Baked}
 use Rattle.track.specs.Bakes.{baked_reply}
 use Rattle.resolver.specs.declared.Resolver.{Resolver}
-use Rattle.resolver.specs.declared.Accepted.{Accepted}
 use Rattle.resolver.specs.State.{model, Made}
 use Rattle.resolver.specs.Promises.{Begins, Accepts, Expands, Installs, Retimes, BakesTrack}
 
 -- The call, given the state d, leaves e: what the operation's `ensures` says where its `requires` holds. An installing is given a "set .. that an operation made", whichever it
 -- is. A bake hands back no state: d is left.
 abbrev pub Moves : Call → Resolver → Resolver → Type 0
-Moves (explicit f) d e = (r : Accepted) × (Made d → Accepts d f r) × (r.resolver ≡ e)
-Moves (template f) d e = (r : Accepted) × (Made d → Expands d f r) × (r.resolver ≡ e)
+Moves (explicit f) d e = (n : ℕ) × (Made d → Accepts d f n e)
+Moves (template f) d e = (n : ℕ) × (Made d → Expands d f n e)
 Moves (install set) d e = (p : clip.ClipSet) × MadeSet p × (clip_set_of p ≡ set) × (Made d → MadeSet p → Installs d p e)
-Moves (retime o) d e = (r : Accepted) × (Made d → Retimes d o r) × (r.resolver ≡ e)
+Moves (retime o) d e = (n : ℕ) × (Made d → Retimes d o n e)
 Moves (bake s o) d e = d ≡ e
 
 -- A bake of the samples s, given d and the lists o, replies r and leaves the lists p.
 abbrev pub Replies : Resolver → Samples → Outputs → Reply calls.Baked → Outputs → Type 0
-Replies d s o r p = (b : Baked) × (Made d → BakesTrack d s o b p) × (baked_reply b ≡ r)
+Replies d s o r p = (b : Result Baked Refusal) × (Made d → BakesTrack d s o b p) × (baked_reply b ≡ r)
 
 -- What calls lead to, in whatever number and order: "a desk .. that an operation made", so that the next call may be given it, and the plain desk's set on it.
 abbrev pub LeadsOn : Type 0

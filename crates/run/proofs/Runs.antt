@@ -1,5 +1,6 @@
 -- A run of samples that are passed in one segment: in their order the inverse times rise or fall, so the walk from one to the next leaves none out, and between
 -- two of them what is read stays. Assumes nothing.
+use Rattle.std.specs.Prelude.{Option, None, Some}
 use mathlib.Core.Path.{◌≡◌, refl, sym, ap, ◌∙◌, subst}
 use mathlib.Core.Logic.{inl, inr}
 use mathlib.Core.Bool.{Bool, true, false, ◌&&◌, cond}
@@ -28,7 +29,6 @@ use Rattle.window.proofs.SoundSegments.{inverse-fits}
 use Rattle.window.proofs.nearest.Beside.{number_at, climb}
 use Rattle.window.specs.nearest.Crossings.{is_beyond, Crossing}
 use Rattle.run.specs.declared.inside.NextInRun.{NextInRun}
-use Rattle.run.specs.declared.inside.NextInRun.TheVariants.{At, Nothing}
 use Rattle.run.specs.Runs.{Spanned, inverse_key, InRun, SampleIs, InRunAt, NextInRunIs}
 
 differ : {A : Type 0} → true ≡ false → A
@@ -288,12 +288,12 @@ module _ (cs : List Float) (a : Ascending cs) (q : Knot × Knot) (s : SoundSegme
 
     module _ (u : T (lt lo hi)) where
       -- all samples are passed
-      pub end-up : length cs ≤ n → NextInRunIs cs q n k top Nothing
+      pub end-up : length cs ≤ n → NextInRunIs cs q n k top None
       end-up l = each-time (λ (x : Float). key x ≤ top → key x ≤ k) (λ i h p _. (P.rising u).0 i (omega arith) p)
 
       module _ (l : n < length cs) where
         -- those that come lie beyond the segment
-        pub over-end : le (c n) hi ≡ false → NextInRunIs cs q n k top Nothing
+        pub over-end : le (c n) hi ≡ false → NextInRunIs cs q n k top None
         over-end e = each-time (λ (x : Float). key x ≤ top → key x ≤ k) each
           where
             each : (i : ℕ) → i < length cs → Spanned cs q i → f i ≤ top → f i ≤ k
@@ -310,8 +310,8 @@ module _ (cs : List Float) (a : Ascending cs) (q : Knot × Knot) (s : SoundSegme
           pub span-up : Spanned cs q n
           span-up = spans-up n u ((P.rising u).1 n (omega arith) l).0 h
 
-          pub step-up : (r : NextInRun) → SampleIs cs q n (n + 1) top r → NextInRunIs cs q n k top r
-          step-up (At m j p) S = moved m j p n (n + 1) S.0 S.2 S.3 (record {
+          pub step-up : (r : Option NextInRun) → SampleIs cs q n (n + 1) top r → NextInRunIs cs q n k top r
+          step-up (Some r) S = moved r.key r.sample r.behind n (n + 1) S.0 S.2 S.3 (record {
             from = ((P.rising u).1 n (omega arith) l).1 span-up;
             within = omega (arith, S.0, S.1);
             inside = l;
@@ -325,17 +325,17 @@ module _ (cs : List Float) (a : Ascending cs) (q : Knot × Knot) (s : SoundSegme
             };
             less = rw (is_true (lt lo hi) u) (omega arith);
           })
-          step-up Nothing S = each-time (λ (x : Float). key x ≤ top → key x ≤ k) (λ i g o v. elim (dec_le n i) [ yes w ↦ absurd (let z = climbs u n i w g span-up o in omega arith) | no w ↦ (P.rising u).0 i (omega arith) o ])
+          step-up None S = each-time (λ (x : Float). key x ≤ top → key x ≤ k) (λ i g o v. elim (dec_le n i) [ yes w ↦ absurd (let z = climbs u n i w g span-up o in omega arith) | no w ↦ (P.rising u).0 i (omega arith) o ])
 
     module _ (d : T (lt hi lo)) where
-      pub end-down : n ≡ 0 → NextInRunIs cs q n k top Nothing
+      pub end-down : n ≡ 0 → NextInRunIs cs q n k top None
       end-down z = each-time (λ (x : Float). key x ≤ top → key x ≤ k) (λ i h p _. (P.falling d).0 i (omega arith) h p)
 
       module _ (b : ℕ) (e : suc b ≡ n) where
         low : b < length cs
         low = omega (arith, P.upto)
 
-        pub under-end : le hi (c b) ≡ false → NextInRunIs cs q n k top Nothing
+        pub under-end : le hi (c b) ≡ false → NextInRunIs cs q n k top None
         under-end w = each-time (λ (x : Float). key x ≤ top → key x ≤ k) each
           where
             each : (i : ℕ) → i < length cs → Spanned cs q i → f i ≤ top → f i ≤ k
@@ -351,8 +351,8 @@ module _ (cs : List Float) (a : Ascending cs) (q : Knot × Knot) (s : SoundSegme
           pub span-down : Spanned cs q b
           span-down = spans-down b d h ((P.falling d).1 b (omega arith)).0
 
-          pub step_down : (r : NextInRun) → SampleIs cs q b b top r → NextInRunIs cs q n k top r
-          step_down (At m j p) S = moved m j p b b S.0 S.2 S.3 (record {
+          pub step_down : (r : Option NextInRun) → SampleIs cs q b b top r → NextInRunIs cs q n k top r
+          step_down (Some r) S = moved r.key r.sample r.behind b b S.0 S.2 S.3 (record {
             from = ((P.falling d).1 b (omega arith)).1 span-down;
             within = omega (arith, S.0, S.1);
             inside = low;
@@ -366,10 +366,10 @@ module _ (cs : List Float) (a : Ascending cs) (q : Knot × Knot) (s : SoundSegme
             };
             less = let z = falls d in rw (lt-is lo hi na.0 nb.0 na.1 nb.1 ∙ le-ltb (key lo) (key hi) (omega arith)) (omega arith);
           })
-          step_down Nothing S = each-time (λ (x : Float). key x ≤ top → key x ≤ k) (λ i g o v. elim (dec_le n i) [ yes w ↦ (P.falling d).0 i w g o | no w ↦ absurd (let z = sinks d i b (omega arith) low o span-down in omega arith) ])
+          step_down None S = each-time (λ (x : Float). key x ≤ top → key x ≤ k) (λ i g o v. elim (dec_le n i) [ yes w ↦ (P.falling d).0 i w g o | no w ↦ absurd (let z = sinks d i b (omega arith) low o span-down in omega arith) ])
 
     -- a flat segment spans nothing
-    pub end-flat : lt lo hi ≡ false → lt hi lo ≡ false → NextInRunIs cs q n k top Nothing
+    pub end-flat : lt lo hi ≡ false → lt hi lo ≡ false → NextInRunIs cs q n k top None
     end-flat x y = each-time (λ (z : Float). key z ≤ top → key z ≤ k) each
       where
         each : (i : ℕ) → i < length cs → Spanned cs q i → f i ≤ top → f i ≤ k

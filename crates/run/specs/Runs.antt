@@ -1,5 +1,5 @@
 -- A run of samples that are passed in one segment of knots: what is read at each key, and what its walk promises. Assumes nothing.
-use Rattle.std.specs.Prelude.{◌≡◌, cond, List, ℕ, ◌-◌, ◌≤◌, ◌<◌, T, length, get_or, Float}
+use Rattle.std.specs.Prelude.{◌≡◌, cond, List, ℕ, ◌-◌, ◌≤◌, ◌<◌, T, length, get_or, Float, Option, None, Some}
 use Rattle.std.specs.Float.{nan}
 use Rattle.std.specs.Float.Ieee.{lt, le}
 use Rattle.gf.specs.Doubles.{key, of_key}
@@ -15,7 +15,6 @@ use Rattle.window.specs.SoundSegments.{SoundSegment}
 use Rattle.cell.specs.declared.step.line.Line.{Line}
 use Rattle.cell.specs.declared.step.line.Line.TheVariants as lines
 use Rattle.run.specs.declared.inside.NextInRun.{NextInRun}
-use Rattle.run.specs.declared.inside.NextInRun.TheVariants.{At, Nothing}
 use Rattle.run.specs.declared.walk.Went.{Went}
 use Rattle.run.specs.Readings.{Reads, reading_at}
 use Rattle.run.specs.Walks.{Walked}
@@ -79,9 +78,9 @@ abbrev pub left : List Float → Knot × Knot → ℕ → ℕ
 left cs q n = cond (lt q.0.y q.1.y) (length cs - n) n
 
 -- the key of the inverse time of the sample at i, if it is at most hi; p is the place behind it
-abbrev pub SampleIs : List Float → Knot × Knot → ℕ → ℕ → ℕ → NextInRun → Type 0
-SampleIs cs q i p hi (At m j r) = (m ≡ inverse_key cs q i) × (m ≤ hi) × (j ≡ i) × (r ≡ p)
-SampleIs cs q i p hi Nothing = hi < inverse_key cs q i
+abbrev pub SampleIs : List Float → Knot × Knot → ℕ → ℕ → ℕ → Option NextInRun → Type 0
+SampleIs cs q i p hi (Some r) = (r.key ≡ inverse_key cs q i) × (r.key ≤ hi) × (r.sample ≡ i) × (r.behind ≡ p)
+SampleIs cs q i p hi None = hi < inverse_key cs q i
 
 -- m is the next key of an inverse time from k on, of the sample at i, and p is the place there
 pub record InRunAt (cs : List Float) (q : Knot × Knot) (n k hi m i p : ℕ) : Type 0 where
@@ -95,10 +94,10 @@ pub record InRunAt (cs : List Float) (q : Knot × Knot) (n k hi m i p : ℕ) : T
   pub less : left cs q p < left cs q n
 
 -- the next one up to hi, or none
-abbrev pub NextInRunIs : List Float → Knot × Knot → ℕ → ℕ → ℕ → NextInRun → Type 0
-NextInRunIs cs q n k hi (At m i p) = InRunAt cs q n k hi m i p
-NextInRunIs cs q n k hi Nothing = Every (λ (x : Float). key x ≤ hi → key x ≤ k) (on_segment cs q)
+abbrev pub NextInRunIs : List Float → Knot × Knot → ℕ → ℕ → ℕ → Option NextInRun → Type 0
+NextInRunIs cs q n k hi (Some r) = InRunAt cs q n k hi r.key r.sample r.behind
+NextInRunIs cs q n k hi None = Every (λ (x : Float). key x ≤ hi → key x ≤ k) (on_segment cs q)
 
 -- from whichever key n is the place of
-abbrev pub NextFromPlace : List Float → Knot × Knot → ℕ → ℕ → NextInRun → Type 0
+abbrev pub NextFromPlace : List Float → Knot × Knot → ℕ → ℕ → Option NextInRun → Type 0
 NextFromPlace cs q n hi r = (k : ℕ) → InRun cs q n k → NextInRunIs cs q n k hi r

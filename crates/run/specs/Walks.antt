@@ -1,5 +1,5 @@
 -- A walk over the keys that writes the changes of a step function of entries while there are slots: what it has written, and where it stands. Assumes nothing.
-use Rattle.std.specs.Prelude.{◌≡◌, true, false, cond, List, [], ◌∷◌, ◌++◌, map, ℕ, ◌+◌, ◌≤◌, ◌<◌, length, take, drop, Float}
+use Rattle.std.specs.Prelude.{◌≡◌, true, false, cond, List, [], ◌∷◌, ◌++◌, map, ℕ, ◌+◌, ◌≤◌, ◌<◌, length, take, drop}
 use Rattle.definitions.specs.Track.{Entry, Change, change_times, alike, Outputs}
 use Rattle.laws.specs.track.Track as steps
 use Rattle.laws.specs.cell.Tracks.{entry-same, written_change}

@@ -19,11 +19,12 @@ use lists::near::last_at_most_near;
 use lists::segment::stage_time;
 use window::crossing::crossing;
 
-// The key of the next inverse time, the place of its sample, and the place behind it; or none.
+// The key of the next inverse time, the place of its sample, and the place behind it.
 #[derive(Clone, Copy)]
-pub enum NextInRun {
-    At(u64, usize, usize),
-    Nothing,
+pub struct NextInRun {
+    pub key: u64,
+    pub sample: usize,
+    pub behind: usize,
 }
 
 // The entry that is read along the line at the key k. Its place is beside the hint.
@@ -37,46 +38,39 @@ fn entry_along(cs: &[f64], vs: &[f64], ms: &[u8], line: Line, k: u64, hint: usiz
 }
 
 // The inverse time of the sample at i, where it is not above hi; p is the place behind it.
-fn sample_in_run(cs: &[f64], s: Segment, i: usize, p: usize, hi: u64) -> NextInRun
+fn sample_in_run(cs: &[f64], s: Segment, i: usize, p: usize, hi: u64) -> Option<NextInRun>
     requires sound_segment_1 { SoundSegment (s.a, s.b) }
     requires sound_segment_2 { Ascending cs.now }
     requires i_in_bounds_1 { i < length cs.now }
     requires i_in_bounds_2 { Spanned cs.now (s.a, s.b) i }
     ensures { SampleIs cs.now (s.a, s.b) i p hi result }
 {
-    let m = gf::key(stage_time(s, cs[i]));
-    if hi < m {
-        return NextInRun::Nothing;
+    let key = gf::key(stage_time(s, cs[i]));
+    if hi < key {
+        return None;
     }
-    NextInRun::At(m, i, p)
+    Some(NextInRun {
+        key,
+        sample: i,
+        behind: p,
+    })
 }
 
 // The next inverse time from the place n among the samples on: they are passed upwards where the segment rises, downwards where it falls.
-fn next_in_run(cs: &[f64], s: Segment, n: usize, hi: u64) -> NextInRun
+fn next_in_run(cs: &[f64], s: Segment, n: usize, hi: u64) -> Option<NextInRun>
     requires sound_segment_1 { SoundSegment (s.a, s.b) }
     requires sound_segment_2 { Ascending cs.now }
     requires place_in_run { PlaceInRun cs.now (s.a, s.b) n }
     ensures { NextFromPlace cs.now (s.a, s.b) n hi result }
 {
-    let ca = s.a.y;
-    let cb = s.b.y;
-    if ca < cb {
-        if n < cs.len() {
-            if cs[n] <= cb {
-                return sample_in_run(cs, s, n, n + 1, hi);
-            }
+    if s.a.y < s.b.y {
+        if n < cs.len() && cs[n] <= s.b.y {
+            return sample_in_run(cs, s, n, n + 1, hi);
         }
-        return NextInRun::Nothing;
+    } else if s.b.y < s.a.y && 0 < n && s.b.y <= cs[n - 1] {
+        return sample_in_run(cs, s, n - 1, n - 1, hi);
     }
-    if cb < ca {
-        if 0 < n {
-            let before = n - 1;
-            if cb <= cs[before] {
-                return sample_in_run(cs, s, before, before, hi);
-            }
-        }
-    }
-    NextInRun::Nothing
+    None
 }
 
 // Writes the changes above k and up to hi from slot `slot` on, while there is room, where `last` is read at k. The hint n is for the place of k.
@@ -105,7 +99,7 @@ pub fn fill_run(
     let mut held = last;
     let mut count = slot;
     loop {
-        let NextInRun::At(m, i, next) = next_in_run(cs, s, place, hi) else {
+        let Some(next) = next_in_run(cs, s, place, hi) else {
             return Went {
                 key: hi,
                 last: held,
@@ -113,8 +107,10 @@ pub fn fill_run(
                 done: true,
             };
         };
-        let entry = entry_along(cs, vs, ms, line, m, i);
-        let behind = offer(entry, held, m, room, count, outtimes, outvalues, outmarks);
+        let entry = entry_along(cs, vs, ms, line, next.key, next.sample);
+        let behind = offer(
+            entry, held, next.key, room, count, outtimes, outvalues, outmarks,
+        );
         if room < behind {
             return Went {
                 key: at,
@@ -123,8 +119,8 @@ pub fn fill_run(
                 done: false,
             };
         }
-        at = m;
-        place = next;
+        at = next.key;
+        place = next.behind;
         held = entry;
         count = behind;
     }

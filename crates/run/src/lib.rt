@@ -23,7 +23,6 @@ use cell::step::entry::{Entry, entry_of};
 use cell::step::line::{Line, along, place_on};
 use cell::step::next_step;
 use definitions::Answer;
-use laws::Next;
 use lists::near::last_at_most_near;
 use walk::{Went, offer};
 
@@ -74,7 +73,7 @@ pub fn fill_changes(
     let mut last = entry_of_sample(vs, ms, place);
     let mut count = n;
     loop {
-        let Next::At(step) = next_step(ts, line, place, top, at, hi) else {
+        let Some(step) = next_step(ts, line, place, top, at, hi) else {
             return Went {
                 key: hi,
                 last,

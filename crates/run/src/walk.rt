@@ -8,7 +8,7 @@ ghost use Rattle.run.specs.Walks.{Room, Offered};
 use cell::step::entry::{Entry, alike};
 
 // The key that is reached, the entry there, the slot behind the changes up to there, and whether the keys were all passed; else
-// the slots are full, and there is a further change.
+// the slots are full, and there is a further change. An Option would be no plainer: the other three are the same in both cases.
 #[derive(Clone, Copy)]
 pub struct Went {
     pub key: u64,

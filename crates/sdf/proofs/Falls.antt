@@ -8,13 +8,12 @@ use native.Mathlib.Decide.{dec_le}
 use native.Mathlib.Omega.{arith}
 use borrow.Author.Tests.{ne_eqb, lt-ltb, le-ltb}
 use lib.Dec.{ltb, eqb}
-use lib.ListN.{length, get_or, take, drop, length-drop}
+use lib.ListN.{length, take, drop, length-drop}
 use lib.Seq.{drop-drop}
-use lib.Ieee.{Float, nan, lt}
+use lib.Ieee.{Float, lt}
 use Rattle.definitions.specs.Lists.{keep, pairs}
 use Rattle.definitions.specs.Doubles.{ascending}
 use Rattle.sdf.specs.Parts.{falls}
-use Rattle.lists.proofs.Fronts.{front, no_front}
 
 -- 0 where a time is below the next, else 1
 pub one-fall : (b : Bool) {n : ℕ} → n ≡ cond b 0 1 → n ≤ 1
@@ -43,13 +42,6 @@ ascending-falls (x ∷ y ∷ l) = go (lt x y) (ascending-falls (y ∷ l)) ∙ ap
 -- ---- from a place on
 
 module _ (xs : List Float) where
-  -- behind a time x
-  pub falls-on : (x : Float) (i : ℕ) → i < length xs → falls (x ∷ drop i xs) ≡ cond (lt x (get_or xs i nan)) 0 1 + falls (get_or xs i nan ∷ drop (i + 1) xs)
-  falls-on x i h = ap (λ (l : List Float). falls (x ∷ l)) (front xs i nan h) ∙ falls-pair x (get_or xs i nan) (drop (i + 1) xs)
-
-  pub falls-last : (x : Float) (i : ℕ) → length xs ≤ i → falls (x ∷ drop i xs) ≡ 0
-  falls-last x i h = ap (λ (l : List Float). falls (x ∷ l)) (no_front xs i h)
-
   pub falls-end : (i : ℕ) → length xs ≤ i + 1 → falls (drop i xs) ≡ 0
   falls-end i h = go (drop i xs) (omega (arith, length-drop i xs))
     where
@@ -86,16 +78,6 @@ behind-last ts b e h = ap (λ (n : ℕ). cond (ltb b e) n 0) (few (drop (e - 1) 
     same : (q : Bool) → ◌≡◌ {A = ℕ} (cond q 0 0) 0
     same true = refl
     same false = refl
-
-pub behind-here : (ts : List Float) (b e : ℕ) → b < e → e < length ts → behind ts b e ≡ cond (lt (get_or ts (e - 1) nan) (get_or ts e nan)) 0 1
-behind-here ts b e h k =
-    let last : e - 1 + 1 ≡ e = omega arith in
-    let two : drop (e - 1) ts ≡ get_or ts (e - 1) nan ∷ get_or ts e nan ∷ drop (e + 1) ts =
-    front ts (e - 1) nan (omega arith) ∙ ap (λ (n : ℕ). get_or ts (e - 1) nan ∷ drop n ts) last ∙ ap (λ (l : List Float). get_or ts (e - 1) nan ∷ l) (front ts e nan k) in
-    ap (λ (q : Bool). cond q (falls (take 2 (drop (e - 1) ts))) 0) (lt-ltb b e h)
-    ∙ ap (λ (l : List Float). falls (take 2 l)) two
-    ∙ falls-pair (get_or ts (e - 1) nan) (get_or ts e nan) []
-    ∙ (omega arith)
 
 pub behind-one : (ts : List Float) (b e : ℕ) → behind ts b e ≤ 1
 behind-one ts b e = go (ltb b e) (drop (e - 1) ts)

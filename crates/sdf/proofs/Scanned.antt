@@ -1,26 +1,24 @@
 -- What the tests over lent samples come to at a place of their lists. Assumes nothing.
 use mathlib.Core.Path.{◌≡◌, refl, sym, ap, ap₂, ◌∙◌}
-use mathlib.Core.Bool.{Bool, true, false, ◌&&◌, ◌||◌, cond, true≢false}
+use mathlib.Core.Bool.{Bool, true, false, ◌&&◌, ◌||◌, true≢false}
 use mathlib.Core.List.{List, [], ◌∷◌, ◌++◌}
-use Prim.Native.Nat.{ℕ, ◌+◌, ◌-◌, ◌≤◌, ◌<◌}
+use Prim.Native.Nat.{ℕ, zero, suc, ◌+◌, ◌-◌, ◌≤◌, ◌<◌}
 use native.Mathlib.Numerals.{add-one}
 use native.Mathlib.Nat.{le_trans, le_of_eq, lt_irrefl, lt_of_lt_of_le}
 use native.Mathlib.Omega.{arith}
-use borrow.Author.Tests.{ltb-true, ltb-false, le-leb, lt-leb}
+use borrow.Author.Tests.{ltb-false, le-ltb, le-leb, lt-leb}
 use lib.Dec.{T, leb, ltb, eqb, eqb→eq, leb→le}
 use lib.ListN.{length, get_or, take, drop}
-use lib.Ieee.{Float, nan, is_nan}
+use lib.Ieee.{Float, is_nan}
+use Rattle.std.specs.Prelude.{Option, None, Some, MatchOption}
+use Rattle.std.specs.List.{list_any, zip}
 use Rattle.definitions.specs.Lists.{any, all, zip_with, below}
-use Rattle.definitions.specs.ClipSet.{mark_value, mark_block}
+use Rattle.definitions.specs.ClipSet.{mark_value}
 use Rattle.definitions.specs.Samples.{nan_value, closes, clip_begin, clip_end}
 use lib.Ieee.Fits.{and_l, and_r}
 use Rattle.laws.proofs.list.Tests.{is_false}
 use Rattle.sdf.specs.Parts.{part}
 use Rattle.lists.proofs.Fronts.{front, no_front}
-
-pub or_nothing : (b : Bool) → (b || false) ≡ b
-or_nothing true = refl
-or_nothing false = refl
 
 pub or-all : (b : Bool) → (b || true) ≡ true
 or-all true = refl
@@ -32,15 +30,11 @@ and_no false = refl
 
 -- ---- values beside their marks
 
-module _ (vs : List Float) (ms : List ℕ) where
-  abbrev pub nan_from : ℕ → Bool
-  nan_from i = any (λ (b : Bool). b) (zip_with nan_value (drop i vs) (drop i ms))
-
-  pub nan-on : (i : ℕ) → i < length vs → i < length ms → nan_from i ≡ (nan_value (get_or vs i nan) (get_or ms i 0) || nan_from (i + 1))
-  nan-on i h k = ap₂ (λ (v : List Float) (m : List ℕ). any (λ (b : Bool). b) (zip_with nan_value v m)) (front vs i nan h) (front ms i 0 k)
-
-  pub nan-end : (i : ℕ) → length vs ≤ i → nan_from i ≡ false
-  nan-end i h = ap (λ (v : List Float). any (λ (b : Bool). b) (zip_with nan_value v (drop i ms))) (no_front vs i h)
+-- a test of each pair, as the code walks them
+pub marked-any : (vs : List Float) (ms : List ℕ) → list_any (λ (p : Float × ℕ). nan_value p.0 p.1) (zip vs ms) ≡ any (λ (b : Bool). b) (zip_with nan_value vs ms)
+marked-any [] ms = refl
+marked-any (v ∷ vs) [] = refl
+marked-any (v ∷ vs) (m ∷ ms) = ap (λ (b : Bool). nan_value v m || b) (marked-any vs ms)
 
 -- ---- the ends
 
@@ -74,31 +68,31 @@ module _ (ends : List ℕ) (count : ℕ) where
 
 -- ---- marks
 
-abbrev pub bad_mark : ℕ → Bool
-bad_mark m = ltb mark_block m
+-- the largest mark, none without any
+abbrev pub Largest : List ℕ → Option ℕ → Type 0
+Largest ms o = MatchOption o (length ms ≡ 0) (λ m. ((k : ℕ) → k < length ms → get_or ms k 0 ≤ m) × ((k : ℕ) × (k < length ms) × (get_or ms k 0 ≡ m)))
 
-larger-bad : (a m : ℕ) → ltb 1 (cond (ltb a m) m a) ≡ (ltb 1 a || ltb 1 m)
-larger-bad a m = go (ltb a m) refl (ltb 1 a) refl (ltb 1 m) refl
+abbrev pub above_block : Option ℕ → Bool
+above_block None = false
+above_block (Some m) = ltb 1 m
+
+some-above : (ms : List ℕ) (k : ℕ) → k < length ms → ltb 1 (get_or ms k 0) ≡ true → any (λ (m : ℕ). ltb 1 m) ms ≡ true
+some-above [] k h e = absurd (omega arith)
+some-above (m ∷ ms) zero h e = ap (λ (b : Bool). b || any (λ (m : ℕ). ltb 1 m) ms) e
+some-above (m ∷ ms) (suc k) h e = ap (λ (b : Bool). ltb 1 m || b) (some-above ms k (omega arith) e) ∙ or-all (ltb 1 m)
+
+none-above : (ms : List ℕ) → ((k : ℕ) → k < length ms → get_or ms k 0 ≤ 1) → any (λ (m : ℕ). ltb 1 m) ms ≡ false
+none-above [] h = refl
+none-above (m ∷ ms) h = ap₂ ◌||◌ (le-ltb 1 m (h 0 (omega arith))) (none-above ms (λ k l. h (suc k) (omega arith)))
+
+pub by-largest : (ms : List ℕ) (o : Option ℕ) → Largest ms o → above_block o ≡ any (λ (m : ℕ). ltb 1 m) ms
+by-largest [] None e = refl
+by-largest (m ∷ ms) None e = absurd (omega arith)
+by-largest ms (Some m) (below, (k, inside, here)) = go (ltb 1 m) refl
   where
-    go : (p : Bool) → ltb a m ≡ p → (q : Bool) → ltb 1 a ≡ q → (r : Bool) → ltb 1 m ≡ r → ltb 1 (cond p m a) ≡ (q || r)
-    go true e true f true g = g
-    go true e true f false g = absurd (omega (arith, ltb-true a m e, ltb-true 1 a f, ltb-false 1 m g))
-    go true e false f r g = g
-    go false e true f r g = f
-    go false e false f true g = absurd (omega (arith, ltb-false a m e, ltb-false 1 a f, ltb-true 1 m g))
-    go false e false f false g = f
-
-module _ (ms : List ℕ) where
-  -- the largest so far: with the mark at i
-  pub mark_on : (i largest : ℕ) → i < length ms → (ltb 1 largest || any bad_mark (drop i ms)) ≡ (ltb 1 (cond (ltb largest (get_or ms i 0)) (get_or ms i 0) largest) || any bad_mark (drop (i + 1) ms))
-  mark_on i largest h =
-      ap (λ (l : List ℕ). ltb 1 largest || any bad_mark l) (front ms i 0 h)
-      ∙ or-both (ltb 1 largest) (ltb 1 (get_or ms i 0)) (any bad_mark (drop (i + 1) ms))
-      ∙ ap (λ (b : Bool). b || any bad_mark (drop (i + 1) ms)) (sym (larger-bad largest (get_or ms i 0)))
-    where
-      or-both : (a b c : Bool) → (a || (b || c)) ≡ ((a || b) || c)
-      or-both true b c = refl
-      or-both false b c = refl
+    go : (b : Bool) → ltb 1 m ≡ b → b ≡ any (λ (m : ℕ). ltb 1 m) ms
+    go true e = sym (some-above ms k inside (ap (λ (n : ℕ). ltb 1 n) here ∙ e))
+    go false e = sym (none-above ms (λ i l. omega (arith, below i l, ltb-false 1 m e)))
 
 number-no-nan : (v : Float) (m : ℕ) → is_nan v ≡ false → nan_value v m ≡ false
 number-no-nan v m f = ap (λ (b : Bool). eqb m mark_value && b) f ∙ and_no (eqb m mark_value)

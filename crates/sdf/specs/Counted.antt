@@ -1,13 +1,12 @@
--- A reply that is a list: its number and count, and a lent list after it. Assumes nothing.
-use Rattle.std.specs.Prelude.{List, map, length, Float}
+-- A reply that is a list: how many entries it has, and a lent list after it. Assumes nothing.
+use Rattle.std.specs.Prelude.{ℕ, List, map, length, Float}
 use Rattle.definitions.specs.Lists.{written_over}
 use Rattle.definitions.specs.Questions.{Reply, refused, replied}
-use Rattle.sdf.specs.declared.Counted.{Counted}
 
--- the number, and the count, 0 where it is refused
-abbrev pub counted : {A : Type 0} → Reply (List A) → Counted
-counted (refused n) = record { number = n; count = 0 }
-counted (replied l) = record { number = 0; count = length l }
+-- the reply's number, or how many entries it has
+abbrev pub counted : {A : Type 0} → Reply (List A) → Reply ℕ
+counted (refused n) = refused n
+counted (replied l) = replied (length l)
 
 -- a lent list after it: the entries' parts written to its front, or as it was
 abbrev pub listed : {A B : Type 0} → (A → B) → Reply (List A) → List B → List B

@@ -2,44 +2,43 @@
 
 #![tactic(auto)]
 
+ghost use Rattle.definitions.specs.Refusals.{number_in};
 ghost use Rattle.sdf.specs.Judged.{Judged};
 
-use definitions::refusal;
+use definitions::refusal::Refusal;
 
 pub mod look;
 pub mod part;
 pub mod scans;
 
-// A reply with a count: where the number is not 0 the lists are refused by it, and the count is 0.
-#[repr(C)]
-#[derive(Clone, Copy)]
-pub struct Counted {
-    pub number: u8,
-    pub count: usize,
-}
-
-// The number by which the samples are refused for a set with `clips` clips, and 0 if they are accepted.
+// Whether the samples are accepted for a set with `clips` clips: refused by 1, 2 or 9.
 // Sound lists are told in few passes; what is wrong with others is looked for after.
-pub fn samples_number(clips: u64, times: &[f64], values: &[f64], marks: &[u8], ends: &[u64]) -> u8
-    ensures { Judged clips times.now values.now marks.now ends.now result }
+pub fn check_samples(
+    clips: u64,
+    times: &[f64],
+    values: &[f64],
+    marks: &[u8],
+    ends: &[u64],
+) -> Result<(), Refusal>
+    ensures { Judged clips times.now values.now marks.now ends.now (number_in result) }
 {
     if scans::unlike_lengths(times, values, marks) {
-        return refusal::MISSHAPEN;
+        return Err(Refusal::Misshapen);
     }
     if ends.len() as u64 != clips {
-        return refusal::MISSHAPEN;
+        return Err(Refusal::Misshapen);
     }
     if scans::any_nan(values, marks) {
-        return refusal::UNSTORABLE;
+        return Err(Refusal::Unstorable);
     }
     if !scans::sound(times, ends) {
         if lists::any_unstorable(times) {
-            return refusal::UNSTORABLE;
+            return Err(Refusal::Unstorable);
         }
-        return refusal::BAD_SAMPLES;
+        return Err(Refusal::BadSamples);
     }
     if scans::bad_marks(marks) {
-        return refusal::BAD_SAMPLES;
+        return Err(Refusal::BadSamples);
     }
-    0
+    Ok(())
 }

@@ -1,6 +1,7 @@
 // The tests over lent samples, each in one pass over its lists.
 ghost use Rattle.std.specs.Prelude.{◌≡◌, Bool, not, ◌&&◌, ◌||◌, cond, ◌-◌, ◌≤◌, ltb, length, get_or, take, drop};
 ghost use Rattle.std.specs.Float.{nan};
+ghost use Rattle.std.specs.List.{list_any, zip};
 ghost use Rattle.std.specs.Float.Ieee.{is_nan, lt};
 ghost use Rattle.gf.specs.Doubles.{storable};
 ghost use Rattle.definitions.specs.Lists.{any, zip_with};
@@ -16,48 +17,32 @@ pub fn unlike_lengths(times: &[f64], values: &[f64], marks: &[u8]) -> bool
     ensures { result ≡ Samples.unlike_lengths times.now values.now marks.now }
 {
     let count = times.len();
-    if count > SAMPLES {
-        return true;
-    }
-    if values.len() != count {
-        return true;
-    }
-    marks.len() != count
+    count > SAMPLES || values.len() != count || marks.len() != count
 }
 
 // A NaN counts only under the mark of a value.
 fn is_nan_value(value: f64, mark: u8) -> bool
     ensures { result ≡ Samples.nan_value value mark }
 {
-    if mark == 0 {
-        return value != value;
-    }
-    false
+    mark == 0 && value.is_nan()
 }
 
 // 1 where either is a NaN, else 0.
 fn nan_found(a: f64, b: f64) -> u64
     ensures { result ≡ cond (is_nan a || is_nan b) 1 0 }
 {
-    if a != a {
-        return 1;
-    }
-    if b != b {
-        return 1;
-    }
-    0
+    u64::from(a.is_nan() || b.is_nan())
 }
 
-// A NaN is in one of two lists. No early exit, so that the loop vectorises, and one comparison for an entry of each.
+// A NaN is in one of two lists. No early exit, so that no step branches, and one comparison for an entry of each: by index, since
+// a `zip` looks for the end of both lists at each entry.
 fn any_nan_beside(left: &[f64], right: &[f64]) -> bool
     requires { length left.now ≡ length right.now }
     ensures { result ≡ (any is_nan left.now || any is_nan right.now) }
 {
     let mut found: u64 = 0;
-    let mut i: usize = 0;
-    while i < left.len() {
-        found += nan_found(left[i], right[i]);
-        i += 1;
+    for (i, value) in left.iter().enumerate() {
+        found += nan_found(*value, right[i]);
     }
     0 < found
 }
@@ -73,17 +58,12 @@ fn any_not_a_number(values: &[f64]) -> bool
 
 // A NaN under the mark of a value is among the values.
 fn any_nan_marked(values: &[f64], marks: &[u8]) -> bool
-    requires { length values.now ≡ length marks.now }
-    ensures { result ≡ any (λ (b : Bool). b) (zip_with Samples.nan_value values.now marks.now) }
+    ensures { result ≡ list_any (λ p. Samples.nan_value p.0 p.1) (zip values.now marks.now) }
 {
-    let mut i: usize = 0;
-    while i < values.len() {
-        if is_nan_value(values[i], marks[i]) {
-            return true;
-        }
-        i += 1;
-    }
-    false
+    values
+        .iter()
+        .zip(marks)
+        .any(|(value, mark)| is_nan_value(*value, *mark))
 }
 
 // The same, where the marks are looked at only if there is a NaN at all.
@@ -91,59 +71,39 @@ pub fn any_nan(values: &[f64], marks: &[u8]) -> bool
     requires { length values.now ≡ length marks.now }
     ensures { result ≡ any (λ (b : Bool). b) (zip_with Samples.nan_value values.now marks.now) }
 {
-    if any_not_a_number(values) {
-        return any_nan_marked(values, marks);
-    }
-    false
-}
-
-fn larger(a: u8, b: u8) -> u8
-    ensures { result ≡ cond (ltb a b) b a }
-{
-    if a < b {
-        return b;
-    }
-    a
+    any_not_a_number(values) && any_nan_marked(values, marks)
 }
 
 // A mark other than that of a value or a block is among them: the largest is.
 pub fn bad_marks(marks: &[u8]) -> bool
     ensures { result ≡ Samples.bad_marks marks.now }
 {
-    let mut largest: u8 = 0;
-    let mut i: usize = 0;
-    while i < marks.len() {
-        largest = larger(largest, marks[i]);
-        i += 1;
-    }
-    1 < largest
+    marks
+        .iter()
+        .copied()
+        .max()
+        .is_some_and(|largest| 1 < largest)
 }
 
 // 0 where a time is below the one after it, else 1.
 fn fall(time: f64, next: f64) -> u64
     ensures { result ≡ cond (lt time next) 0 1 }
 {
-    if time < next {
-        return 0;
-    }
-    1
+    u64::from(!(time < next))
 }
 
-// How many times are not below the one after them. No early exit, so that the loop vectorises, and each time is read once.
+// How many times are not below the one after them. No early exit, so that no step branches, and each time is read once.
 fn falls(times: &[f64]) -> u64
     ensures { result ≡ Parts.falls times.now }
 {
-    if times.len() == 0 {
+    if times.is_empty() {
         return 0;
     }
     let mut found: u64 = 0;
     let mut last = times[0];
-    let mut i: usize = 1;
-    while i < times.len() {
-        let next = times[i];
-        found += fall(last, next);
-        last = next;
-        i += 1;
+    for next in &times[1..] {
+        found += fall(last, *next);
+        last = *next;
     }
     found
 }
@@ -161,10 +121,7 @@ fn fall_behind(times: &[f64], begin: usize, end: usize) -> u64
     requires fact_2 { end ≤ length times.now }
     ensures { result ≡ cond (ltb begin end) (Parts.falls (take 2 (drop (end - 1) times.now))) 0 }
 {
-    if begin == end {
-        return 0;
-    }
-    if end == times.len() {
+    if begin == end || end == times.len() {
         return 0;
     }
     fall(times[end - 1], times[end])
@@ -176,13 +133,7 @@ fn unstorable_bound(times: &[f64], begin: usize, end: usize) -> bool
     requires fact_2 { end ≤ length times.now }
     ensures { result ≡ (ltb begin end && (not (storable (get_or times.now begin nan)) || not (storable (get_or times.now (end - 1) nan)))) }
 {
-    if begin == end {
-        return false;
-    }
-    if !gf::is_storable(times[begin]) {
-        return true;
-    }
-    !gf::is_storable(times[end - 1])
+    begin < end && (!gf::is_storable(times[begin]) || !gf::is_storable(times[end - 1]))
 }
 
 // The ends close the list, the times ascend within each clip, and all may be stored: as many times fall as do between two clips,
@@ -193,24 +144,13 @@ pub fn sound(times: &[f64], ends: &[u64]) -> bool
     let all = falls(times);
     let mut between: u64 = 0;
     let mut begin: usize = 0;
-    let mut i: usize = 0;
-    while i < ends.len() {
-        let end = ends[i] as usize;
-        if end < begin {
-            return false;
-        }
-        if end > times.len() {
-            return false;
-        }
-        if unstorable_bound(times, begin, end) {
+    for end in ends {
+        let end = *end as usize;
+        if end < begin || end > times.len() || unstorable_bound(times, begin, end) {
             return false;
         }
         between += fall_behind(times, begin, end);
         begin = end;
-        i += 1;
     }
-    if begin != times.len() {
-        return false;
-    }
-    all == between
+    begin == times.len() && all == between
 }

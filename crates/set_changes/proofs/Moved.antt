@@ -21,7 +21,11 @@ use Rattle.dispatch.specs.DispatchCalls.{dispatch_step}
 use Rattle.standing.specs.Standing.{set_in}
 use Rattle.resolver.specs.declared.Resolver.{Resolver}
 use Rattle.resolver.specs.declared.Shape.{Shape}
-use Rattle.resolver.specs.declared.Settled.{Settled}
+use Rattle.std.specs.Prelude.{Result, Ok, Err}
+use Rattle.definitions.specs.declared.refusal.Refusal.{Refusal}
+use Rattle.definitions.specs.Refusals.{number_of, number_in}
+use Rattle.definitions.proofs.Refused.{not-zero}
+use Rattle.resolver.specs.State.{left}
 use Rattle.resolver.specs.State as resolver
 use Rattle.set_names.specs.Pages.{name_in, names_in, names_at}
 use Rattle.set_names.proofs.InPages.{names-kept}
@@ -40,18 +44,21 @@ pub made-page : (p : Pages) → Made p → (i : ℕ) → i < set_count p → (h 
 unfolding state_at
 made-page p M i b h e = subst (λ (x : Shape). resolver.Made (page_state x i p.starts p.numbers p.xs p.ys p.blocks)) (sym e) (M.each i b)
 
-module _ (p : Pages) (M : Made p) (i : ℕ) (below : i < set_count p) (o : LayerOffset) (r : Settled) (starts : List Float) (numbers : List ℕ) (xs ys blocks : List Float)
+module _ (p : Pages) (M : Made p) (i : ℕ) (below : i < set_count p) (o : LayerOffset) (r : Result Shape Refusal) (starts : List Float) (numbers : List ℕ) (xs ys blocks : List Float)
     (G : MovedAt i (shape_in p.defaults p.counts p.bytes i) o p.starts p.numbers p.xs p.ys p.blocks r starts numbers xs ys blocks) where
   few : i < max_sets
   few = omega (arith, M.names.few)
 
-  number_is : r.number ≡ moved_number (set_in (state_at p i).set) o
+  number_is : number_in r ≡ moved_number (set_in (state_at p i).set) o
   unfolding state_at retime_number
   number_is = G.retimes.number
 
+  abbrev before : Shape
+  before = shape_in p.defaults p.counts p.bytes i
+
   -- ---- refused
 
-  module _ (h : r.number ≡ 0 → ⊥) where
+  module _ (h : number_in r ≡ 0 → ⊥) where
     kept : G.own ≡ state_at p i
     unfolding state_at
     kept = G.retimes.kept h
@@ -75,17 +82,17 @@ module _ (p : Pages) (M : Made p) (i : ℕ) (below : i < set_count p) (o : Layer
         e : blocks ≡ p.blocks
         e = G.blocks-after ∙ ap (λ (x : Resolver). over (i * 256) x.set.blocks p.blocks) kept ∙ over-same (i * 256) 256 p.blocks (omega (arith, few, M.long.of_blocks))
 
-    pub refused-at : RetimesAt p i o r.number (pages starts numbers xs ys blocks p.defaults p.counts p.bytes)
-    refused-at = record { is = number_is; kept = λ z. nothing_written; moved = λ z. absurd (h z) }
+    nothing-moved : RetimesAt p i o (number_in r) (pages starts numbers xs ys blocks p.defaults p.counts p.bytes)
+    nothing-moved = record { is = number_is; kept = λ z. nothing_written; moved = λ z. absurd (h z) }
 
   -- ---- moved
 
-  module _ (z : r.number ≡ 0) (defaults : List Float) (counts bytes : List ℕ) (W : ShapeStored r.shape i p.defaults p.counts p.bytes defaults counts bytes) where
+  module _ (z : number_in r ≡ 0) (defaults : List Float) (counts bytes : List ℕ) (W : ShapeStored (left before r) i p.defaults p.counts p.bytes defaults counts bytes) where
     stands : resolver.model G.own ≡ standing (retime_stage_times o (set_in (state_at p i).set))
     unfolding state_at step retime_number
     stands = G.retimes.after ∙ sym (accepted-granted (moved_number (set_in (state_at p i).set) o) (standing (set_in (state_at p i).set)) (standing (retime_stage_times o (set_in (state_at p i).set))) (sym number_is ∙ z))
 
-    flag : r.shape.stands ≡ true
+    flag : (left before r).stands ≡ true
     flag = sym (ap (λ (x : Resolver). x.stands) G.is) ∙ (stands-as G.own (retime_stage_times o (set_in (state_at p i).set)) stands).0
 
     same : pages starts numbers xs ys blocks defaults counts bytes
@@ -96,10 +103,19 @@ module _ (p : Pages) (M : Made p) (i : ℕ) (below : i < set_count p) (o : Layer
     written =
         subst (λ (q : Pages). Replaced p i G.own q) (sym same)
         (subst (λ (e : Resolver). Replaced p i e (pages (over (i * 256) G.own.set.starts p.starts) (over (i * 256) G.own.set.numbers p.numbers) (over (i * 512) G.own.set.xs p.xs) (over (i * 512) G.own.set.ys p.ys) (over (i * 256) G.own.set.blocks p.blocks) defaults counts bytes)) (sym G.is)
-        (replaced p M.long M.names i few r.shape flag G.own.set.starts G.own.set.numbers G.own.set.xs G.own.set.ys G.own.set.blocks (made-long G.own G.retimes.made) defaults counts bytes W))
+        (replaced p M.long M.names i few (left before r) flag G.own.set.starts G.own.set.numbers G.own.set.xs G.own.set.ys G.own.set.blocks (made-long G.own G.retimes.made) defaults counts bytes W))
 
-    pub moved_at-is : RetimesAt p i o 0 (pages starts numbers xs ys blocks defaults counts bytes)
-    moved_at-is = record { is = sym z ∙ number_is; kept = λ h. absurd (h refl); moved = λ e. (G.own, stands, G.retimes.made, written) }
+    is-moved : RetimesAt p i o (number_in r) (pages starts numbers xs ys blocks defaults counts bytes)
+    is-moved = record { is = number_is; kept = λ h. absurd (h z); moved = λ e. (G.own, stands, G.retimes.made, written) }
+
+module _ (p : Pages) (M : Made p) (i : ℕ) (below : i < set_count p) (o : LayerOffset) (starts : List Float) (numbers : List ℕ) (xs ys blocks : List Float) where
+  pub refused-at : (e : Refusal) → MovedAt i (shape_in p.defaults p.counts p.bytes i) o p.starts p.numbers p.xs p.ys p.blocks (Err e) starts numbers xs ys blocks
+      → RetimesAt p i o (number_of e) (pages starts numbers xs ys blocks p.defaults p.counts p.bytes)
+  refused-at e G = nothing-moved p M i below o (Err e) starts numbers xs ys blocks G (not-zero e)
+
+  pub moved_at-is : (h : Shape) → MovedAt i (shape_in p.defaults p.counts p.bytes i) o p.starts p.numbers p.xs p.ys p.blocks (Ok h) starts numbers xs ys blocks
+      → (defaults : List Float) (counts bytes : List ℕ) → ShapeStored h i p.defaults p.counts p.bytes defaults counts bytes → RetimesAt p i o 0 (pages starts numbers xs ys blocks defaults counts bytes)
+  moved_at-is h G defaults counts bytes W = is-moved p M i below o (Ok h) starts numbers xs ys blocks G refl defaults counts bytes W
 
 -- ---- the set of a name among the others
 

@@ -11,7 +11,10 @@ use Rattle.definitions.specs.Template.{TemplateFields, template_number, template
 use Rattle.definitions.specs.Calls.{accepted}
 use Rattle.definitions.specs.Examining.{Fields, explicitly, by_template, fields_number, fields_set, Examined, examine, empty_set}
 use Rattle.clip.specs.declared.ClipSet as clip
-use Rattle.clip.specs.declared.Prepared.{Prepared}
+use Rattle.std.specs.Prelude.{Ok, Err}
+use Rattle.definitions.specs.declared.refusal.Refusal.{Refusal}
+use Rattle.definitions.specs.Refusals.{number_of}
+use Rattle.definitions.proofs.Refused.{not-zero}
 use Rattle.clip.specs.Holding.{clip_set_of}
 use Rattle.clip.specs.Preparing.{Examines}
 use Rattle.dispatch.specs.SetOrder.{too_long, same_name}
@@ -79,14 +82,14 @@ module _ (p : Pages) (name : List ℕ) (declares : Bool) (m : ℕ) (x : definiti
 -- ---- installing
 
 module _ (p : Pages) (M : Made p) (name : List ℕ) (declares : Bool) (s : clip.ClipSet) where
-  pub install-refused : (n : ℕ) → n ≡ name_number p.counts p.bytes name → (n ≡ 0 → ⊥) → Installs p name declares s n p
+  pub install-refused : (r : Refusal) → number_of r ≡ name_number p.counts p.bytes name → Installs p name declares s (number_of r) p
   unfolding dispatch_step
-  install-refused n e h =
-      let r = by_name p name declares 0 (clip_set_of s) n e h in
+  install-refused r e =
+      let q = by_name p name declares 0 (clip_set_of s) (number_of r) e (not-zero r) in
       record {
         is = e ∙ name-number p name;
         kept = λ z. refl;
-        stands = r.1 ∙ ap (λ (k : ℕ). accepted k (model p) (with_set (model p) name declares (clip_set_of s))) (sym (then-none (set_name_number name (model p))));
+        stands = q.1 ∙ ap (λ (k : ℕ). accepted k (model p) (with_set (model p) name declares (clip_set_of s))) (sym (then-none (set_name_number name (model p))));
         made = M;
       }
 
@@ -103,54 +106,60 @@ module _ (p : Pages) (M : Made p) (name : List ℕ) (declares : Bool) (s : clip.
 
 -- ---- what an examining hands back
 
-module _ (f : Fields) (r : Prepared) (E : Examines f r) where
-  pub prepared-number : r.number ≡ fields_number f
+module _ (f : Fields) where
+  refused-number : (r : Refusal) → Examines f (Err r) → number_of r ≡ fields_number f
   unfolding examine
-  prepared-number = ap (λ (x : Examined). x.number) E.reply
+  refused-number r E = ap (λ (x : Examined). x.number) E.reply
 
-  prepared-set : r.number ≡ 0 → clip_set_of r.set ≡ fields_set f
-  unfolding examine
-  prepared-set z = ap (λ (x : Examined). x.set) E.reply ∙ sym (accepted-granted (fields_number f) empty_set (fields_set f) (sym prepared-number ∙ z))
+  module _ (s : clip.ClipSet) (E : Examines f (Ok s)) where
+    none-refuses : fields_number f ≡ 0
+    unfolding examine
+    none-refuses = sym (ap (λ (x : Examined). x.number) E.reply)
 
--- the set that stands is the fields'
-module _ (p : Pages) (name : List ℕ) (declares : Bool) (f : Fields) (r : Prepared) (E : Examines f r) (q : Pages) where
-  by-set : r.number ≡ 0 → Extends p name declares r.set q → model q ≡ with_set (model p) name declares (fields_set f)
-  by-set z x = x.stands ∙ ap (with_set (model p) name declares) (prepared-set f r E z)
+    prepared-set : clip_set_of s ≡ fields_set f
+    unfolding examine
+    prepared-set = ap (λ (x : Examined). x.set) E.reply ∙ sym (accepted-granted (fields_number f) empty_set (fields_set f) none-refuses)
+
+    -- the set that stands is the fields'
+    by-set : (p : Pages) (name : List ℕ) (declares : Bool) (q : Pages) → Extends p name declares s q → model q ≡ with_set (model p) name declares (fields_set f)
+    by-set p name declares q x = x.stands ∙ ap (with_set (model p) name declares) prepared-set
 
 -- ---- acceptance of explicit fields, and of a template's
 
 module _ (p : Pages) (M : Made p) (name : List ℕ) (declares : Bool) (f : ExplicitFields) where
-  pub accept-refused : (n : ℕ) → n ≡ name_number p.counts p.bytes name → (n ≡ 0 → ⊥) → Accepts p name declares f n p
+  pub accept-refused : (r : Refusal) → number_of r ≡ name_number p.counts p.bytes name → Accepts p name declares f (number_of r) p
   unfolding dispatch_step
-  accept-refused n e h = let r = by_name p name declares (explicit_number f) (explicit_set f) n e h in record { is = r.0; kept = λ z. refl; stands = r.1; made = M }
+  accept-refused r e = let k = by_name p name declares (explicit_number f) (explicit_set f) (number_of r) e (not-zero r) in record { is = k.0; kept = λ z. refl; stands = k.1; made = M }
 
-  pub fields-refused : (r : Prepared) → Examines (explicitly f) r → name_number p.counts p.bytes name ≡ 0 → (r.number ≡ 0 → ⊥) → Accepts p name declares f r.number p
-  unfolding dispatch_step
-  fields-refused r E e h =
-      let n = prepared-number (explicitly f) r E in
-      let k = by-fields p name declares (explicit_number f) (explicit_set f) e (λ z. h (n ∙ z)) in
-      record { is = n ∙ k.0; kept = λ z. refl; stands = k.1; made = M }
+  module _ (e : name_number p.counts p.bytes name ≡ 0) where
+    pub fields-refused : (r : Refusal) → Examines (explicitly f) (Err r) → Accepts p name declares f (number_of r) p
+    unfolding dispatch_step
+    fields-refused r E =
+        let n = refused-number (explicitly f) r E in
+        let k = by-fields p name declares (explicit_number f) (explicit_set f) e (λ z. not-zero r (n ∙ z)) in
+        record { is = n ∙ k.0; kept = λ z. refl; stands = k.1; made = M }
 
-  pub accepts : (r : Prepared) → Examines (explicitly f) r → (q : Pages) → name_number p.counts p.bytes name ≡ 0 → r.number ≡ 0 → Extends p name declares r.set q → Accepts p name declares f 0 q
-  unfolding dispatch_step
-  accepts r E q e z x =
-      let k = granted p name declares (explicit_number f) (explicit_set f) e (sym (prepared-number (explicitly f) r E) ∙ z) (model q) (by-set p name declares (explicitly f) r E q z x) in
-      record { is = k.0; kept = λ h. absurd (h refl); stands = k.1; made = x.made }
+    pub accepts : (s : clip.ClipSet) → Examines (explicitly f) (Ok s) → (q : Pages) → Extends p name declares s q → Accepts p name declares f 0 q
+    unfolding dispatch_step
+    accepts s E q x =
+        let k = granted p name declares (explicit_number f) (explicit_set f) e (none-refuses (explicitly f) s E) (model q) (by-set (explicitly f) s E p name declares q x) in
+        record { is = k.0; kept = λ h. absurd (h refl); stands = k.1; made = x.made }
 
 module _ (p : Pages) (M : Made p) (name : List ℕ) (declares : Bool) (f : TemplateFields) where
-  pub expand-refused : (n : ℕ) → n ≡ name_number p.counts p.bytes name → (n ≡ 0 → ⊥) → Expands p name declares f n p
+  pub expand-refused : (r : Refusal) → number_of r ≡ name_number p.counts p.bytes name → Expands p name declares f (number_of r) p
   unfolding dispatch_step
-  expand-refused n e h = let r = by_name p name declares (template_number f) (template_set f) n e h in record { is = r.0; kept = λ z. refl; stands = r.1; made = M }
+  expand-refused r e = let k = by_name p name declares (template_number f) (template_set f) (number_of r) e (not-zero r) in record { is = k.0; kept = λ z. refl; stands = k.1; made = M }
 
-  pub template-refused : (r : Prepared) → Examines (by_template f) r → name_number p.counts p.bytes name ≡ 0 → (r.number ≡ 0 → ⊥) → Expands p name declares f r.number p
-  unfolding dispatch_step
-  template-refused r E e h =
-      let n = prepared-number (by_template f) r E in
-      let k = by-fields p name declares (template_number f) (template_set f) e (λ z. h (n ∙ z)) in
-      record { is = n ∙ k.0; kept = λ z. refl; stands = k.1; made = M }
+  module _ (e : name_number p.counts p.bytes name ≡ 0) where
+    pub template-refused : (r : Refusal) → Examines (by_template f) (Err r) → Expands p name declares f (number_of r) p
+    unfolding dispatch_step
+    template-refused r E =
+        let n = refused-number (by_template f) r E in
+        let k = by-fields p name declares (template_number f) (template_set f) e (λ z. not-zero r (n ∙ z)) in
+        record { is = n ∙ k.0; kept = λ z. refl; stands = k.1; made = M }
 
-  pub expands : (r : Prepared) → Examines (by_template f) r → (q : Pages) → name_number p.counts p.bytes name ≡ 0 → r.number ≡ 0 → Extends p name declares r.set q → Expands p name declares f 0 q
-  unfolding dispatch_step
-  expands r E q e z x =
-      let k = granted p name declares (template_number f) (template_set f) e (sym (prepared-number (by_template f) r E) ∙ z) (model q) (by-set p name declares (by_template f) r E q z x) in
-      record { is = k.0; kept = λ h. absurd (h refl); stands = k.1; made = x.made }
+    pub expands : (s : clip.ClipSet) → Examines (by_template f) (Ok s) → (q : Pages) → Extends p name declares s q → Expands p name declares f 0 q
+    unfolding dispatch_step
+    expands s E q x =
+        let k = granted p name declares (template_number f) (template_set f) e (none-refuses (by_template f) s E) (model q) (by-set (by_template f) s E p name declares q x) in
+        record { is = k.0; kept = λ h. absurd (h refl); stands = k.1; made = x.made }

@@ -1,8 +1,9 @@
-// A set under a name: accepted, installed or retimed. Each call replies the number that refuses it, or 0.
+// A set under a name: accepted, installed or retimed.
 
 #![tactic(auto)]
 
 ghost use Rattle.std.specs.Prelude.{◌≡◌, ◌<◌, get_or};
+ghost use Rattle.definitions.specs.Refusals.{number_in};
 ghost use Rattle.clip.specs.Holding.{manifest};
 ghost use Rattle.clip.specs.Preparing.{MadeSet};
 ghost use Rattle.explicit.specs.Parsing.{explicit_fields};
@@ -11,27 +12,27 @@ ghost use Rattle.pages.specs.Pages.{pages, Made, Names};
 ghost use Rattle.set_changes.specs.Promises.{name_number, Extends, RetimesAt, Accepts, Expands, Installs, Retimes};
 
 use clip::ClipSet;
-use definitions::{Default, LayerOffset, TemplateTimes, refusal};
-use dispatch::{NAME_BYTES, NOT_TAKEN, SETS};
+use definitions::refusal::Refusal;
+use definitions::{Default, LayerOffset, TemplateTimes};
+use dispatch::{NAME_BYTES, SETS};
 use pages::{placing, storing};
-use set_names::Found;
 
 // 23 where no set can stand under the name.
-fn name_number(counts: &[u64], bytes: &[u8], name: &[u8]) -> u8
+fn check_name(counts: &[u64], bytes: &[u8], name: &[u8]) -> Result<(), Refusal>
     requires { Names counts.now bytes.now }
-    ensures { result ≡ name_number counts.now bytes.now name.now }
+    ensures { number_in result ≡ name_number counts.now bytes.now name.now }
 {
     let n = counts[0] as usize;
     if SETS <= n {
-        return NOT_TAKEN;
+        return Err(Refusal::NotTaken);
     }
     if NAME_BYTES < name.len() {
-        return NOT_TAKEN;
+        return Err(Refusal::NotTaken);
     }
     let found = set_names::find(bytes, n, name);
     match found {
-        Found::At(i) => NOT_TAKEN,
-        Found::Nothing => 0,
+        Some(_) => Err(Refusal::NotTaken),
+        None => Ok(()),
     }
 }
 
@@ -72,19 +73,16 @@ pub fn install(
     name: &[u8],
     declares: bool,
     set: ClipSet,
-) -> u8
+) -> Result<(), Refusal>
     requires made { Made (pages starts.old numbers.old xs.old ys.old blocks.old defaults.old counts.old bytes.old) }
     requires made_set { MadeSet set }
-    ensures { Installs (pages starts.old numbers.old xs.old ys.old blocks.old defaults.old counts.old bytes.old) name.now declares set result (pages starts.new numbers.new xs.new ys.new blocks.new defaults.new counts.new bytes.new) }
+    ensures { Installs (pages starts.old numbers.old xs.old ys.old blocks.old defaults.old counts.old bytes.old) name.now declares set (number_in result) (pages starts.new numbers.new xs.new ys.new blocks.new defaults.new counts.new bytes.new) }
 {
-    let number = name_number(counts, bytes, name);
-    if number != 0 {
-        return number;
-    }
+    check_name(counts, bytes, name)?;
     extend(
         starts, numbers, xs, ys, blocks, defaults, counts, bytes, name, declares, set,
     );
-    0
+    Ok(())
 }
 
 // The set of the fields stands under the name, unless a number refuses it.
@@ -107,14 +105,11 @@ pub fn accept(
     newblocks: &[f64],
     default: Default,
     interpolate: bool,
-) -> u8
+) -> Result<(), Refusal>
     requires { Made (pages starts.old numbers.old xs.old ys.old blocks.old defaults.old counts.old bytes.old) }
-    ensures { Accepts (pages starts.old numbers.old xs.old ys.old blocks.old defaults.old counts.old bytes.old) name.now declares (explicit_fields clips newstarts.now newnumbers.now newxs.now newys.now newblocks.now (manifest default interpolate)) result (pages starts.new numbers.new xs.new ys.new blocks.new defaults.new counts.new bytes.new) }
+    ensures { Accepts (pages starts.old numbers.old xs.old ys.old blocks.old defaults.old counts.old bytes.old) name.now declares (explicit_fields clips newstarts.now newnumbers.now newxs.now newys.now newblocks.now (manifest default interpolate)) (number_in result) (pages starts.new numbers.new xs.new ys.new blocks.new defaults.new counts.new bytes.new) }
 {
-    let number = name_number(counts, bytes, name);
-    if number != 0 {
-        return number;
-    }
+    check_name(counts, bytes, name)?;
     let prepared = explicit::parse_set(
         clips,
         newstarts,
@@ -124,24 +119,11 @@ pub fn accept(
         newblocks,
         default,
         interpolate,
-    );
-    if prepared.number != 0 {
-        return prepared.number;
-    }
+    )?;
     extend(
-        starts,
-        numbers,
-        xs,
-        ys,
-        blocks,
-        defaults,
-        counts,
-        bytes,
-        name,
-        declares,
-        prepared.set,
+        starts, numbers, xs, ys, blocks, defaults, counts, bytes, name, declares, prepared,
     );
-    0
+    Ok(())
 }
 
 // The set that the template expands to stands under the name, unless a number refuses it.
@@ -162,14 +144,11 @@ pub fn accept_template(
     newblocks: &[f64],
     default: Default,
     interpolate: bool,
-) -> u8
+) -> Result<(), Refusal>
     requires { Made (pages starts.old numbers.old xs.old ys.old blocks.old defaults.old counts.old bytes.old) }
-    ensures { Expands (pages starts.old numbers.old xs.old ys.old blocks.old defaults.old counts.old bytes.old) name.now declares (template_fields template.now times offset newblocks.now (manifest default interpolate)) result (pages starts.new numbers.new xs.new ys.new blocks.new defaults.new counts.new bytes.new) }
+    ensures { Expands (pages starts.old numbers.old xs.old ys.old blocks.old defaults.old counts.old bytes.old) name.now declares (template_fields template.now times offset newblocks.now (manifest default interpolate)) (number_in result) (pages starts.new numbers.new xs.new ys.new blocks.new defaults.new counts.new bytes.new) }
 {
-    let number = name_number(counts, bytes, name);
-    if number != 0 {
-        return number;
-    }
+    check_name(counts, bytes, name)?;
     let expanded = template::expand_template(
         template,
         times,
@@ -177,24 +156,11 @@ pub fn accept_template(
         newblocks,
         default,
         interpolate,
-    );
-    if expanded.number != 0 {
-        return expanded.number;
-    }
+    )?;
     extend(
-        starts,
-        numbers,
-        xs,
-        ys,
-        blocks,
-        defaults,
-        counts,
-        bytes,
-        name,
-        declares,
-        expanded.set,
+        starts, numbers, xs, ys, blocks, defaults, counts, bytes, name, declares, expanded,
     );
-    0
+    Ok(())
 }
 
 // The i-th set moved, unless a number refuses it.
@@ -209,18 +175,15 @@ fn retime_at(
     bytes: &mut [u8],
     i: usize,
     o: LayerOffset,
-) -> u8
+) -> Result<(), Refusal>
     requires fact_1 { Made (pages starts.old numbers.old xs.old ys.old blocks.old defaults.old counts.old bytes.old) }
     requires fact_2 { i < get_or counts.old 0 0 }
-    ensures { RetimesAt (pages starts.old numbers.old xs.old ys.old blocks.old defaults.old counts.old bytes.old) i o result (pages starts.new numbers.new xs.new ys.new blocks.new defaults.new counts.new bytes.new) }
+    ensures { RetimesAt (pages starts.old numbers.old xs.old ys.old blocks.old defaults.old counts.old bytes.old) i o (number_in result) (pages starts.new numbers.new xs.new ys.new blocks.new defaults.new counts.new bytes.new) }
 {
     let shape = storing::shape_at(defaults, counts, bytes, i);
-    let settled = placing::move_set(starts, numbers, xs, ys, blocks, i, shape, o);
-    if settled.number != 0 {
-        return settled.number;
-    }
-    storing::store_shape(settled.shape, i, defaults, counts, bytes);
-    0
+    let moved = placing::move_set(starts, numbers, xs, ys, blocks, i, shape, o)?;
+    storing::store_shape(moved, i, defaults, counts, bytes);
+    Ok(())
 }
 
 // The set of the name moved, as the retimings before it left it, unless a number refuses it.
@@ -235,16 +198,16 @@ pub fn retime(
     bytes: &mut [u8],
     name: &[u8],
     o: LayerOffset,
-) -> u8
+) -> Result<(), Refusal>
     requires { Made (pages starts.old numbers.old xs.old ys.old blocks.old defaults.old counts.old bytes.old) }
-    ensures { Retimes (pages starts.old numbers.old xs.old ys.old blocks.old defaults.old counts.old bytes.old) name.now o result (pages starts.new numbers.new xs.new ys.new blocks.new defaults.new counts.new bytes.new) }
+    ensures { Retimes (pages starts.old numbers.old xs.old ys.old blocks.old defaults.old counts.old bytes.old) name.now o (number_in result) (pages starts.new numbers.new xs.new ys.new blocks.new defaults.new counts.new bytes.new) }
 {
     let n = counts[0] as usize;
     let found = set_names::find(bytes, n, name);
     match found {
-        Found::At(i) => retime_at(
+        Some(i) => retime_at(
             starts, numbers, xs, ys, blocks, defaults, counts, bytes, i, o,
         ),
-        Found::Nothing => refusal::NO_SET,
+        None => Err(Refusal::NoSet),
     }
 }

@@ -1,24 +1,10 @@
 -- Names where they stand in their pages. Assumes nothing.
-use Prim.Native.Nat.{ℕ, zero, suc, ◌+◌, ◌-◌, ◌*◌, ◌≤◌, ◌<◌}
+use Prim.Native.Nat.{ℕ, zero, suc, ◌+◌, ◌<◌}
 use native.Mathlib.Omega.{arith}
 use mathlib.Core.Path.{◌≡◌, refl, ap, ap₂}
 use mathlib.Core.List.{List, [], ◌∷◌, ◌++◌}
-use lib.ListN.{length, get_or, take, drop}
-use Rattle.set_names.specs.Pages.{NamePages, name_page, name_in, names_at, names_in}
-
--- ---- one name
-
--- by the two ends at which it is lent
-pub lent-name : (bytes : List ℕ) (i : ℕ) → take (i * name_page + 1 + get_or bytes (i * name_page) 0 - (i * name_page + 1)) (drop (i * name_page + 1) bytes) ≡ name_in bytes i
-lent-name bytes i = ap (λ (k : ℕ). take k (drop (i * name_page + 1) bytes)) (span (i * name_page + 1) (get_or bytes (i * name_page) 0))
-  where
-    span : (a k : ℕ) → a + k - a ≡ k
-    span a k = omega arith
-
-pub name-ends : (bytes : List ℕ) (n i : ℕ) → NamePages bytes n → i < n → i * name_page + 1 + get_or bytes (i * name_page) 0 ≤ length bytes
-name-ends bytes n i p h = omega (arith, p.room, p.short i h)
-
--- ---- all names
+use lib.ListN.{length, get_or}
+use Rattle.set_names.specs.Pages.{name_in, names_at, names_in}
 
 names-from-long : (bytes : List ℕ) (k n : ℕ) → length (names_at bytes k n) ≡ n
 unfolding names_at

@@ -10,31 +10,28 @@ use Rattle.dispatch.specs.SetOrder.{same_name, number_from, set_number}
 use Rattle.set_names.specs.Pages.{name_in, names_at, names_in}
 
 module _ (bytes : List ℕ) (n : ℕ) (name : List ℕ) where
-  pub record Searched (i : ℕ) : Type 0 where
-    pub within : i ≤ n
-    pub rest : set_number name (names_in bytes n) ≡ number_from i name (names_at bytes i (n - i))
+  -- the names before the i-th are others
+  abbrev pub Searched : ℕ → Type 0
+  Searched i = set_number name (names_in bytes n) ≡ number_from i name (names_at bytes i (n - i))
 
   pub unsearched : Searched 0
   unfolding set_number
-  unsearched = record { within = omega arith; rest = ap (λ (k : ℕ). number_from 0 name (names_at bytes 0 k)) all }
-    where
-      all : n ≡ n - 0
-      all = omega arith
+  unsearched = ap (λ (k : ℕ). number_from 0 name (names_at bytes 0 k)) (omega arith)
 
   named : (i : ℕ) → i < n → Searched i → (b : Bool) → b ≡ same_name (name_in bytes i) name → set_number name (names_in bytes n) ≡ cond b (some i) (number_from (suc i) name (names_at bytes (suc i) (n - suc i)))
   unfolding names_at
   named i h s b e =
       let d : n - i ≡ suc (n - suc i) = omega arith in
-      s.rest ∙ ap (λ (k : ℕ). number_from i name (names_at bytes i k)) d ∙ ap (λ (x : Bool). cond x (some i) (number_from (suc i) name (names_at bytes (suc i) (n - suc i)))) (sym e)
+      s ∙ ap (λ (k : ℕ). number_from i name (names_at bytes i k)) d ∙ ap (λ (x : Bool). cond x (some i) (number_from (suc i) name (names_at bytes (suc i) (n - suc i)))) (sym e)
 
   pub found_here : (i : ℕ) → i < n → Searched i → true ≡ same_name (name_in bytes i) name → some i ≡ set_number name (names_in bytes n)
   found_here i h s e = sym (named i h s true e)
 
   pub not-here : (i : ℕ) → i < n → Searched i → false ≡ same_name (name_in bytes i) name → Searched (i + 1)
-  not-here i h s e = record { within = omega arith; rest = rw add-one (named i h s false e) }
+  not-here i h s e = rw add-one (named i h s false e)
 
   pub nowhere : (i : ℕ) → n ≤ i → Searched i → none ≡ set_number name (names_in bytes n)
   unfolding names_at
   nowhere i h s =
       let d : n - i ≡ 0 = omega arith in
-      sym (s.rest ∙ ap (λ (k : ℕ). number_from i name (names_at bytes i k)) d)
+      sym (s ∙ ap (λ (k : ℕ). number_from i name (names_at bytes i k)) d)

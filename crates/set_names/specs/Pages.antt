@@ -1,9 +1,8 @@
 -- The names of a dispatcher's sets as they stand in bytes: a page for each, its length and then the name. Assumes nothing.
-use Rattle.std.specs.Prelude.{ℕ, zero, suc, ◌+◌, ◌*◌, ◌≤◌, ◌<◌, cond, List, [], ◌∷◌, length, get_or, take, drop}
+use Rattle.std.specs.Prelude.{ℕ, zero, suc, ◌+◌, ◌*◌, ◌≤◌, ◌<◌, cond, List, [], ◌∷◌, length, get_or, take, drop, Some, None}
+use Rattle.std.specs.Prelude as Prelude
 use Rattle.std.proofs.Math.Option.{Option, none, some}
 use Rattle.dispatch.specs.SetOrder.{max_name, name_before}
-use Rattle.set_names.specs.declared.Found.{Found}
-use Rattle.set_names.specs.declared.Found.TheVariants.{At, Nothing}
 
 abbrev pub name_page : ℕ
 name_page = 256
@@ -25,9 +24,9 @@ pub record NamePages (bytes : List ℕ) (n : ℕ) : Type 0 where
   pub room : n * name_page ≤ length bytes
   pub short : (i : ℕ) → i < n → get_or bytes (i * name_page) 0 ≤ max_name
 
-abbrev pub number_of : Found → Option ℕ
-number_of (At i) = some i
-number_of Nothing = none
+abbrev pub number_of : Prelude.Option ℕ → Option ℕ
+number_of (Some i) = some i
+number_of None = none
 
 -- how many numbers stand before the first whose name does not come before the k-th
 unfoldable pub leading : List (List ℕ) → ℕ → List ℕ → ℕ

@@ -50,7 +50,6 @@ closed-below end (e ∷ ends) len h =
 
 -- the i names before `begin` are walked
 pub record Walk (bytes ends : List ℕ) (begin i : ℕ) : Type 0 where
-  pub within : i ≤ length ends
   pub closed : T (closes begin (drop i ends) (length bytes))
 
 module _ (bytes ends : List ℕ) (begin i : ℕ) where
@@ -74,7 +73,7 @@ module _ (bytes ends : List ℕ) (begin i : ℕ) where
     end_after = leb→le begin (get_or ends i 0) (both_l (leb begin (get_or ends i 0)) (closes (get_or ends i 0) (drop (i + 1) ends) (length bytes)) opened)
 
     pub walk-on : Walk bytes ends (get_or ends i 0) (i + 1)
-    walk-on = record { within = omega arith; closed = both_r (leb begin (get_or ends i 0)) (closes (get_or ends i 0) (drop (i + 1) ends) (length bytes)) opened }
+    walk-on = record { closed = both_r (leb begin (get_or ends i 0)) (closes (get_or ends i 0) (drop (i + 1) ends) (length bytes)) opened }
 
     pub end-within : get_or ends i 0 ≤ length bytes
     end-within = closed-below (get_or ends i 0) (drop (i + 1) ends) (length bytes) walk-on.closed

@@ -44,7 +44,7 @@ module _ (names : List (List ℕ)) (starts declares bytes ends : List ℕ) where
   pub none_passed : order_number (some (lent_list bytes ends)) ≡ 0 → Passed (replicate max_sets false) 0 0 0
   unfolding order_in_force
   none_passed e = record {
-    walk = record { within = omega arith; closed = closed bytes ends e };
+    walk = record { closed = closed bytes ends e };
     room = length-replicate max_sets false;
     counted = omega arith;
     left = ap (first_qualifying (fit_in starts declares) 0) (sym (none-met max_sets (numbers 0 0)));

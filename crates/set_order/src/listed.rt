@@ -6,9 +6,8 @@ ghost use Rattle.dispatch.specs.NamedSets.{max_sets, first_qualifying};
 ghost use Rattle.set_names.specs.Pages.{NamePages, names_in};
 ghost use Rattle.set_order.specs.Answered.{fit_in, answered, lent_list};
 
-use crate::{Answered, qualifies};
+use crate::{AnsweringSet, qualifies};
 use dispatch::SETS;
-use set_names::Found;
 
 // The first listed set that qualifies. A name that no set has is passed over, and one that was met before; every other set has a place.
 pub fn first_listed(
@@ -17,7 +16,7 @@ pub fn first_listed(
     declares: &[u8],
     bytes: &[u8],
     ends: &[u64],
-) -> Answered
+) -> Option<AnsweringSet>
     requires fact_1 { NamePages names.now (length starts.now) }
     requires fact_2 { length starts.now ≤ max_sets }
     requires fact_3 { length declares.now ≡ length starts.now }
@@ -28,23 +27,21 @@ pub fn first_listed(
     let mut met = [false; SETS];
     let mut place: usize = 0;
     let mut begin: usize = 0;
-    let mut i: usize = 0;
-    while i < ends.len() {
-        let end = ends[i] as usize;
+    for end in ends {
+        let end = *end as usize;
         let found = set_names::find(names, n, &bytes[begin..end]);
         begin = end;
-        i += 1;
-        let Found::At(k) = found else {
+        let Some(number) = found else {
             continue;
         };
-        if met[k] {
+        if met[number] {
             continue;
         }
-        if qualifies(starts, declares, k) {
-            return Answered::By(place, k);
+        if qualifies(starts, declares, number) {
+            return Some(AnsweringSet { place, number });
         }
-        met[k] = true;
+        met[number] = true;
         place += 1;
     }
-    Answered::Nobody
+    None
 }

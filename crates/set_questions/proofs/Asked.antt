@@ -26,6 +26,8 @@ use Rattle.laws.proofs.cell.Tracks.{track-is}
 use Rattle.dispatch.specs.SetOrder.{order_number, order_in_force, by_name}
 use Rattle.dispatch.specs.NamedSets.{max_sets, first_qualifying}
 use Rattle.dispatch.specs.SetSamples.{SetSamples}
+use Rattle.std.specs.Prelude.{Result}
+use Rattle.definitions.specs.declared.refusal.Refusal.{Refusal}
 use Rattle.sdf.specs.Judged.{Judged}
 use Rattle.sdf.proofs.Judged.{judged-accepted}
 use Rattle.track.specs.declared.bake.Baked.{Baked}
@@ -39,7 +41,8 @@ use Rattle.resolver.proofs.Laws.{stands-sound, lent-is, is-asked}
 use Rattle.set_names.specs.Pages.{NamePages, names_in}
 use Rattle.set_names.proofs.InPages.{names-long}
 use Rattle.set_names.proofs.NameOrder.{by_name-below}
-use Rattle.set_order.specs.declared.Answered.{Answered}
+use Rattle.std.specs.Prelude as Prelude
+use Rattle.set_order.specs.declared.AnsweringSet.{AnsweringSet}
 use Rattle.set_order.specs.Answered.{lent_list, fit_in, answered}
 use Rattle.set_samples.specs.declared.Own.{Own}
 use Rattle.set_samples.specs.Parting.{between, OwnAt}
@@ -106,7 +109,7 @@ module _ (counts bytes : List ℕ) (S : Sorted counts bytes) where
   fits-are : fit_in starts declares ≡ fit_in (part 17 sets counts) (part 4128 sets bytes)
   fits-are = ap₂ (λ (a b : List ℕ). fit_in a b) (part-to 17 sets counts) (part-to 4128 sets bytes)
 
-  module _ (given : Bool) (listed ends : List ℕ) (r : Answered) where
+  module _ (given : Bool) (listed ends : List ℕ) (r : Prelude.Option AnsweringSet) where
     pub answers-listed : given ≡ true → answered r ≡ first_qualifying (fit_in starts declares) 0 (order_in_force (some (lent_list listed ends)) (names_in bytes (length starts))) → AnswersOf counts bytes (order_of given listed ends) r
     answers-listed e q =
         q
@@ -157,7 +160,7 @@ clips-lent counts C = ap length (part-to 1 (get_or counts 0 0) counts) ∙ part-
 pub own-accepted : (counts : List ℕ) (s : SetSamples) (k : ℕ) → k < get_or counts 0 0 → (o : Own) → OwnAt (part 1 (get_or counts 0 0) counts) s k o → (set : ClipSet) → set.clips ≡ get_or counts (1 + k) 0 → samples_number set (between s o) ≡ 0
 own-accepted counts s k below o a set e = a.accepted set (e ∙ sym (part_at 1 (get_or counts 0 0) counts k 0 below))
 
-pub bakes-alike : {set : ClipSet} {x y : Samples} {before after : Outputs} {r : Baked} → x ≡ y → BakesSet set y before r after → BakesSet set x before r after
+pub bakes-alike : {set : ClipSet} {x y : Samples} {before after : Outputs} {r : Result Baked Refusal} → x ≡ y → BakesSet set y before r after → BakesSet set x before r after
 bakes-alike {set = set} {before = before} {after = after} {r = r} e b = subst (λ (z : Samples). BakesSet set z before r after) (sym e) b
 
 -- ---- one set's page, and samples that are accepted for it, as they are lent
@@ -196,7 +199,7 @@ module _ (p : Pages) (M : Made p) (k : ℕ) (below : k < set_count p) (h : Shape
   pub page-read : (t : StageTime) (r : ValueRead) → r ≡ value_read lent_is own t → r ≡ value_read (set_in (state_at p k).set) own t
   page-read t r q = q ∙ ap (λ (x : ClipSet). value_read x own t) set_is
 
-  pub page-bakes : (before after : Outputs) (r : Baked) → BakeIs lent_is own before after r → BakesSet (set_in (state_at p k).set) own before r after
+  pub page-bakes : (before after : Outputs) (r : Result Baked Refusal) → BakeIs lent_is own before after r → BakesSet (set_in (state_at p k).set) own before r after
   page-bakes before after r b =
       let x = set_in (state_at p k).set in
       let q = subst (λ (y : ClipSet). BakeIs y own before after r) set_is b in

@@ -5,6 +5,7 @@
 ghost use Rattle.std.specs.Prelude.{◌≡◌, ◌+◌, ◌<◌, T, get_or};
 ghost use Rattle.std.specs.Float.Ieee.Scale.{finite};
 ghost use Rattle.definitions.specs.Lists.{◌then◌};
+ghost use Rattle.definitions.specs.Refusals.{number_in};
 ghost use Rattle.definitions.specs.Value.{value_read};
 ghost use Rattle.definitions.specs.Moments.{outputs};
 ghost use Rattle.dispatch.specs.SetOrder.{order_number};
@@ -13,40 +14,32 @@ ghost use Rattle.laws.specs.cell.Lent as lent;
 ghost use Rattle.standing.specs.Standing.{set_in};
 ghost use Rattle.set_samples.specs.Parting.{lent_samples, OwnAt};
 ghost use Rattle.pages.specs.Pages.{pages, part, state_at, Made};
-ghost use Rattle.set_questions.specs.Asking.{order_of, ClipCounts, Sorted, AcceptedFor, AnswersOf, BakesSet, nobody_read, placed_bake, no_track, TellsValue, BakesTrack, bake_arguments};
+ghost use Rattle.set_questions.specs.Asking.{order_of, ClipCounts, Sorted, AcceptedFor, AnswersOf, BakesSet, nobody_read, no_track, TellsValue, BakesTrack, bake_arguments};
 
-use definitions::{Answer, SampleRead, StageTime, ValueRead, refusal};
+use definitions::refusal::Refusal;
+use definitions::{Answer, StageTime, ValueRead};
 use pages::layout::CLIPS;
 use pages::{layout, storing};
-use set_order::Answered;
+use set_order::AnsweringSet;
 use set_samples::Own;
 use track::bake::Baked;
 
 // What the value question replies: the place of the answering set in the order in force, if one qualifies, and the value.
 #[derive(Clone, Copy)]
 pub struct PlacedRead {
-    pub placed: bool,
-    pub set: u64,
+    pub place: Option<u64>,
     pub read: ValueRead,
 }
 
-#[derive(Clone, Copy)]
-pub enum ValueReply {
-    Answered(PlacedRead),
-    Refused(u8),
-}
-
 // What a bake replies: the place of the answering set, if one qualifies, and the bake's reply.
-#[repr(C)]
 #[derive(Clone, Copy)]
 pub struct PlacedBake {
+    pub place: Option<u64>,
     pub baked: Baked,
-    pub placed: bool,
-    pub set: u64,
 }
 
-// 23 of an order list, if one is given, then 1, 2 or 9 of the samples of any set.
-fn question_number(
+// Whether the order list, if one is given, and the samples are accepted: refused by 23, then by 1, 2 or 9 of the samples of any set.
+fn check_question(
     counts: &[u64],
     given: bool,
     listed: &[u8],
@@ -56,22 +49,25 @@ fn question_number(
     times: &[f64],
     values: &[f64],
     marks: &[u8],
-) -> u8
+) -> Result<(), Refusal>
     requires { ClipCounts counts.now }
-    ensures { result ≡ (order_number (order_of given listed.now nameends.now) then set_samples_number (part 1 (get_or counts.now 0 0) counts.now) (lent_samples lens.now ends.now times.now values.now marks.now)) }
+    ensures { number_in result ≡ (order_number (order_of given listed.now nameends.now) then set_samples_number (part 1 (get_or counts.now 0 0) counts.now) (lent_samples lens.now ends.now times.now values.now marks.now)) }
 {
     if given {
-        let number = set_order::order_number(listed, nameends);
-        if number != 0 {
-            return number;
-        }
+        set_order::check_order(listed, nameends)?;
     }
     let end = CLIPS + counts[0] as usize;
-    set_samples::samples_number(&counts[CLIPS..end], lens, ends, times, values, marks)
+    set_samples::check_samples(&counts[CLIPS..end], lens, ends, times, values, marks)
 }
 
 // The set that answers.
-fn answering(counts: &[u64], bytes: &[u8], given: bool, listed: &[u8], nameends: &[u64]) -> Answered
+fn answering(
+    counts: &[u64],
+    bytes: &[u8],
+    given: bool,
+    listed: &[u8],
+    nameends: &[u64],
+) -> Option<AnsweringSet>
     requires fact_1 { Sorted counts.now bytes.now }
     requires fact_2 { order_number (order_of given listed.now nameends.now) ≡ 0 }
     ensures { AnswersOf counts.now bytes.now (order_of given listed.now nameends.now) result }
@@ -158,7 +154,7 @@ fn bake_at<'a>(
     outtimes: &mut [f64],
     outvalues: &mut [f64],
     outmarks: &mut [u8],
-) -> Baked
+) -> Result<Baked, Refusal>
     requires fact_1 { Made (pages starts.now numbers.now xs.now ys.now blocks.now defaults.now counts.now bytes.now) }
     requires fact_2 { k < get_or counts.now 0 0 }
     requires fact_3 { AcceptedFor (get_or counts.now (1 + k) 0) times.now values.now marks.now ends.now }
@@ -272,7 +268,7 @@ fn bake_own<'a>(
     outtimes: &mut [f64],
     outvalues: &mut [f64],
     outmarks: &mut [u8],
-) -> Baked
+) -> Result<Baked, Refusal>
     requires fact_1 { Made (pages starts.now numbers.now xs.now ys.now blocks.now defaults.now counts.now bytes.now) }
     requires fact_2 { k < get_or counts.now 0 0 }
     requires fact_3 { set_samples_number (part 1 (get_or counts.now 0 0) counts.now) (lent_samples lens.now ends.now times.now values.now marks.now) ≡ 0 }
@@ -322,48 +318,38 @@ pub fn value<'a>(
     values: &[f64],
     marks: &[u8],
     t: StageTime,
-) -> ValueReply
+) -> Result<PlacedRead, Refusal>
     requires { Made (pages starts.now numbers.now xs.now ys.now blocks.now defaults.now counts.now bytes.now) }
     ensures { TellsValue (pages starts.now numbers.now xs.now ys.now blocks.now defaults.now counts.now bytes.now) (order_of given listed.now nameends.now) (lent_samples lens.now ends.now times.now values.now marks.now) t result }
 {
-    let number = question_number(
+    check_question(
         counts, given, listed, nameends, lens, ends, times, values, marks,
-    );
-    if number != 0 {
-        return ValueReply::Refused(number);
-    }
+    )?;
     if !gf::is_finite(t.0) {
-        return ValueReply::Refused(refusal::TIME_NOT_FINITE);
+        return Err(Refusal::TimeNotFinite);
     }
     let by = answering(counts, bytes, given, listed, nameends);
     match by {
-        Answered::By(place, k) => {
+        Some(set) => {
             let read = read_own(
-                starts, numbers, xs, ys, blocks, defaults, counts, bytes, k, lens, ends, times,
-                values, marks, t,
+                starts, numbers, xs, ys, blocks, defaults, counts, bytes, set.number, lens, ends,
+                times, values, marks, t,
             );
-            ValueReply::Answered(PlacedRead {
-                placed: true,
-                set: place as u64,
-                read,
-            })
+            let place = Some(set.place as u64);
+            Ok(PlacedRead { place, read })
         }
-        Answered::Nobody => nobody_reads(),
+        None => Ok(nobody_reads()),
     }
 }
 
-fn nobody_reads() -> ValueReply
+fn nobody_reads() -> PlacedRead
     ensures { result ≡ nobody_read }
 {
     let read = ValueRead {
         answer: Answer::Absent,
-        sample: SampleRead::Nothing,
+        sample: None,
     };
-    ValueReply::Answered(PlacedRead {
-        placed: false,
-        set: 0,
-        read,
-    })
+    PlacedRead { place: None, read }
 }
 
 // The track of the set that answers and its place: the head and the count, and the changes written to the lent lists.
@@ -387,60 +373,37 @@ pub fn bake<'a>(
     outtimes: &mut [f64],
     outvalues: &mut [f64],
     outmarks: &mut [u8],
-) -> PlacedBake
+) -> Result<PlacedBake, Refusal>
     requires { Made (pages starts.now numbers.now xs.now ys.now blocks.now defaults.now counts.now bytes.now) }
     ensures { BakesTrack (pages starts.now numbers.now xs.now ys.now blocks.now defaults.now counts.now bytes.now) (bake_arguments (order_of given listed.now nameends.now) (lent_samples lens.now ends.now times.now values.now marks.now)) (outputs outtimes.old outvalues.old outmarks.old) result (outputs outtimes.new outvalues.new outmarks.new) }
 {
-    let number = question_number(
+    check_question(
         counts, given, listed, nameends, lens, ends, times, values, marks,
-    );
-    if number != 0 {
-        return no_track(number, 0);
-    }
+    )?;
     let by = answering(counts, bytes, given, listed, nameends);
     match by {
-        Answered::By(place, k) => {
+        Some(set) => {
             let baked = bake_own(
-                starts, numbers, xs, ys, blocks, defaults, counts, bytes, k, lens, ends, times,
-                values, marks, outtimes, outvalues, outmarks,
-            );
-            placed_bake(place, baked)
+                starts, numbers, xs, ys, blocks, defaults, counts, bytes, set.number, lens, ends,
+                times, values, marks, outtimes, outvalues, outmarks,
+            )?;
+            Ok(PlacedBake {
+                place: Some(set.place as u64),
+                baked,
+            })
         }
-        Answered::Nobody => no_track(0, 2),
+        None => Ok(no_track()),
     }
 }
 
-// A bake's reply with the set's place; a refusal has none.
-fn placed_bake(place: usize, baked: Baked) -> PlacedBake
-    ensures { result ≡ placed_bake place baked }
-{
-    if baked.number != 0 {
-        return PlacedBake {
-            placed: false,
-            set: 0,
-            baked,
-        };
-    }
-    PlacedBake {
-        placed: true,
-        set: place as u64,
-        baked,
-    }
-}
-
-// No change, and no set's place: a refusal, or an absent head.
-fn no_track(number: u8, mark: u8) -> PlacedBake
-    ensures { result ≡ no_track number mark }
+// An absent head, no change, and no set's place.
+fn no_track() -> PlacedBake
+    ensures { result ≡ no_track }
 {
     let baked = Baked {
-        number,
-        mark,
+        mark: 2,
         value: 0.0,
         count: 0,
     };
-    PlacedBake {
-        placed: false,
-        set: 0,
-        baked,
-    }
+    PlacedBake { place: None, baked }
 }

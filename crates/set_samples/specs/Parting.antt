@@ -1,5 +1,5 @@
 -- The samples of all sets as they are lent, parted among the sets. Assumes nothing.
-use Rattle.std.specs.Prelude.{ℕ, ◌-◌, ◌≤◌, ◌≡◌, Bool, true, false, cond, List, eqb, ltb, length, get_or, take, drop, Float}
+use Rattle.std.specs.Prelude.{ℕ, ◌-◌, ◌≤◌, ◌≡◌, Bool, true, false, cond, List, eqb, ltb, length, get_or, take, drop, Option, Some, None, Float}
 use Rattle.definitions.specs.Lists.{any}
 use Rattle.definitions.specs.ClipSet.{ClipSet, max_clips, max_samples}
 use Rattle.definitions.specs.Samples.{Samples, samples_number}
@@ -7,8 +7,6 @@ use Rattle.laws.specs.list.Every.{Every}
 use Rattle.laws.specs.cell.Lent.{samples_of}
 use Rattle.dispatch.specs.NamedSets.{max_sets}
 use Rattle.dispatch.specs.SetSamples.{SetSamples, sum, sets1, samples_at}
-use Rattle.set_samples.specs.declared.Total.{Total}
-use Rattle.set_samples.specs.declared.Total.TheVariants.{Sum, Above}
 use Rattle.set_samples.specs.declared.Own.{Own}
 
 abbrev pub lent_samples : List ℕ → List ℕ → List Float → List Float → List ℕ → SetSamples
@@ -28,9 +26,9 @@ abbrev pub Parted : List ℕ → SetSamples → Type 0
 Parted clips s = sets1 clips s ≡ false
 
 -- the sum, or that a count is above its limit
-abbrev pub Totals : List ℕ → Total → Type 0
-Totals counts (Sum n) = (any (λ (c : ℕ). ltb max_samples c) counts ≡ false) × (n ≡ sum counts)
-Totals counts Above = any (λ (c : ℕ). ltb max_samples c) counts ≡ true
+abbrev pub Totals : List ℕ → Option ℕ → Type 0
+Totals counts (Some n) = (any (λ (c : ℕ). ltb max_samples c) counts ≡ false) × (n ≡ sum counts)
+Totals counts None = any (λ (c : ℕ). ltb max_samples c) counts ≡ true
 
 -- the samples between two places, and the ends between two others
 abbrev pub between : SetSamples → Own → Samples

@@ -3,19 +3,13 @@
 #![tactic(auto)]
 
 ghost use Rattle.std.specs.Prelude.{◌≡◌, ◌≤◌, ◌<◌, eqb, length};
+ghost use Rattle.definitions.specs.Refusals.{number_in};
 ghost use Rattle.dispatch.specs.NamedSets.{max_sets};
 ghost use Rattle.dispatch.specs.SetSamples.{sum, set_samples_number};
 ghost use Rattle.set_samples.specs.Parting.{lent_samples, earlier, Parted, Totals, FewClips, OwnAt};
 
 use definitions::limits::SAMPLES;
-use definitions::refusal;
-
-// How many samples the sets have, or that one has more than the limit.
-#[derive(Clone, Copy)]
-enum Total {
-    Sum(usize),
-    Above,
-}
+use definitions::refusal::Refusal;
 
 // Where a set's own samples and clip ends begin and end in the lists of all.
 #[derive(Clone, Copy)]
@@ -26,122 +20,105 @@ pub struct Own {
     pub last: usize,
 }
 
-// Of two numbers the one that comes first.
-fn first_of(w: u8, n: u8) -> u8
-    ensures { result ≡ earlier (eqb w 2) (eqb w 9) n }
+// Of two results the one whose number comes first: 2 before 9.
+fn first_of(w: Result<(), Refusal>, n: Result<(), Refusal>) -> Result<(), Refusal>
+    ensures { number_in result ≡ earlier (eqb (number_in w) 2) (eqb (number_in w) 9) (number_in n) }
 {
-    if w == refusal::UNSTORABLE {
-        return w;
+    match (w, n) {
+        (Err(Refusal::Unstorable), _) | (_, Err(Refusal::Unstorable)) => Err(Refusal::Unstorable),
+        (Err(Refusal::BadSamples), _) | (_, Err(Refusal::BadSamples)) => Err(Refusal::BadSamples),
+        _ => Ok(()),
     }
-    if n == refusal::UNSTORABLE {
-        return n;
-    }
-    if w == refusal::BAD_SAMPLES {
-        return w;
-    }
-    if n == refusal::BAD_SAMPLES {
-        return n;
-    }
-    0
 }
 
-// The number of lists that can be parted.
-fn parts_number(
+// Whether the samples of each set are accepted, of lists that can be parted: refused by 2 or 9.
+fn check_parts(
     clips: &[u64],
     counts: &[u64],
     ends: &[u64],
     times: &[f64],
     values: &[f64],
     marks: &[u8],
-) -> u8
+) -> Result<(), Refusal>
     requires fact_1 { FewClips clips.now }
     requires fact_2 { Parted clips.now (lent_samples counts.now ends.now times.now values.now marks.now) }
-    ensures { result ≡ set_samples_number clips.now (lent_samples counts.now ends.now times.now values.now marks.now) }
+    ensures { number_in result ≡ set_samples_number clips.now (lent_samples counts.now ends.now times.now values.now marks.now) }
 {
-    let mut i: usize = 0;
     let mut a: usize = 0;
     let mut e: usize = 0;
-    let mut w: u8 = 0;
-    while i < clips.len() {
+    let mut w = Ok(());
+    for i in 0..clips.len() {
         let b = a + counts[i] as usize;
         let f = e + clips[i] as usize;
-        let number = sdf::samples_number(
+        let own = sdf::check_samples(
             clips[i],
             &times[a..b],
             &values[a..b],
             &marks[a..b],
             &ends[e..f],
         );
-        w = first_of(w, number);
+        w = first_of(w, own);
         a = b;
         e = f;
-        i += 1;
     }
     w
 }
 
-fn total_samples(counts: &[u64]) -> Total
+// How many samples the sets have, or nothing where one has more than the limit.
+fn total_samples(counts: &[u64]) -> Option<usize>
     requires { length counts.now ≤ max_sets }
     ensures { Totals counts.now result }
 {
     let mut sum: usize = 0;
-    let mut i: usize = 0;
-    while i < counts.len() {
-        let c = counts[i] as usize;
-        if SAMPLES < c {
-            return Total::Above;
+    for count in counts {
+        let count = *count as usize;
+        if SAMPLES < count {
+            return None;
         }
-        sum += c;
-        i += 1;
+        sum += count;
     }
-    Total::Sum(sum)
+    Some(sum)
 }
 
 fn total_clips(clips: &[u64]) -> usize
     requires { FewClips clips.now }
     ensures { result ≡ sum clips.now }
 {
-    let mut sum: usize = 0;
-    let mut i: usize = 0;
-    while i < clips.len() {
-        sum += clips[i] as usize;
-        i += 1;
-    }
-    sum
+    clips.iter().map(|c| *c as usize).sum()
 }
 
-// The number by which the samples lent for all sets are refused, and 0 if they are accepted for each. The sets have `clips` clips.
-pub fn samples_number(
+// Whether the samples lent for all sets are accepted for each: refused by 1, 2 or 9. The sets have `clips` clips.
+pub fn check_samples(
     clips: &[u64],
     counts: &[u64],
     ends: &[u64],
     times: &[f64],
     values: &[f64],
     marks: &[u8],
-) -> u8
+) -> Result<(), Refusal>
     requires { FewClips clips.now }
-    ensures { result ≡ set_samples_number clips.now (lent_samples counts.now ends.now times.now values.now marks.now) }
+    ensures { number_in result ≡ set_samples_number clips.now (lent_samples counts.now ends.now times.now values.now marks.now) }
 {
     if values.len() != times.len() {
-        return refusal::MISSHAPEN;
+        return Err(Refusal::Misshapen);
     }
     if marks.len() != times.len() {
-        return refusal::MISSHAPEN;
+        return Err(Refusal::Misshapen);
     }
     if counts.len() != clips.len() {
-        return refusal::MISSHAPEN;
+        return Err(Refusal::Misshapen);
     }
     let all = total_samples(counts);
-    let Total::Sum(samples) = all else {
-        return refusal::MISSHAPEN;
+    let Some(samples) = all else {
+        return Err(Refusal::Misshapen);
     };
     if samples != times.len() {
-        return refusal::MISSHAPEN;
+        return Err(Refusal::Misshapen);
     }
     if ends.len() != total_clips(clips) {
-        return refusal::MISSHAPEN;
+        return Err(Refusal::Misshapen);
     }
-    parts_number(clips, counts, ends, times, values, marks)
+    check_parts(clips, counts, ends, times, values, marks)
 }
 
 // Where the own samples of the k-th set are, of samples that are accepted for every set.
@@ -159,13 +136,11 @@ pub fn own_of(
     requires fact_3 { set_samples_number clips.now (lent_samples counts.now ends.now times.now values.now marks.now) ≡ 0 }
     ensures { OwnAt clips.now (lent_samples counts.now ends.now times.now values.now marks.now) k result }
 {
-    let mut i: usize = 0;
     let mut a: usize = 0;
     let mut e: usize = 0;
-    while i < k {
+    for i in 0..k {
         a += counts[i] as usize;
         e += clips[i] as usize;
-        i += 1;
     }
     Own {
         begin: a,

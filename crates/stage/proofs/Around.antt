@@ -1,5 +1,6 @@
 -- The next stage sample time is one of the active window's or the next start.
 -- Assumes nothing.
+use Rattle.std.specs.Prelude.{Option, None, Some}
 use mathlib.Core.Path.{◌≡◌, refl, sym, ◌∙◌, subst}
 use mathlib.Core.Logic.{inl, inr}
 use mathlib.Core.Bool.{Bool, true, false, cond}
@@ -21,8 +22,6 @@ use Rattle.laws.specs.list.Every.{Every}
 use Rattle.laws.proofs.list.Every.{every-at, every_map, every-zip, every_append, every-left, every-right, every-gather, every-below}
 use Rattle.laws.proofs.list.Places.{at_most, at-most-is, last-is, last-later}
 use Rattle.laws.specs.list.Places.{Fits}
-use Rattle.window.specs.declared.Bound.{Bound}
-use Rattle.window.specs.declared.Bound.TheVariants.{At, Nothing}
 use Rattle.window.specs.Bounds.{In, UpperIs}
 use Rattle.window.proofs.BoundsLaws.{every_in}
 use Rattle.window.specs.Windows.{min_of, max_of}
@@ -111,7 +110,7 @@ module _ {starts : List Float} {clips : List ℕ} {xs ys times : List Float} {en
         ]
       ]
 
-      first-around : Every (λ (x : Float). In x all) g → (b : Bound) → FirstIs g t b → FirstIs all t b
+      first-around : Every (λ (x : Float). In x all) g → (b : Option Float) → FirstIs g t b → FirstIs all t b
       first-around among = first-of-all t g all among (every-gather (λ (q : ℕ). q < length starts) (λ (x : Float). T (lt t x) → Before g t x) part each (below (length starts)) (every-below (length starts)))
 
     -- ---- by a search in the window
@@ -130,7 +129,7 @@ module _ {starts : List Float} {clips : List ℕ} {xs ys times : List Float} {en
     searched-finite : Every FiniteDouble searched
     searched-finite = every_append FiniteDouble (part p) (next_start starts p) (part-finite R p h) (if-next FiniteDouble (finite-at (p + 1)))
 
-    first-searched : (b : Bound) → FirstIs searched t b → FirstIs all t b
+    first-searched : (b : Option Float) → FirstIs searched t b → FirstIs all t b
     first-searched =
         first-around searched (every-left (λ (x : Float). In x searched) (part p) (next_start starts p) (every_in searched)) behind
         (every_append (λ (x : Float). In x all) (part p) (next_start starts p) (part_in R p h) (if-next (λ (x : Float). In x all) (λ l. part-first R (λ (x : Float). In x all) (p + 1) (part_in R (p + 1) l))))
@@ -144,9 +143,9 @@ module _ {starts : List Float} {clips : List ℕ} {xs ys times : List Float} {en
             every_map (λ (x : Float). key (at q) ≤ key x) (λ (x : Float). T (lt t x) → Before searched t x)
             (λ x k u. (at (p + 1), start-in (omega arith), next-above (omega arith) x u, omega (arith, climb starts R.windows.rising (p + 1) q (omega arith) n))) (part q) (from_start q (omega arith) n)
 
-    pub next-searched : (b : Bound) → UpperIs searched t b → NextTime starts clips xs ys times ends t (with_zero (zero_of (minus_gathered starts clips xs times ends)) b)
-    next-searched Nothing U = next-time R t ft Nothing (first-searched Nothing U)
-    next-searched (At u) U =
+    pub next-searched : (b : Option Float) → UpperIs searched t b → NextTime starts clips xs ys times ends t (with_zero (zero_of (minus_gathered starts clips xs times ends)) b)
+    next-searched None U = next-time R t ft None (first-searched None U)
+    next-searched (Some u) U =
         let w = upper_first t ft searched searched-finite u U in
         let z = minus_gathered starts clips xs times ends in
-        next-time R t ft (with_zero (zero_of z) (At u)) (first_next t ft all (times-finite R) z (minus-listed R (omega arith)) (minus-found R) w.0 (first-searched (At w.0) w.2) u U.fits w.1)
+        next-time R t ft (with_zero (zero_of z) (Some u)) (first_next t ft all (times-finite R) z (minus-listed R (omega arith)) (minus-found R) w.0 (first-searched (Some w.0) w.2) u U.fits w.1)

@@ -1,5 +1,6 @@
 -- The first of the times above t, by its number and by `total_cmp`: they differ where it is zero, which is written -0.0 if that is among the times.
 -- Assumes nothing.
+use Rattle.std.specs.Prelude.{Option, None, Some}
 use mathlib.Core.Path.{◌≡◌, refl, sym, ap, ◌∙◌, subst}
 use mathlib.Core.Logic.{◌⊎◌, inl, inr}
 use mathlib.Core.Bool.{Bool, true, false, not, cond}
@@ -17,8 +18,6 @@ use Rattle.laws.proofs.set.Stored.{total→key}
 use Rattle.laws.proofs.list.Every.{any-with, every_map, every-zip}
 use Rattle.laws.specs.list.Places.{Fits}
 use Rattle.laws.specs.cell.Neighbours.{IsUpper}
-use Rattle.window.specs.declared.Bound.{Bound}
-use Rattle.window.specs.declared.Bound.TheVariants.{At, Nothing}
 use Rattle.window.specs.Bounds.{In}
 use Rattle.window.proofs.BoundsLaws.{in-every, every_in}
 use Rattle.stage.proofs.Ordered.{NextIs}
@@ -27,9 +26,9 @@ use Rattle.stage.proofs.MinusZero.{minus-finite, zero-finite, minus-total, zero-
 use Rattle.stage.specs.First.{zero_of, with_zero}
 
 -- the first of the times above t by its number, or none is above it
-abbrev pub FirstIs : List Float → Float → Bound → Type 0
-FirstIs l t (At h) = In h l × T (lt t h) × Every (λ (x : Float). T (lt t x) → key h ≤ key x) l
-FirstIs l t Nothing = Every (λ (x : Float). T (lt t x) → ⊥) l
+abbrev pub FirstIs : List Float → Float → Option Float → Type 0
+FirstIs l t (Some h) = In h l × T (lt t h) × Every (λ (x : Float). T (lt t x) → key h ≤ key x) l
+FirstIs l t None = Every (λ (x : Float). T (lt t x) → ⊥) l
 
 -- ---- some of the times stand for all
 
@@ -38,10 +37,10 @@ abbrev pub Before : List Float → Float → Float → Type 0
 Before g t x = (y : Float) × In y g × T (lt t y) × (key y ≤ key x)
 
 module _ (t : Float) (g l : List Float) (among : Every (λ (x : Float). In x l) g) (rest : Every (λ (x : Float). T (lt t x) → Before g t x) l) where
-  pub first-of-all : (b : Bound) → FirstIs g t b → FirstIs l t b
-  first-of-all Nothing n =
+  pub first-of-all : (b : Option Float) → FirstIs g t b → FirstIs l t b
+  first-of-all None n =
       every_map (λ (x : Float). T (lt t x) → Before g t x) (λ (x : Float). T (lt t x) → ⊥) (λ x r u. let y = r u in in-every (λ (z : Float). T (lt t z) → ⊥) y.0 g n y.1 y.2) l rest
-  first-of-all (At h) n = (
+  first-of-all (Some h) n = (
     in-every (λ (x : Float). In x l) h g among n.0,
     n.1,
     every_map (λ (x : Float). T (lt t x) → Before g t x) (λ (x : Float). T (lt t x) → key h ≤ key x)
@@ -75,11 +74,11 @@ one-zero = same_key minus_zero 0·0 minus-finite zero-finite tt
 -- ---- what is written
 
 -- the cases of the program
-module _ (z : Float) (b : Bound) (h : Float) (e : b ≡ At h) where
-  pub zero-taken : eq h 0·0 ≡ true → At z ≡ with_zero z b
+module _ (z : Float) (b : Option Float) (h : Float) (e : b ≡ Some h) where
+  pub zero-taken : eq h 0·0 ≡ true → Some z ≡ with_zero z b
   zero-taken q = rw (e, q)
 
-  pub other-kept : eq h 0·0 ≡ false → At h ≡ with_zero z b
+  pub other-kept : eq h 0·0 ≡ false → Some h ≡ with_zero z b
   other-kept q = rw (e, q)
 
 module _ (t : Float) (ft : Fits t) (l : List Float) (F : Every FiniteDouble l) where
@@ -87,7 +86,7 @@ module _ (t : Float) (ft : Fits t) (l : List Float) (F : Every FiniteDouble l) w
   above x f u = lt→key t x ft f.fitting (le-no-nan t x (lt→le t x u)).0 (finite-no-nan x f.finitely) u
 
   -- the least above t is equal to the first of the times
-  pub upper_first : (h : Float) → IsUpper l t h → (x : Float) × T (eq x h) × FirstIs l t (At x)
+  pub upper_first : (h : Float) → IsUpper l t h → (x : Float) × T (eq x h) × FirstIs l t (Some x)
   upper_first h U =
       let n = le-no-nan t h (lt→le t h U.above) in
       let w = any-with (λ (x : Float). eq x h) (λ (x : Float). FiniteDouble x × In x l) l U.listed (every-zip FiniteDouble (λ (x : Float). In x l) (λ (x : Float). FiniteDouble x × In x l) (λ x f i. (f, i)) l F (every_in l)) in
@@ -106,12 +105,12 @@ module _ (t : Float) (ft : Fits t) (l : List Float) (F : Every FiniteDouble l) w
       )
 
   -- the first by `total_cmp`, if `minus` says whether -0.0 is among the times
-  module _ (minus : Bool) (listed : T minus → In minus_zero l) (found : Every (λ (x : Float). x ≡ minus_zero → T minus) l) (x : Float) (n : FirstIs l t (At x)) where
+  module _ (minus : Bool) (listed : T minus → In minus_zero l) (found : Every (λ (x : Float). x ≡ minus_zero → T minus) l) (x : Float) (n : FirstIs l t (Some x)) where
     fx : FiniteDouble x
     fx = in-every FiniteDouble x l F n.0
 
     -- not zero
-    apart : (key x ≡ key 0·0 → ⊥) → NextIs l t (At x)
+    apart : (key x ≡ key 0·0 → ⊥) → NextIs l t (Some x)
     apart o = (
       n.0,
       n.1,
@@ -128,7 +127,7 @@ module _ (t : Float) (ft : Fits t) (l : List Float) (F : Every FiniteDouble l) w
     -- zero
     module _ (k : key x ≡ key 0·0) where
       module _ (z : Float) (fz : FiniteDouble z) (kz : key z ≡ key 0·0) (inside : In z l) (least : (y : Float) → In y l → (y ≡ 0·0) ⊎ (y ≡ minus_zero) → total_key z ≤ total_key y) where
-        settled : NextIs l t (At z)
+        settled : NextIs l t (Some z)
         settled =
             let a = above x fx n.1 in (
               inside,
@@ -140,7 +139,7 @@ module _ (t : Float) (ft : Fits t) (l : List Float) (F : Every FiniteDouble l) w
                   ]) l (every-zip FiniteDouble (λ (y : Float). In y l) (λ (y : Float). FiniteDouble y × In y l) (λ y f i. (f, i)) l F (every_in l)) n.2,
             )
 
-      zero-next : (b : Bool) → minus ≡ b → NextIs l t (At (zero_of b))
+      zero-next : (b : Bool) → minus ≡ b → NextIs l t (Some (zero_of b))
       zero-next true e = settled minus_zero minus-finite one-zero (listed (subst T (sym e) tt)) (λ y i z. elim z [
         | inl q ↦ let r = ap total_key q in omega (arith, minus-total, zero-total)
         | inr q ↦ let r = ap total_key q in omega arith
@@ -156,7 +155,7 @@ module _ (t : Float) (ft : Fits t) (l : List Float) (F : Every FiniteDouble l) w
           here : In 0·0 l
           here = elim (zeros x fx k) [ inl q ↦ subst (λ (v : Float). In v l) q n.0 | inr q ↦ absurd (never x n.0 q) ]
 
-    pub first_next : (h : Float) → Fits h → T (eq x h) → NextIs l t (with_zero (zero_of minus) (At h))
+    pub first_next : (h : Float) → Fits h → T (eq x h) → NextIs l t (with_zero (zero_of minus) (Some h))
     first_next h fh e = go (eq h 0·0) refl
       where
         nx : T (not (is_nan x))
@@ -168,9 +167,9 @@ module _ (t : Float) (ft : Fits t) (l : List Float) (F : Every FiniteDouble l) w
         kh : key x ≡ key h
         kh = eq→key x h fx.fitting fh nx nh e
 
-        go : (b : Bool) → eq h 0·0 ≡ b → NextIs l t (cond b (At (zero_of minus)) (At h))
+        go : (b : Bool) → eq h 0·0 ≡ b → NextIs l t (cond b (Some (zero_of minus)) (Some h))
         go true q = zero-next (kh ∙ eq→key h 0·0 fh zero-finite.fitting nh (finite-no-nan 0·0 tt) (subst T (sym q) tt)) minus refl
-        go false q = subst (λ (v : Float). NextIs l t (At v)) same (apart other)
+        go false q = subst (λ (v : Float). NextIs l t (Some v)) same (apart other)
           where
             other : key x ≡ key 0·0 → ⊥
             other k = subst T q (key→eq h 0·0 fh zero-finite.fitting nh (finite-no-nan 0·0 tt) (sym kh ∙ k))

@@ -4,7 +4,7 @@ use mathlib.Core.List.{List, [], ◌∷◌, map}
 use mathlib.Core.Option.{Option, none, some}
 use Prim.Native.Nat.{ℕ, zero, suc, ◌+◌, ◌≤◌, ◌<◌}
 use native.Mathlib.Omega.{arith}
-use lib.ListN.{length, get_or, get_elem?, drop, length-map}
+use lib.ListN.{length, get_or, get_elem?, length-map}
 use lib.Ieee.{Float, nan}
 use Rattle.definitions.specs.declared.Missing.{Missing}
 use Rattle.definitions.specs.declared.Start.{Start}
@@ -20,9 +20,9 @@ use Rattle.definitions.specs.StageSamples.{read_mark, mark_in, supplied_at, stag
 use Rattle.laws.proofs.list.Every.{every-get_or}
 use Rattle.laws.specs.cell.Lent.{start, active_of, knots_of, set_of, samples_of, AcceptedLists}
 use Rattle.laws.proofs.cell.Lent.{zip-here}
-use Rattle.lists.proofs.Fronts.{front, no_front}
 use Rattle.window.specs.Parts.{part_of}
 use Rattle.window.proofs.Parts.{ready-active, ready-position}
+use Rattle.std.specs.Prelude.{Some, None}
 use Rattle.sdf.specs.look.Reads.{marked_at, told}
 use Rattle.value.specs.direct.Reads.{held_part}
 use Rattle.stage.specs.Marks.{gap_mark_of, unblocked, marks_at}
@@ -48,14 +48,6 @@ module _ (set : ClipSet) (s : Samples) where
   pub as_many : length (stage_samples set s) ≡ length (stage_sample_times set s)
   unfolding stage_samples
   as_many = length-map (stage_sample_times set s) (λ (t : Float). record { time = t; mark = supplied_at set s (stage t) })
-
--- the marks from a place on
-module _ (set : ClipSet) (s : Samples) (at : List Float) (i : ℕ) where
-  pub marks-front : (d : Float) → i < length at → marks_at set s (drop i at) ≡ supplied_at set s (stage (get_or at i d)) ∷ marks_at set s (drop (i + 1) at)
-  marks-front d h = ap (marks_at set s) (front at i d h)
-
-  pub marks-end : length at ≤ i → marks_at set s (drop i at) ≡ []
-  marks-end h = ap (marks_at set s) (no_front at i h)
 
 -- a sample's mark is that of what it says: 0 or 1
 mark-back : (mark : ℕ) (v : Float) → mark ≤ mark_block → mark_of (marked mark v) ≡ mark
@@ -88,20 +80,20 @@ module _ {starts : List Float} {clips : List ℕ} {xs ys : List Float} {m : Miss
         ∙ ap (mark_in set s t) (zip-here start starts clips p nan 0 R.starts-paired h))
 
     -- the sample's mark, by what it says
-    pub mark-read : (i : ℕ) (a : Answer) → some (i, a) ≡ held_part xs ys times values marks ends (get_or clips p 0) t → mark_of a ≡ supplied_at set s t
+    pub mark-read : (i : ℕ) (a : Answer) → Some (i, a) ≡ held_part xs ys times values marks ends (get_or clips p 0) t → mark_of a ≡ supplied_at set s t
     mark-read i a q = go (held_place (part_of times ends (get_or clips p 0)) (map_stage_to_clip (knots_of xs ys) t)) q ∙ by_place
       where
-        go : (o : Option ℕ) → some (i, a) ≡ told values marks (clip_begin ends (get_or clips p 0)) o → mark_of a ≡ read_mark set s (get_or clips p 0) o
+        go : (o : Option ℕ) → Some (i, a) ≡ told values marks (clip_begin ends (get_or clips p 0)) o → mark_of a ≡ read_mark set s (get_or clips p 0) o
         go none k = let z : ◌≡◌ {A = ℕ} 0 1 = cc in absurd (omega arith)
         go (some j) k =
             let at = clip_begin ends (get_or clips p 0) + j in
             let z : ◌≡◌ {A = ℕ × Answer} (i, a) (j, marked_at values marks at) = cc in
             ap (λ (x : ℕ × Answer). mark_of x.1) z ∙ mark-back (get_or marks at 0) (get_or values at 0·0) (every-get_or (λ (n : ℕ). n ≤ mark_block) marks at 0 R.accepted.marked (omega arith))
 
-    pub mark-gap : none ≡ held_part xs ys times values marks ends (get_or clips p 0) t → gap_mark_of m.default.mark ≡ supplied_at set s t
+    pub mark-gap : None ≡ held_part xs ys times values marks ends (get_or clips p 0) t → gap_mark_of m.default.mark ≡ supplied_at set s t
     unfolding set_of
     mark-gap q = go (held_place (part_of times ends (get_or clips p 0)) (map_stage_to_clip (knots_of xs ys) t)) q ∙ by_place
       where
-        go : (o : Option ℕ) → none ≡ told values marks (clip_begin ends (get_or clips p 0)) o → gap_mark_of m.default.mark ≡ read_mark set s (get_or clips p 0) o
+        go : (o : Option ℕ) → None ≡ told values marks (clip_begin ends (get_or clips p 0)) o → gap_mark_of m.default.mark ≡ read_mark set s (get_or clips p 0) o
         go none k = refl
         go (some j) k = let z : ◌≡◌ {A = ℕ} 0 1 = cc in absurd (omega arith)

@@ -1,5 +1,6 @@
 -- Times in the order of `total_cmp` with equals dropped, one after the other: behind a time stand those above it, and the first of them is the least.
 -- Assumes nothing.
+use Rattle.std.specs.Prelude.{Option, None, Some}
 use mathlib.Core.Path.{◌≡◌, refl, sym, ap, ap₂, ◌∙◌, subst}
 use mathlib.Core.Logic.{inl, inr}
 use mathlib.Core.Bool.{Bool, true, false, cond}
@@ -20,8 +21,6 @@ use Rattle.laws.proofs.list.Sorting.{every-sort, sort-every}
 use Rattle.laws.proofs.list.Every.{every_map, every-zip, every-keep, kept-pass}
 use Rattle.laws.proofs.list.InOrder.{total-le, key-lt, key-eq, eq-key, apart-lt, Rising, sorted-rising, every-dedup}
 use Rattle.laws.specs.list.Places.{Fits}
-use Rattle.window.specs.declared.Bound.{Bound}
-use Rattle.window.specs.declared.Bound.TheVariants.{At, Nothing}
 use Rattle.window.specs.Bounds.{In}
 use Rattle.window.proofs.BoundsLaws.{every_in, in-every}
 use Rattle.stage.specs.Ordered.{after}
@@ -166,9 +165,9 @@ module _ (h : Float) (fh : FiniteDouble h) where
 -- ---- the times behind t
 
 -- the first of the times above t in the order of `total_cmp`, or none is above it
-abbrev pub NextIs : List Float → Float → Bound → Type 0
-NextIs l t (At h) = In h l × T (lt t h) × Every (λ (x : Float). T (lt t x) → total_key h ≤ total_key x) l
-NextIs l t Nothing = Every (λ (x : Float). T (lt t x) → ⊥) l
+abbrev pub NextIs : List Float → Float → Option Float → Type 0
+NextIs l t (Some h) = In h l × T (lt t h) × Every (λ (x : Float). T (lt t x) → total_key h ≤ total_key x) l
+NextIs l t None = Every (λ (x : Float). T (lt t x) → ⊥) l
 
 module _ (l : List Float) (f : Every FiniteDouble l) where
   sorted-finite : Every FiniteDouble (sort_by total_key l)
@@ -180,11 +179,11 @@ module _ (l : List Float) (f : Every FiniteDouble l) where
   after-all t h = ap dedup (keep_all (λ (x : Float). lt t x) (sort_by total_key l) (every-sort total_key (λ (x : Float). T (lt t x)) l h))
 
   module _ (t : Float) (ft : Fits t) where
-    pub after_none : NextIs l t Nothing → after l t ≡ []
+    pub after_none : NextIs l t None → after l t ≡ []
     unfolding after dedup
     after_none h = ap dedup (keep-none (λ (x : Float). lt t x) (sort_by total_key l) (every-sort total_key (λ (x : Float). T (lt t x) → ⊥) l h))
 
-    pub after_next : (h : Float) → NextIs l t (At h) → after l t ≡ h ∷ after l h
+    pub after_next : (h : Float) → NextIs l t (Some h) → after l t ≡ h ∷ after l h
     unfolding after
     after_next h n =
         let fh = in-every FiniteDouble h l f n.0 in

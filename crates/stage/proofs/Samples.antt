@@ -1,4 +1,5 @@
 -- The stage samples written out: their times, and the marks at these times. Assumes nothing.
+use Rattle.std.specs.Prelude.{None, Some}
 use mathlib.Core.Path.{◌≡◌, sym, ap, ◌∙◌, subst}
 use mathlib.Core.List.{List}
 use Prim.Native.Nat.{ℕ, ◌≤◌, ◌<◌, min}
@@ -8,7 +9,6 @@ use Rattle.definitions.specs.Lists.{written_over}
 use Rattle.definitions.specs.ClipSet.{ClipSet}
 use Rattle.definitions.specs.Samples.{Samples}
 use Rattle.definitions.specs.StageSamples.{stage_sample_times, stage_samples}
-use Rattle.stage.specs.declared.Written.TheVariants.{Count, NoRoom}
 use Rattle.stage.proofs.Writing.{take-written}
 use Rattle.stage.specs.Promises.{SamplesWritten, times_in, marks_in}
 use Rattle.stage.specs.Marks.{marks_at}
@@ -25,7 +25,7 @@ module _ (set : ClipSet) (s : Samples) (all : List Float) (is : all ≡ stage_sa
   marks-in = ap (marks_at set s) is ∙ sym (marks-are set s)
 
   pub samples-written : (n : ℕ) → n ≡ length all → length all ≤ min (length times₀) (length marks₀) → times₁ ≡ written_over all times₀ → marks₁ ≡ written_over (marks_at set s (take n times₁)) marks₀
-      → SamplesWritten (stage_samples set s) times₀ times₁ marks₀ marks₁ (Count n)
+      → SamplesWritten (stage_samples set s) times₀ times₁ marks₀ marks₁ (Some n)
   samples-written n e l p q = (
     e ∙ many,
     subst (λ (k : ℕ). k ≤ min (length times₀) (length marks₀)) many l,
@@ -35,5 +35,5 @@ module _ (set : ClipSet) (s : Samples) (all : List Float) (is : all ≡ stage_sa
         ∙ ap (λ (k : List ℕ). written_over k marks₀) marks-in,
   )
 
-  pub samples-none : min (length times₀) (length marks₀) < length all → times₁ ≡ times₀ → marks₁ ≡ marks₀ → SamplesWritten (stage_samples set s) times₀ times₁ marks₀ marks₁ NoRoom
+  pub samples-none : min (length times₀) (length marks₀) < length all → times₁ ≡ times₀ → marks₁ ≡ marks₀ → SamplesWritten (stage_samples set s) times₀ times₁ marks₀ marks₁ None
   samples-none l p q = (subst (λ (k : ℕ). min (length times₀) (length marks₀) < k) many l, p, q)

@@ -1,4 +1,5 @@
 -- The stage sample times by the lists that decide them: they are finite, and the next one is the next of the times of all windows. Assumes nothing.
+use Rattle.std.specs.Prelude.{Option, None, Some}
 use mathlib.Core.Path.{◌≡◌, sym, subst}
 use mathlib.Core.Bool.{Bool, true, false, cond}
 use mathlib.Core.List.{List, [], ◌∷◌}
@@ -22,8 +23,6 @@ use Rattle.laws.proofs.set.Stored.{stored-finite}
 use Rattle.laws.specs.list.Places.{Fits}
 use Rattle.laws.proofs.cell.Inverse.{inverse-spanned}
 use Rattle.laws.specs.cell.Lent.{knots_of}
-use Rattle.window.specs.declared.Bound.{Bound}
-use Rattle.window.specs.declared.Bound.TheVariants.{At, Nothing}
 use Rattle.window.specs.Parts.{part_of}
 use Rattle.window.specs.SoundSegments.{SoundSegment}
 use Rattle.window.proofs.SoundSegments.{inverse-fits}
@@ -132,10 +131,10 @@ module _ {starts : List Float} {clips : List ℕ} {xs ys times : List Float} {en
   times-all = after-all all times-finite before_all (every_map Timely (λ (x : Float). T (lt before_all x)) timely-behind all times-timely)
 
   -- by the next of the times of all windows
-  pub next-time : (t : Float) → Fits t → (b : Bound) → NextIs all t b → NextTime starts clips xs ys times ends t b
-  next-time t ft Nothing n = after_none all times-finite t ft n
-  next-time t ft (At h) n = (in-every FiniteDouble h all times-finite n.0, after_next all times-finite t ft h n)
+  pub next-time : (t : Float) → Fits t → (b : Option Float) → NextIs all t b → NextTime starts clips xs ys times ends t b
+  next-time t ft None n = after_none all times-finite t ft n
+  next-time t ft (Some h) n = (in-every FiniteDouble h all times-finite n.0, after_next all times-finite t ft h n)
 
   -- without starts there is none
-  pub next-none : (t : Float) → Fits t → length starts ≡ 0 → NextTime starts clips xs ys times ends t Nothing
-  next-none t ft e = next-time t ft Nothing (subst (λ (n : ℕ). NextIs (gather part (below n)) t Nothing) (sym e) tt)
+  pub next-none : (t : Float) → Fits t → length starts ≡ 0 → NextTime starts clips xs ys times ends t None
+  next-none t ft e = next-time t ft None (subst (λ (n : ℕ). NextIs (gather part (below n)) t None) (sym e) tt)

@@ -11,7 +11,7 @@ use lib.Dec.{T, eqb, ltb, eqb→eq}
 use lib.ListN.{length, get_or}
 use lib.Ieee.{Float, nan, inf, binary64, lt, le}
 use lib.Ieee.Fits.{eq→eqb, mul-fits}
-use borrow.Author.Tests.{ltb-true, ltb-false, eq-eqb, ne_eqb}
+use borrow.Author.Tests.{ltb-true, ltb-false}
 use Rattle.gf.proofs.KeyLaws.{lt_not_le}
 use Rattle.gf.specs.Doubles.{◌⊖◌, ◌⊗◌, ◌⊘◌, total_key}
 use Rattle.definitions.specs.declared.Knot.{Knot}
@@ -42,14 +42,6 @@ use Rattle.stage.proofs.Whole.{own-from, own_below}
 use Rattle.stage.specs.Times.{gathered_times, AcceptedTimes}
 use Rattle.stage.proofs.Times.{part-first, part_in}
 use Rattle.stage.specs.Zeros.{is_minus_zero, any_minus_zero, samples_at_zero, minus_gathered, Sampled}
-
--- the cases of the program: no start and no knot
-module _ (starts : List Float) (clips : List ℕ) (xs times : List Float) (ends : List ℕ) (a : any_minus_zero starts ≡ false) (b : any_minus_zero xs ≡ false) where
-  pub minus-sampled : length xs ≡ 0 → any_minus_zero (samples_at_zero starts clips times ends) ≡ minus_gathered starts clips xs times ends
-  minus-sampled e = rw (a, b, eq-eqb (length xs) 0 e)
-
-  pub minus-nowhere : (length xs ≡ 0 → ⊥) → false ≡ minus_gathered starts clips xs times ends
-  minus-nowhere n = rw (a, b, ne_eqb (length xs) 0 n)
 
 pub windows-sampled : {starts : List Float} {clips : List ℕ} {xs ys times : List Float} {ends : List ℕ} → Windows starts clips xs ys times ends → 0 < length starts → Sampled starts clips times ends
 windows-sampled W h = record { rising = W.rising; some = h; paired = W.paired; named = W.named; order = W.readable.from; inside = W.readable.inside }

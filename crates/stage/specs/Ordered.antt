@@ -1,5 +1,5 @@
 -- What stands behind a time in the order of `total_cmp`. Assumes nothing.
-use Rattle.std.specs.Prelude.{List, ◌-◌, Float}
+use Rattle.std.specs.Prelude.{List, Float}
 use Rattle.std.specs.Float.Ieee.{lt}
 use Rattle.gf.specs.Doubles.{total_key}
 use Rattle.definitions.specs.Lists.{keep, sort_by}

@@ -1,5 +1,5 @@
 -- The stage sample times by the lists that decide them: the next one is the next of the times of all windows. Assumes nothing.
-use Rattle.std.specs.Prelude.{◌≡◌, List, [], ◌∷◌, ℕ, ◌≤◌, length, Float}
+use Rattle.std.specs.Prelude.{◌≡◌, List, [], ◌∷◌, ℕ, ◌≤◌, length, Float, Option, None, Some}
 use Rattle.gf.specs.Doubles.{total_key}
 use Rattle.definitions.specs.Lists.{gather, below, sort_by}
 use Rattle.definitions.specs.Doubles.{FiniteDouble}
@@ -7,8 +7,6 @@ use Rattle.definitions.specs.ClipSet.{max_knots}
 use Rattle.definitions.specs.StageSamples.{dedup}
 use Rattle.laws.specs.list.Every.{Every}
 use Rattle.laws.specs.set.Stored.{Stored}
-use Rattle.window.specs.declared.Bound.{Bound}
-use Rattle.window.specs.declared.Bound.TheVariants.{At, Nothing}
 use Rattle.stage.specs.Ordered.{after}
 use Rattle.stage.specs.Whole.{whole_times, Windows}
 
@@ -35,6 +33,6 @@ pub record AcceptedTimes (starts : List Float) (clips : List ℕ) (xs ys times :
   pub stored-times : Every Stored times
 
 -- what a question for the next one answers
-abbrev pub NextTime : List Float → List ℕ → List Float → List Float → List Float → List ℕ → Float → Bound → Type 0
-NextTime starts clips xs ys times ends t (At h) = FiniteDouble h × (times_after starts clips xs ys times ends t ≡ h ∷ times_after starts clips xs ys times ends h)
-NextTime starts clips xs ys times ends t Nothing = times_after starts clips xs ys times ends t ≡ []
+abbrev pub NextTime : List Float → List ℕ → List Float → List Float → List Float → List ℕ → Float → Option Float → Type 0
+NextTime starts clips xs ys times ends t (Some h) = FiniteDouble h × (times_after starts clips xs ys times ends t ≡ h ∷ times_after starts clips xs ys times ends h)
+NextTime starts clips xs ys times ends t None = times_after starts clips xs ys times ends t ≡ []

@@ -1,5 +1,5 @@
 -- The window of a start with all samples of its clip, as stage sample times have it, and a search among its times. Assumes nothing.
-use Rattle.std.specs.Prelude.{◌≡◌, cond, List, [], ◌∷◌, ℕ, ◌+◌, ◌-◌, ◌<◌, ltb, length, get_or, Float}
+use Rattle.std.specs.Prelude.{◌≡◌, cond, List, [], ◌∷◌, ℕ, ◌+◌, ◌<◌, ltb, length, get_or, Float}
 use Rattle.std.specs.Float.{nan}
 use Rattle.definitions.specs.Samples.{clip_begin, clip_end}
 use Rattle.laws.specs.list.Places.{Ascending}

@@ -1,13 +1,11 @@
 -- Whether -0.0 is among the gathered times: it is a start, or a knot's x, or, with no knots, a sample of the clip that is active at zero. Assumes nothing.
-use Rattle.std.specs.Prelude.{◌≡◌, Bool, ◌&&◌, ◌||◌, List, ℕ, ◌-◌, ◌≤◌, ◌<◌, eqb, length, get_or, Float}
+use Rattle.std.specs.Prelude.{◌≡◌, Bool, ◌&&◌, ◌||◌, List, ℕ, ◌≤◌, ◌<◌, eqb, length, get_or, Float}
 use Rattle.gf.specs.Doubles.{total_key}
 use Rattle.definitions.specs.Lists.{any}
-use Rattle.definitions.specs.ClipSet.{clip}
 use Rattle.definitions.specs.Timing.{last_at_most}
 use Rattle.definitions.specs.Samples.{clip_begin, clip_end}
 use Rattle.laws.specs.list.Places.{Ascending}
 use Rattle.window.specs.Parts.{part_of}
-use Rattle.window.specs.Bounds.{inside}
 use Rattle.stage.specs.MinusZero.{minus_zero}
 
 abbrev pub is_minus_zero : Float → Bool

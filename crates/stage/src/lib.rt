@@ -7,7 +7,7 @@ pub mod next;
 pub mod walk;
 pub mod zero;
 
-ghost use Rattle.std.specs.Prelude.{◌≡◌, [], min, length};
+ghost use Rattle.std.specs.Prelude.{◌≡◌, [], length};
 ghost use Rattle.definitions.specs.StageSamples.{stage_samples};
 ghost use Rattle.laws.specs.cell.Lent.{AcceptedLists, samples_of};
 ghost use Rattle.stage.specs.Promises.{TimesWritten, SamplesWritten};
@@ -22,14 +22,8 @@ use window::search::latest::latest_inverses;
 // Room for every time: there are fewer doubles than that.
 const ANY_COUNT: usize = 0xffff_ffff_ffff_ffff;
 
-// How many entries were written, or that the lent lists are too short for them and nothing was.
-#[derive(Clone, Copy)]
-pub enum Written {
-    Count(usize),
-    NoRoom,
-}
-
-// The stage sample times, ascending, of equal times -0.0 before 0.0.
+// The stage sample times, ascending, of equal times -0.0 before 0.0: how many were written. `None`: the lent list is too short for
+// them, and nothing was.
 pub fn stage_sample_times(
     starts: &[f64],
     clips: &[u64],
@@ -38,7 +32,7 @@ pub fn stage_sample_times(
     times: &[f64],
     ends: &[u64],
     out: &mut [f64],
-) -> Written
+) -> Option<usize>
     requires { AcceptedTimes starts.now clips.now xs.now ys.now times.now ends.now }
     ensures { TimesWritten (times_of starts.now clips.now xs.now ys.now times.now ends.now) out.old out.new result }
 {
@@ -47,9 +41,9 @@ pub fn stage_sample_times(
     let counted = count_within(starts, clips, xs, ys, times, ends, &reach.items, room);
     if counted <= room {
         let count = write_times(starts, clips, xs, ys, times, ends, &reach.items, out);
-        return Written::Count(count);
+        return Some(count);
     }
-    Written::NoRoom
+    None
 }
 
 // How many stage sample times there are: the slots that a list of them asks for.
@@ -68,16 +62,7 @@ pub fn stage_sample_count(
     count_within(starts, clips, xs, ys, times, ends, &reach.items, ANY_COUNT)
 }
 
-fn shorter(a: usize, b: usize) -> usize
-    ensures { result ≡ min a b }
-{
-    if a < b {
-        return a;
-    }
-    b
-}
-
-// The stage samples: their times, and as many marks, 0 for a value and 1 for a block.
+// The stage samples: their times, and as many marks, 0 for a value and 1 for a block. How many were written; `None` as above.
 pub fn stage_samples(
     starts: &[f64],
     clips: &[u64],
@@ -90,12 +75,12 @@ pub fn stage_samples(
     ends: &[u64],
     outtimes: &mut [f64],
     outmarks: &mut [u8],
-) -> Written
+) -> Option<usize>
     requires { AcceptedLists starts.now clips.now xs.now ys.now [] m times.now values.now marks.now ends.now }
     ensures { SamplesWritten (stage_samples (unblocked starts.now clips.now xs.now ys.now m ends.now) (samples_of times.now values.now marks.now ends.now)) outtimes.old outtimes.new outmarks.old outmarks.new result }
 {
     let reach = latest_inverses(xs, ys);
-    let room = shorter(outtimes.len(), outmarks.len());
+    let room = outtimes.len().min(outmarks.len());
     let counted = count_within(starts, clips, xs, ys, times, ends, &reach.items, room);
     if counted <= room {
         let count = write_times(starts, clips, xs, ys, times, ends, &reach.items, outtimes);
@@ -112,7 +97,7 @@ pub fn stage_samples(
             &outtimes[..count],
             outmarks,
         );
-        return Written::Count(count);
+        return Some(count);
     }
-    Written::NoRoom
+    None
 }

@@ -1,4 +1,4 @@
-// The marks of the stage samples.
+// The marks of the stage samples: bytes, as C gets them.
 
 ghost use Rattle.std.specs.Prelude.{◌≡◌, [], ◌≤◌, length};
 ghost use Rattle.definitions.specs.Lists.{written_over};
@@ -8,18 +8,13 @@ ghost use Rattle.laws.specs.cell.Lent.{AcceptedLists, samples_of};
 ghost use Rattle.stage.specs.Marks.{gap_mark_of, unblocked, marks_at};
 
 use definitions::{Answer, Missing, StageTime};
-use sdf::look::HeldPlace;
 use value::direct::read_clip;
 
 // The mark that stands where the active clip has no samples: that of the manifest default if it is a value, else a block.
 fn gap_mark(m: Missing) -> u8
     ensures { result ≡ gap_mark_of m.default.mark }
 {
-    let default = m.default;
-    if default.mark == 0 {
-        return 0;
-    }
-    1
+    u8::from(m.default.mark != 0)
 }
 
 // The mark of what a sample says.
@@ -54,10 +49,10 @@ fn supplied_at(
     }
     let p = lists::last_at_most(starts, t.0);
     let own = read_clip(xs, ys, times, values, marks, ends, clips[p], t);
-    if let HeldPlace::At(_, answer) = own {
-        return sample_mark(answer);
+    match own {
+        Some((_, answer)) => sample_mark(answer),
+        None => gap_mark(m),
     }
-    gap_mark(m)
 }
 
 // The mark of each of the times goes to the front of `out`, which has room for them.
@@ -78,9 +73,7 @@ pub fn write_marks(
     requires fact_2 { length at.now ≤ length out.old }
     ensures { out.new ≡ written_over (marks_at (unblocked starts.now clips.now xs.now ys.now m ends.now) (samples_of times.now values.now marks.now ends.now) at.now) out.old }
 {
-    let mut i: usize = 0;
-    while i < at.len() {
-        let t = at[i];
+    for (i, t) in at.iter().enumerate() {
         out[i] = supplied_at(
             starts,
             clips,
@@ -91,8 +84,7 @@ pub fn write_marks(
             values,
             marks,
             ends,
-            StageTime(t),
+            StageTime(*t),
         );
-        i += 1;
     }
 }

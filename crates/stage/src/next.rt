@@ -12,13 +12,13 @@ use super::zero::with_zero;
 use definitions::Source;
 use sdf::part::{clip_begin, clip_end};
 use window::search::{NeighboursAndHints, Window, neighbours_in};
-use window::{Bound, window_max, window_min};
+use window::{window_max, window_min};
 
 // The next time, and where the search for the one behind it may begin: the place of the active start, a knot and a sample,
 // hints on which no contract rests.
 #[derive(Clone, Copy)]
 pub struct Next {
-    pub time: Bound,
+    pub time: Option<f64>,
     pub place: usize,
     pub knot: usize,
     pub sample: usize,
@@ -31,17 +31,13 @@ fn whole_window(starts: &[f64], clips: &[u64], ends: &[u64], p: usize) -> Window
 {
     let start = starts[p];
     let clip = clips[p];
-    let min = window_min(starts, p);
-    let max = window_max(starts, p);
-    let begin = clip_begin(ends, clip);
-    let end = clip_end(ends, clip);
     Window {
         start,
-        min,
-        max,
+        min: window_min(starts, p),
+        max: window_max(starts, p),
         clip,
-        begin,
-        end,
+        begin: clip_begin(ends, clip),
+        end: clip_end(ends, clip),
         gap: Source::Blocked,
     }
 }
@@ -68,9 +64,7 @@ fn search_window(
     ensures { UpperIs (whole_times starts.now clips.now xs.now ys.now times.now ends.now p ++ next_start starts.now p) t result.upper }
 {
     let w = whole_window(starts, clips, ends, p);
-    let begin = w.begin;
-    let end = w.end;
-    neighbours_in(xs, ys, latest, &times[begin..end], w, t, knot, sample)
+    neighbours_in(xs, ys, latest, &times[w.begin..w.end], w, t, knot, sample)
 }
 
 // The first stage sample time above `t`. The hints are any numbers.
@@ -94,7 +88,7 @@ pub fn next_time(
 {
     if starts.len() == 0 {
         return Next {
-            time: Bound::Nothing,
+            time: None,
             place,
             knot,
             sample,
@@ -104,10 +98,8 @@ pub fn next_time(
     let found = search_window(
         starts, clips, xs, ys, latest, times, ends, p, t, knot, sample,
     );
-    let upper = found.upper;
-    let time = with_zero(starts, clips, xs, times, ends, upper);
     Next {
-        time,
+        time: with_zero(starts, clips, xs, times, ends, found.upper),
         place: p,
         knot: found.knot,
         sample: found.sample,

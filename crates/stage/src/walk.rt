@@ -6,7 +6,6 @@ ghost use Rattle.stage.specs.Times.{times_of, AcceptedTimes};
 ghost use Rattle.stage.specs.Promises.{AllWritten};
 
 use super::next::next_time;
-use window::Bound;
 
 // No stage sample time is below -2^40.
 const BEFORE_ALL: f64 = -2199023255552.0;
@@ -35,8 +34,7 @@ pub fn count_within(
         let next = next_time(
             starts, clips, xs, ys, times, ends, latest, t, place, knot, sample,
         );
-        let time = next.time;
-        let Bound::At(h) = time else {
+        let Some(h) = next.time else {
             return count;
         };
         count += 1;
@@ -75,8 +73,7 @@ pub fn write_times(
         let next = next_time(
             starts, clips, xs, ys, times, ends, latest, t, place, knot, sample,
         );
-        let time = next.time;
-        let Bound::At(h) = time else {
+        let Some(h) = next.time else {
             return count;
         };
         out[count] = h;

@@ -1,5 +1,6 @@
 -- The standing set in plain arrays, as the set of the definitions; what a question is lent of it. Assumes nothing.
 use Rattle.std.specs.Prelude.{ℕ, ◌≡◌, List, [], length, take, Float}
+use Rattle.std.specs.Prelude as Prelude
 use Rattle.std.proofs.Math.Option.{Option, none, some}
 use Rattle.definitions.specs.declared.Missing.{Missing}
 use Rattle.definitions.specs.ClipSet as Definitions
@@ -11,8 +12,6 @@ use Rattle.clip.specs.declared.ClipSet.{ClipSet}
 use Rattle.clip.specs.Holding.{Room, ArraysWhole, clip_set_of, manifest_of}
 use Rattle.standing.specs.declared.Counts.{Counts}
 use Rattle.standing.specs.declared.StandingSet.{StandingSet}
-use Rattle.standing.specs.declared.questions.ActiveClip.{ActiveClip}
-use Rattle.standing.specs.declared.questions.ActiveClip.TheVariants.{Clip, NoClip}
 
 -- arrays of their lengths, and counts within them
 pub record Arrays (c : Counts) (starts : List Float) (numbers : List ℕ) (xs ys blocks : List Float) : Type 0 where
@@ -90,6 +89,6 @@ pub record SamplesAsked (c : Counts) (starts : List Float) (numbers : List ℕ) 
 -- ---- the active clip
 
 -- the active clip as the code answers it: "none" in a set without starts
-abbrev pub answered : Option ℕ → ActiveClip
-answered none = NoClip
-answered (some clip) = Clip clip
+abbrev pub answered : Option ℕ → Prelude.Option ℕ
+answered none = Prelude.None
+answered (some clip) = Prelude.Some clip

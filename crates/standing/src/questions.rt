@@ -16,29 +16,22 @@ ghost use Rattle.standing.specs.Lists.{count_of, ListsTimes, ListsSamples};
 ghost use Rattle.standing.specs.Standing.{lent_set, lent_unblocked, Asked, TimesAsked, lent_times, SamplesAsked, answered};
 
 use crate::Counts;
-use definitions::{ClipTime, Missing, StageTime, ValueRead, ValueState, refusal};
-use sdf::Counted;
-use stage::Written;
+use definitions::refusal::Refusal;
+use definitions::{ClipTime, Missing, StageTime, ValueRead, ValueState};
 use track::bake::Baked;
 
-#[derive(Clone, Copy)]
-pub enum ActiveClip {
-    Clip(u64),
-    NoClip,
-}
-
 // The clip of the last start at or before t, of the first start if there is none: the Rust's `active_entry`.
-pub fn active_clip<'a>(starts: &'a [f64], numbers: &'a [u64], n: usize, t: StageTime) -> ActiveClip
+pub fn active_clip<'a>(starts: &'a [f64], numbers: &'a [u64], n: usize, t: StageTime) -> Option<u64>
     requires fact_1 { Room max_active starts.now n }
     requires fact_2 { Room max_active numbers.now n }
     requires fact_3 { Ascending (take n starts.now) }
     ensures { result ≡ answered (clip_of (active_entry (active_of (take n starts.now) (take n numbers.now)) t)) }
 {
     if n == 0 {
-        return ActiveClip::NoClip;
+        return None;
     }
     let position = lists::last_at_most(&starts[..n], t.0);
-    ActiveClip::Clip(numbers[position])
+    Some(numbers[position])
 }
 
 // The knot mapping alone turns a stage time into a clip time.
@@ -113,7 +106,7 @@ pub fn bake<'a>(
     outtimes: &mut [f64],
     outvalues: &mut [f64],
     outmarks: &mut [u8],
-) -> Baked
+) -> Result<Baked, Refusal>
     requires { Asked counts starts.now numbers.now xs.now ys.now blocks.now m times.now values.now marks.now ends.now }
     ensures { BakeIs (lent_set (length ends.now) counts starts.now numbers.now xs.now ys.now blocks.now m) (samples_of times.now values.now marks.now ends.now) (outputs outtimes.old outvalues.old outmarks.old) (outputs outtimes.new outvalues.new outmarks.new) result }
 {
@@ -199,7 +192,7 @@ pub fn stage_sample_times<'a>(
     times: &[f64],
     ends: &[u64],
     out: &mut [f64],
-) -> Counted
+) -> Result<usize, Refusal>
     requires { TimesAsked counts starts.now numbers.now xs.now ys.now times.now ends.now }
     ensures { ListsTimes (lent_times counts starts.now numbers.now xs.now ys.now times.now ends.now) out.old out.new result }
 {
@@ -231,7 +224,7 @@ pub fn stage_samples<'a>(
     ends: &[u64],
     outtimes: &mut [f64],
     outmarks: &mut [u8],
-) -> Counted
+) -> Result<usize, Refusal>
     requires { SamplesAsked counts starts.now numbers.now xs.now ys.now m times.now values.now marks.now ends.now }
     ensures { ListsSamples (stage_samples (lent_unblocked counts starts.now numbers.now xs.now ys.now m ends.now) (samples_of times.now values.now marks.now ends.now)) outtimes.old outtimes.new outmarks.old outmarks.new result }
 {
@@ -253,18 +246,12 @@ pub fn stage_samples<'a>(
     counted(written)
 }
 
-// 22, or how many were written.
-fn counted(written: Written) -> Counted
+// How many were written, or 22.
+fn counted(written: Option<usize>) -> Result<usize, Refusal>
     ensures { result ≡ count_of written }
 {
     match written {
-        Written::Count(n) => Counted {
-            number: 0,
-            count: n,
-        },
-        Written::NoRoom => Counted {
-            number: refusal::NO_ROOM,
-            count: 0,
-        },
+        Some(n) => Ok(n),
+        None => Err(Refusal::NoRoom),
     }
 }

@@ -3,9 +3,10 @@ use Prim.Native.Nat.{ℕ, zero, suc}
 use mathlib.Core.Path.{◌≡◌, refl, sym, ap, ◌∙◌}
 use lib.ListN.{length}
 use Rattle.definitions.specs.declared.ValueRead.{ValueRead}
-use Rattle.definitions.specs.Questions.{reply}
+use Rattle.std.specs.Prelude.{Result, Ok, Err}
+use Rattle.definitions.specs.declared.refusal.Refusal.{Refusal}
+use Rattle.definitions.specs.Questions.{number_of}
 use Rattle.definitions.specs.Track.{slots}
-use Rattle.definitions.specs.Calls as calls
 use Rattle.dispatch.specs.NamedSets.{answering}
 use Rattle.dispatch.specs.Dispatch.{Placed, read_of, place_of, dispatch_value, dispatch_value_number, dispatch_bake_number}
 use Rattle.dispatch.specs.DispatchCalls.{placed_track}
@@ -13,30 +14,33 @@ use Rattle.dispatch.specs.DispatchNumbers.{AskedByNone, NamedGivenByNone}
 use Rattle.dispatch.proofs.DispatchNumbers.{twenty-one-is-not-named, twenty-is-not-asked}
 use Rattle.pages.specs.Pages.{model}
 use Rattle.set_questions.specs.declared.PlacedBake.{PlacedBake}
-use Rattle.set_questions.specs.Asking.{value_code, track_code}
+use Rattle.set_questions.specs.declared.PlacedRead.{PlacedRead}
+use Rattle.set_questions.specs.Asking.{read_reply, track_reply}
 use Rattle.codes.specs.declared.placed.PlacedCode.{PlacedCode}
-use Rattle.codes.specs.PlacedCodes.{placed_code}
+use Rattle.codes.specs.declared.placed.PlacedBakeCode.{PlacedBakeCode}
+use Rattle.codes.specs.PlacedCodes.{placed_code, placed_bake_code}
 use Rattle.tavitrozy.specs.SetsNumbers.{SetsToldByNone, SetsRepliedByNone, TwentyOneIsNotRepliedOfSets, TwentyIsNotToldOfSets}
-use Rattle.tavitrozy.proofs.Numbers.{answer-number}
+use Rattle.tavitrozy.proofs.Numbers.{answer-number, reply-number}
 
-read_number : (n : ℕ) (x : Placed ValueRead) → n ≡ (placed_code (value_code (reply n x))).reply.number
-read_number zero x = answer-number x.answer.answer x.answer.sample
-read_number (suc n) x = refl
+read_number : (r : Result PlacedRead Refusal) → number_of (read_reply r) ≡ (placed_code r).reply.number
+read_number (Ok x) = answer-number x.read.answer x.read.sample
+read_number (Err r) = refl
 
-track-number : (n : ℕ) (x : Placed calls.Baked) → n ≡ (track_code (reply n x)).baked.number
-track-number zero x = refl
-track-number (suc n) x = refl
+track-number : (r : Result PlacedBake Refusal) → number_of (track_reply r) ≡ (placed_bake_code r).baked.number
+track-number (Ok x) = refl
+track-number (Err r) = refl
 
 pub told-by-none : (n : ℕ) → AskedByNone n → SetsToldByNone n
 unfolding dispatch_value
 told-by-none n g = record {
   value = λ p order s t r k e.
       let x : Placed ValueRead = record { answer = read_of (model p) s (answering order (model p)) t; place = place_of (answering order (model p)) } in
-      g.value (model p) order s t (read_number (dispatch_value_number (model p) order s t) x ∙ sym (ap (λ (c : PlacedCode). c.reply.number) (k.code ∙ ap placed_code k.told)) ∙ e);
+      g.value (model p) order s t (reply-number (dispatch_value_number (model p) order s t) x ∙ sym (ap number_of k.told) ∙ read_number k.reply ∙ sym (ap (λ (c : PlacedCode). c.reply.number) k.code) ∙ e);
   bake = λ p a before after r k e.
-      let changes = length k.bakes.track.changes in
-      let x = placed_track (place_of (answering a.order (model p))) k.bakes.track in
-      g.bake (model p) a.order a.samples (slots before) changes (track-number (dispatch_bake_number (model p) a.order a.samples (slots before) changes) x ∙ sym (ap (λ (b : PlacedBake). b.baked.number) (k.code ∙ ap track_code k.bakes.replies)) ∙ e);
+      let changes = length k.told.track.changes in
+      let x = placed_track (place_of (answering a.order (model p))) k.told.track in
+      g.bake (model p) a.order a.samples (slots before) changes
+      (reply-number (dispatch_bake_number (model p) a.order a.samples (slots before) changes) x ∙ sym (ap number_of k.told.replies) ∙ track-number k.reply ∙ sym (ap (λ (b : PlacedBakeCode). b.baked.number) k.code) ∙ e);
 }
 
 pub replied-by-none : (n : ℕ) → NamedGivenByNone n → SetsRepliedByNone n

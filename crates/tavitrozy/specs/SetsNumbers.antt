@@ -12,15 +12,14 @@ use Rattle.dispatch.specs.SetSamples.{SetSamples}
 use Rattle.dispatch.specs.DispatchCalls.{BakeArguments}
 use Rattle.pages.specs.Pages.{Pages}
 use Rattle.set_changes.specs.Promises.{Accepts, Expands, Installs, Retimes}
-use Rattle.set_questions.specs.declared.PlacedBake.{PlacedBake}
-use Rattle.set_questions.specs.Asking.{BakesTrack}
 use Rattle.codes.specs.declared.placed.PlacedCode.{PlacedCode}
-use Rattle.codes.specs.PlacedCodes.{TellsPlaced}
+use Rattle.codes.specs.declared.placed.PlacedBakeCode.{PlacedBakeCode}
+use Rattle.codes.specs.PlacedCodes.{TellsPlaced, BakesTrack}
 
 -- by the promises of the questions
 pub record SetsToldByNone (n : ℕ) : Type 0 where
   pub value : (p : Pages) (order : Option OrderList) (s : SetSamples) (t : StageTime) (r : PlacedCode) → TellsPlaced p order s t r → r.reply.number ≡ n → ⊥
-  pub bake : (p : Pages) (a : BakeArguments) (before after : Outputs) (r : PlacedBake) → BakesTrack p a before r after → r.baked.number ≡ n → ⊥
+  pub bake : (p : Pages) (a : BakeArguments) (before after : Outputs) (r : PlacedBakeCode) → BakesTrack p a before r after → r.baked.number ≡ n → ⊥
 
 -- by the promise of each call that has a number, in the table's order
 pub record SetsRepliedByNone (n : ℕ) : Type 0 where

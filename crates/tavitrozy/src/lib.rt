@@ -12,22 +12,21 @@ ghost use Rattle.definitions.specs.Reading.{track_of_lists, read_by_halves};
 ghost use Rattle.definitions.specs.Moments.{outputs};
 ghost use Rattle.laws.specs.cell.Lent.{samples_of};
 ghost use Rattle.clip.specs.Holding.{manifest};
-ghost use Rattle.clip.specs.Preparing.{MadeSet, Examines};
+ghost use Rattle.clip.specs.Preparing.{MadeSet};
+ghost use Rattle.codes.specs.Changed.{Examines};
 ghost use Rattle.explicit.specs.Parsing.{explicit_fields};
-ghost use Rattle.template.specs.Expanding.{offset_of, template_fields, SaysClipTimes};
-ghost use Rattle.normal_form.specs.Normalizes.{Normalizes};
+ghost use Rattle.template.specs.Expanding.{offset_of, template_fields};
 ghost use Rattle.cell.specs.step.Entries.{entry_is};
-ghost use Rattle.resolver.specs.State.{Made, lent_state, settled_state};
-ghost use Rattle.resolver.specs.Promises.{BeginsLent, Accepts, Expands, Installs, Retimes, BakesTrack, TellsTimes, TellsSamples, TellsSampleCount, TellsChangeCount};
-ghost use Rattle.codes.specs.Codes.{TellsClip, TellsTime, TellsValue, TellsUntimed, SaysName};
+ghost use Rattle.resolver.specs.State.{Made, lent_state};
+ghost use Rattle.resolver.specs.Promises.{BeginsLent, Accepts, Expands, Installs, Retimes};
+ghost use Rattle.codes.specs.Codes.{TellsClip, TellsTime, TellsValue, TellsUntimed, TellsTimes, TellsSamples, TellsSampleCount, TellsChangeCount, BakesTrack, SaysName, SaysClipTimes, Normalizes};
 
 use cell::step::entry::Entry;
-use clip::{ClipSet, Prepared};
-use codes::{ClipCode, TimeCode, UntimedCode, ValueCode};
+use clip::ClipSet;
+use codes::changed::{Prepared, Settled, settle};
+use codes::{BakedCode, ClipCode, Counted, TimeCode, UntimedCode, ValueCode};
 use definitions::{ClipTime, Default, LayerOffset, StageTime, TemplateTimes};
-use resolver::{Settled, Shape};
-use sdf::Counted;
-use track::bake::Baked;
+use resolver::Shape;
 
 // ---- a resolver that is lent: its shape by value, its lists as they stand
 
@@ -56,9 +55,9 @@ pub extern "C" fn tavitrozy_lent_accept(
     interpolate: bool,
 ) -> Settled
     requires { Made (lent_state shape starts.old numbers.old xs.old ys.old blocks.old) }
-    ensures { Accepts (lent_state shape starts.old numbers.old xs.old ys.old blocks.old) (explicit_fields clips newstarts.now newnumbers.now newxs.now newys.now newblocks.now (manifest fallback interpolate)) (settled_state result starts.new numbers.new xs.new ys.new blocks.new) }
+    ensures { Accepts (lent_state shape starts.old numbers.old xs.old ys.old blocks.old) (explicit_fields clips newstarts.now newnumbers.now newxs.now newys.now newblocks.now (manifest fallback interpolate)) result.number (lent_state result.shape starts.new numbers.new xs.new ys.new blocks.new) }
 {
-    lent_changes::accept(
+    let after = lent_changes::accept(
         shape,
         starts,
         numbers,
@@ -73,7 +72,8 @@ pub extern "C" fn tavitrozy_lent_accept(
         newblocks,
         fallback,
         interpolate,
-    )
+    );
+    settle(shape, after)
 }
 
 #[unsafe(no_mangle)]
@@ -92,9 +92,9 @@ pub extern "C" fn tavitrozy_lent_accept_template(
     interpolate: bool,
 ) -> Settled
     requires { Made (lent_state shape starts.old numbers.old xs.old ys.old blocks.old) }
-    ensures { Expands (lent_state shape starts.old numbers.old xs.old ys.old blocks.old) (template_fields pattern.now times offset newblocks.now (manifest fallback interpolate)) (settled_state result starts.new numbers.new xs.new ys.new blocks.new) }
+    ensures { Expands (lent_state shape starts.old numbers.old xs.old ys.old blocks.old) (template_fields pattern.now times offset newblocks.now (manifest fallback interpolate)) result.number (lent_state result.shape starts.new numbers.new xs.new ys.new blocks.new) }
 {
-    lent_changes::accept_template(
+    let after = lent_changes::accept_template(
         shape,
         starts,
         numbers,
@@ -107,7 +107,8 @@ pub extern "C" fn tavitrozy_lent_accept_template(
         newblocks,
         fallback,
         interpolate,
-    )
+    );
+    settle(shape, after)
 }
 
 #[unsafe(no_mangle)]
@@ -138,9 +139,10 @@ pub extern "C" fn tavitrozy_lent_retime(
     offset: LayerOffset,
 ) -> Settled
     requires { Made (lent_state shape starts.old numbers.old xs.old ys.old blocks.old) }
-    ensures { Retimes (lent_state shape starts.old numbers.old xs.old ys.old blocks.old) offset (settled_state result starts.new numbers.new xs.new ys.new blocks.new) }
+    ensures { Retimes (lent_state shape starts.old numbers.old xs.old ys.old blocks.old) offset result.number (lent_state result.shape starts.new numbers.new xs.new ys.new blocks.new) }
 {
-    lent_changes::retime(shape, starts, numbers, xs, ys, blocks, offset)
+    let after = lent_changes::retime(shape, starts, numbers, xs, ys, blocks, offset);
+    settle(shape, after)
 }
 
 #[unsafe(no_mangle)]
@@ -156,7 +158,7 @@ pub extern "C" fn tavitrozy_lent_active_clip<'a>(
     requires { Made (lent_state shape starts.now numbers.now xs.now ys.now blocks.now) }
     ensures { TellsClip (lent_state shape starts.now numbers.now xs.now ys.now blocks.now) time result }
 {
-    codes::clip_code(lent_questions::active_clip(shape, starts, numbers, xs, ys, blocks, time))
+    ClipCode::from(lent_questions::active_clip(shape, starts, numbers, xs, ys, blocks, time))
 }
 
 #[unsafe(no_mangle)]
@@ -172,7 +174,7 @@ pub extern "C" fn tavitrozy_lent_clip_time<'a>(
     requires { Made (lent_state shape starts.now numbers.now xs.now ys.now blocks.now) }
     ensures { TellsTime (lent_state shape starts.now numbers.now xs.now ys.now blocks.now) time result }
 {
-    codes::time_code(lent_questions::clip_time(shape, starts, numbers, xs, ys, blocks, time))
+    TimeCode::from(lent_questions::clip_time(shape, starts, numbers, xs, ys, blocks, time))
 }
 
 #[unsafe(no_mangle)]
@@ -195,7 +197,7 @@ pub extern "C" fn tavitrozy_lent_value<'a>(
     let r = lent_questions::value(
         shape, starts, numbers, xs, ys, blocks, times, values, marks, ends, time,
     );
-    codes::value_code(r)
+    ValueCode::from(r)
 }
 
 #[unsafe(no_mangle)]
@@ -217,7 +219,7 @@ pub extern "C" fn tavitrozy_lent_untimed<'a>(
     let r = lent_questions::untimed(
         shape, starts, numbers, xs, ys, blocks, times, values, marks, ends,
     );
-    codes::untimed_code(r)
+    UntimedCode::from(r)
 }
 
 #[unsafe(no_mangle)]
@@ -237,9 +239,10 @@ pub extern "C" fn tavitrozy_lent_stage_sample_times<'a>(
     requires { Made (lent_state shape starts.now numbers.now xs.now ys.now blocks.now) }
     ensures { TellsTimes (lent_state shape starts.now numbers.now xs.now ys.now blocks.now) (samples_of times.now values.now marks.now ends.now) ts.old ts.new result }
 {
-    lent_questions::stage_sample_times(
+    let r = lent_questions::stage_sample_times(
         shape, starts, numbers, xs, ys, blocks, times, values, marks, ends, ts,
-    )
+    );
+    Counted::from(r)
 }
 
 #[unsafe(no_mangle)]
@@ -260,9 +263,10 @@ pub extern "C" fn tavitrozy_lent_stage_samples<'a>(
     requires { Made (lent_state shape starts.now numbers.now xs.now ys.now blocks.now) }
     ensures { TellsSamples (lent_state shape starts.now numbers.now xs.now ys.now blocks.now) (samples_of times.now values.now marks.now ends.now) ts.old ts.new ms.old ms.new result }
 {
-    lent_questions::stage_samples(
+    let r = lent_questions::stage_samples(
         shape, starts, numbers, xs, ys, blocks, times, values, marks, ends, ts, ms,
-    )
+    );
+    Counted::from(r)
 }
 
 #[unsafe(no_mangle)]
@@ -281,9 +285,10 @@ pub extern "C" fn tavitrozy_lent_stage_sample_count<'a>(
     requires { Made (lent_state shape starts.now numbers.now xs.now ys.now blocks.now) }
     ensures { TellsSampleCount (lent_state shape starts.now numbers.now xs.now ys.now blocks.now) (samples_of times.now values.now marks.now ends.now) result }
 {
-    lent_questions::stage_sample_count(
+    let r = lent_questions::stage_sample_count(
         shape, starts, numbers, xs, ys, blocks, times, values, marks, ends,
-    )
+    );
+    Counted::from(r)
 }
 
 #[unsafe(no_mangle)]
@@ -302,9 +307,10 @@ pub extern "C" fn tavitrozy_lent_change_count<'a>(
     requires { Made (lent_state shape starts.now numbers.now xs.now ys.now blocks.now) }
     ensures { TellsChangeCount (lent_state shape starts.now numbers.now xs.now ys.now blocks.now) (samples_of times.now values.now marks.now ends.now) result }
 {
-    lent_questions::change_count(
+    let r = lent_questions::change_count(
         shape, starts, numbers, xs, ys, blocks, times, values, marks, ends,
-    )
+    );
+    Counted::from(r)
 }
 
 #[unsafe(no_mangle)]
@@ -322,14 +328,15 @@ pub extern "C" fn tavitrozy_lent_bake<'a>(
     outtimes: &mut [f64],
     outvalues: &mut [f64],
     outmarks: &mut [u8],
-) -> Baked
+) -> BakedCode
     requires { Made (lent_state shape starts.now numbers.now xs.now ys.now blocks.now) }
     ensures { BakesTrack (lent_state shape starts.now numbers.now xs.now ys.now blocks.now) (samples_of times.now values.now marks.now ends.now) (outputs outtimes.old outvalues.old outmarks.old) result (outputs outtimes.new outvalues.new outmarks.new) }
 {
-    lent_questions::bake(
+    let r = lent_questions::bake(
         shape, starts, numbers, xs, ys, blocks, times, values, marks, ends, outtimes, outvalues,
         outmarks,
-    )
+    );
+    BakedCode::from(r)
 }
 
 // ---- without a resolver
@@ -347,7 +354,7 @@ pub extern "C" fn tavitrozy_examine(
 ) -> Prepared
     ensures { Examines (explicitly (explicit_fields clips starts.now numbers.now xs.now ys.now blocks.now (manifest fallback interpolate))) result }
 {
-    explicit::parse_set(
+    Prepared::from(explicit::parse_set(
         clips,
         starts,
         numbers,
@@ -356,7 +363,7 @@ pub extern "C" fn tavitrozy_examine(
         blocks,
         fallback,
         interpolate,
-    )
+    ))
 }
 
 #[unsafe(no_mangle)]
@@ -370,7 +377,7 @@ pub extern "C" fn tavitrozy_examine_template(
 ) -> Prepared
     ensures { Examines (by_template (template_fields pattern.now times offset blocks.now (manifest fallback interpolate))) result }
 {
-    template::expand_template(pattern, times, offset, blocks, fallback, interpolate)
+    Prepared::from(template::expand_template(pattern, times, offset, blocks, fallback, interpolate))
 }
 
 #[unsafe(no_mangle)]
@@ -390,7 +397,7 @@ pub extern "C" fn tavitrozy_read(
 pub extern "C" fn tavitrozy_name(pattern: &[u8], time: ClipTime, out: &mut [u8]) -> Counted
     ensures { SaysName pattern.now time out.old out.new result }
 {
-    codes::name_code(names::name(pattern, time, out))
+    Counted::from(names::name(pattern, time, out))
 }
 
 // The count is that of the clips.
@@ -402,7 +409,7 @@ pub extern "C" fn tavitrozy_template_clip_times(
 ) -> Counted
     ensures { SaysClipTimes times (offset_of times offset) out.old out.new result }
 {
-    template::clip_times(times, offset, out)
+    Counted::from(template::clip_times(times, offset, out))
 }
 
 #[unsafe(no_mangle)]
@@ -416,7 +423,10 @@ pub extern "C" fn tavitrozy_normalize(
 ) -> Counted
     ensures { Normalizes times.now values.now marks.now (outputs outtimes.old outvalues.old outmarks.old) (outputs outtimes.new outvalues.new outmarks.new) result }
 {
-    normal_form::normalize_time_samples(times, values, marks, outtimes, outvalues, outmarks)
+    let r = normal_form::normalize_time_samples(
+        times, values, marks, outtimes, outvalues, outmarks,
+    );
+    Counted::from(r)
 }
 
 // Of a double's bit pattern, a NaN's included.

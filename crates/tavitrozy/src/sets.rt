@@ -8,14 +8,13 @@ ghost use Rattle.set_samples.specs.Parting.{lent_samples};
 ghost use Rattle.pages.specs.Pages.{pages, Made};
 ghost use Rattle.pages.specs.Placing.{Begins};
 ghost use Rattle.set_changes.specs.Promises.{Accepts, Expands, Installs, Retimes};
-ghost use Rattle.set_questions.specs.Asking.{order_of, bake_arguments, BakesTrack};
-ghost use Rattle.codes.specs.PlacedCodes.{TellsPlaced};
+ghost use Rattle.set_questions.specs.Asking.{order_of, bake_arguments};
+ghost use Rattle.codes.specs.PlacedCodes.{TellsPlaced, BakesTrack};
 
 use clip::ClipSet;
-use codes::placed;
-use codes::placed::PlacedCode;
+use codes::changed::number;
+use codes::placed::{PlacedBakeCode, PlacedCode};
 use definitions::{Default, LayerOffset, StageTime, TemplateTimes};
-use set_questions::PlacedBake;
 
 #[unsafe(no_mangle)]
 pub extern "C" fn tavitrozy_sets_fresh(
@@ -57,7 +56,7 @@ pub extern "C" fn tavitrozy_sets_accept(
     requires { Made (pages starts.old numbers.old xs.old ys.old blocks.old defaults.old counts.old bytes.old) }
     ensures { Accepts (pages starts.old numbers.old xs.old ys.old blocks.old defaults.old counts.old bytes.old) name.now declares (explicit_fields clips newstarts.now newnumbers.now newxs.now newys.now newblocks.now (manifest default interpolate)) result (pages starts.new numbers.new xs.new ys.new blocks.new defaults.new counts.new bytes.new) }
 {
-    set_changes::accept(
+    number(set_changes::accept(
         starts,
         numbers,
         xs,
@@ -76,7 +75,7 @@ pub extern "C" fn tavitrozy_sets_accept(
         newblocks,
         default,
         interpolate,
-    )
+    ))
 }
 
 #[unsafe(no_mangle)]
@@ -101,7 +100,7 @@ pub extern "C" fn tavitrozy_sets_accept_template(
     requires { Made (pages starts.old numbers.old xs.old ys.old blocks.old defaults.old counts.old bytes.old) }
     ensures { Expands (pages starts.old numbers.old xs.old ys.old blocks.old defaults.old counts.old bytes.old) name.now declares (template_fields template.now times offset newblocks.now (manifest default interpolate)) result (pages starts.new numbers.new xs.new ys.new blocks.new defaults.new counts.new bytes.new) }
 {
-    set_changes::accept_template(
+    number(set_changes::accept_template(
         starts,
         numbers,
         xs,
@@ -118,7 +117,7 @@ pub extern "C" fn tavitrozy_sets_accept_template(
         newblocks,
         default,
         interpolate,
-    )
+    ))
 }
 
 #[unsafe(no_mangle)]
@@ -139,9 +138,9 @@ pub extern "C" fn tavitrozy_sets_install(
     requires made_set { MadeSet set }
     ensures { Installs (pages starts.old numbers.old xs.old ys.old blocks.old defaults.old counts.old bytes.old) name.now declares set result (pages starts.new numbers.new xs.new ys.new blocks.new defaults.new counts.new bytes.new) }
 {
-    set_changes::install(
+    number(set_changes::install(
         starts, numbers, xs, ys, blocks, defaults, counts, bytes, name, declares, set,
-    )
+    ))
 }
 
 #[unsafe(no_mangle)]
@@ -160,9 +159,9 @@ pub extern "C" fn tavitrozy_sets_retime(
     requires { Made (pages starts.old numbers.old xs.old ys.old blocks.old defaults.old counts.old bytes.old) }
     ensures { Retimes (pages starts.old numbers.old xs.old ys.old blocks.old defaults.old counts.old bytes.old) name.now o result (pages starts.new numbers.new xs.new ys.new blocks.new defaults.new counts.new bytes.new) }
 {
-    set_changes::retime(
+    number(set_changes::retime(
         starts, numbers, xs, ys, blocks, defaults, counts, bytes, name, o,
-    )
+    ))
 }
 
 #[unsafe(no_mangle)]
@@ -192,7 +191,7 @@ pub extern "C" fn tavitrozy_sets_value<'a>(
         starts, numbers, xs, ys, blocks, defaults, counts, bytes, given, listed, nameends, lens,
         ends, times, values, marks, time,
     );
-    placed::placed_code(r)
+    PlacedCode::from(r)
 }
 
 #[unsafe(no_mangle)]
@@ -216,12 +215,13 @@ pub extern "C" fn tavitrozy_sets_bake<'a>(
     outtimes: &mut [f64],
     outvalues: &mut [f64],
     outmarks: &mut [u8],
-) -> PlacedBake
+) -> PlacedBakeCode
     requires { Made (pages starts.now numbers.now xs.now ys.now blocks.now defaults.now counts.now bytes.now) }
     ensures { BakesTrack (pages starts.now numbers.now xs.now ys.now blocks.now defaults.now counts.now bytes.now) (bake_arguments (order_of given listed.now nameends.now) (lent_samples lens.now ends.now times.now values.now marks.now)) (outputs outtimes.old outvalues.old outmarks.old) result (outputs outtimes.new outvalues.new outmarks.new) }
 {
-    set_questions::bake(
+    let r = set_questions::bake(
         starts, numbers, xs, ys, blocks, defaults, counts, bytes, given, listed, nameends, lens,
         ends, times, values, marks, outtimes, outvalues, outmarks,
-    )
+    );
+    PlacedBakeCode::from(r)
 }

@@ -4,16 +4,19 @@ use mathlib.Core.Path.{◌≡◌, refl, sym, ap, ◌∙◌}
 use mathlib.Core.Bool.{true, false}
 use mathlib.Core.List.{List, [], ◌∷◌, ◌++◌, map}
 use mathlib.Core.Option.{Option}
-use native.Mathlib.Omega.{arith}
 use borrow.Author.Tests.{lt-ltb, le-ltb}
 use lib.ListN.{length, drop, length-map}
 use lib.Ieee.{Float}
 use Rattle.gf.specs.Doubles.{◌⊘◌, 10000·0}
 use Rattle.definitions.specs.declared.TemplateTimes.{TemplateTimes}
 use Rattle.definitions.specs.Template.{promoted, template_clip_times, times_unstorable, times_disordered}
-use Rattle.definitions.specs.Questions.{reply, clip_times_number, ask_clip_times}
-use Rattle.sdf.specs.declared.Counted.{Counted}
+use Rattle.std.specs.Prelude.{Ok, Err}
+use Rattle.definitions.specs.declared.refusal.Refusal.{Refusal}
+use Rattle.definitions.specs.declared.refusal.Refusal.TheVariants.{Unstorable, DisorderedTemplate, TooManyClips, NoRoom}
+use Rattle.definitions.specs.Refusals.{number_of}
+use Rattle.definitions.specs.Questions.{refused, replied, reply, clip_times_number, ask_clip_times}
 use Rattle.sdf.specs.Counted.{counted, listed, itself}
+use Rattle.definitions.proofs.Refused.{not-zero}
 use Rattle.template.specs.Expanding.{times_of_clips, SaysClipTimes}
 
 module _ (x : TemplateTimes) (o : Option Float) (before : List Float) where
@@ -22,11 +25,11 @@ module _ (x : TemplateTimes) (o : Option Float) (before : List Float) where
 
   -- ---- by the number
 
-  refused-by : (n : ℕ) (r : Counted) → r ≡ record { number = n; count = 0 } → (n ≡ 0 → ⊥) → n ≡ number → SaysClipTimes x o before before r
+  refused-by : (e : Refusal) → number_of e ≡ number → SaysClipTimes x o before before (Err e)
   unfolding ask_clip_times
-  refused-by n r e h q = record { count = e ∙ counts n h ∙ ap (λ (k : ℕ). counted (reply k (template_clip_times x))) q; times = keeps n h ∙ ap (λ (k : ℕ). listed itself (reply k (template_clip_times x)) before) q }
+  refused-by e q = record { count = ap refused q ∙ counts number (λ z. not-zero e (q ∙ z)); times = keeps number (λ z. not-zero e (q ∙ z)) }
     where
-      counts : (k : ℕ) → (k ≡ 0 → ⊥) → record { number = k; count = 0 } ≡ counted (reply k (template_clip_times x))
+      counts : (k : ℕ) → (k ≡ 0 → ⊥) → refused k ≡ counted (reply k (template_clip_times x))
       counts zero g = absurd (g refl)
       counts (suc k) g = refl
 
@@ -36,34 +39,34 @@ module _ (x : TemplateTimes) (o : Option Float) (before : List Float) where
 
   -- ---- the numbers, in their order
 
-  pub says-2 : (r : Counted) → r ≡ record { number = 2; count = 0 } → times_unstorable x o ≡ true → SaysClipTimes x o before before r
+  pub says-2 : times_unstorable x o ≡ true → SaysClipTimes x o before before (Err Unstorable)
   unfolding clip_times_number
-  says-2 r e u = refused-by 2 r e (λ z. omega arith) (sym (rw (clip_times_number, u)))
+  says-2 u = refused-by Unstorable (sym (rw (clip_times_number, u)))
 
   module _ (u : times_unstorable x o ≡ false) where
-    pub says-7 : (r : Counted) → r ≡ record { number = 7; count = 0 } → times_disordered x o ≡ true → SaysClipTimes x o before before r
+    pub says-7 : times_disordered x o ≡ true → SaysClipTimes x o before before (Err DisorderedTemplate)
     unfolding clip_times_number
-    says-7 r e d = refused-by 7 r e (λ z. omega arith) (sym (rw (clip_times_number, u, d)))
+    says-7 d = refused-by DisorderedTemplate (sym (rw (clip_times_number, u, d)))
 
     module _ (d : times_disordered x o ≡ false) where
-      pub says-8 : (r : Counted) → r ≡ record { number = 8; count = 0 } → 256 < length (promoted x) → SaysClipTimes x o before before r
+      pub says-8 : 256 < length (promoted x) → SaysClipTimes x o before before (Err TooManyClips)
       unfolding clip_times_number
-      says-8 r e h = refused-by 8 r e (λ z. omega arith) (sym (rw (clip_times_number, u, d, lt-ltb 256 (length (promoted x)) h)))
+      says-8 h = refused-by TooManyClips (sym (rw (clip_times_number, u, d, lt-ltb 256 (length (promoted x)) h)))
 
       module _ (few : length (promoted x) ≤ 256) where
-        pub says-22 : (r : Counted) → r ≡ record { number = 22; count = 0 } → length before < length (promoted x) → SaysClipTimes x o before before r
+        pub says-22 : length before < length (promoted x) → SaysClipTimes x o before before (Err NoRoom)
         unfolding clip_times_number
-        says-22 r e h = refused-by 22 r e (λ z. omega arith) (sym (rw (clip_times_number, u, d, le-ltb 256 (length (promoted x)) few, lt-ltb (length before) (length (promoted x)) h)))
+        says-22 h = refused-by NoRoom (sym (rw (clip_times_number, u, d, le-ltb 256 (length (promoted x)) few, lt-ltb (length before) (length (promoted x)) h)))
 
         none : length (promoted x) ≤ length before → number ≡ 0
         unfolding clip_times_number
         none h = rw (clip_times_number, u, d, le-ltb 256 (length (promoted x)) few, le-ltb (length before) (length (promoted x)) h)
 
         pub says_all : (n : ℕ) (ts written : List Float) → n ≡ length (promoted x) → ts ≡ promoted x → written ≡ times_of_clips ts → length (promoted x) ≤ length before
-            → SaysClipTimes x o before (written ++ drop n before) (record { number = 0; count = n })
+            → SaysClipTimes x o before (written ++ drop n before) (Ok n)
         unfolding ask_clip_times
         says_all n ts written e t w h = record {
-          count = ap (λ (k : ℕ). record { number = 0; count = k }) (e ∙ sym (length-map (promoted x) (λ (t : Float). t ⊘ 10000·0))) ∙ ap (λ (k : ℕ). counted (reply k (template_clip_times x))) (sym (none h));
+          count = ap replied (e ∙ sym (length-map (promoted x) (λ (t : Float). t ⊘ 10000·0))) ∙ ap (λ (k : ℕ). counted (reply k (template_clip_times x))) (sym (none h));
           times = cong-written ∙ ap (λ (k : ℕ). listed itself (reply k (template_clip_times x)) before) (sym (none h));
         }
           where

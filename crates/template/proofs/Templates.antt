@@ -1,8 +1,7 @@
 -- What each way out of a template acceptance shows. Assumes nothing.
-use Prim.Native.Nat.{ℕ, ◌≤◌, ◌<◌}
+use Prim.Native.Nat.{◌≤◌, ◌<◌}
 use mathlib.Core.Path.{◌≡◌, refl, subst, ◌∙◌}
 use mathlib.Core.Bool.{false}
-use native.Mathlib.Omega.{arith}
 use lib.Dec.{ltb, lit<}
 use lib.ListN.{length}
 use borrow.Author.Tests.{lt-ltb, le-ltb, ltb-false}
@@ -11,10 +10,15 @@ use Rattle.definitions.specs.ClipSet.{max_clips, max_blocks, max_template}
 use Rattle.definitions.specs.Template.{TemplateFields, active_offset, promoted, template_set, template1, template2, template7, template6, template8, template_number}
 use Rattle.laws.proofs.list.Tests.{or-false, passed}
 use Rattle.laws.proofs.set.SoundTemplate.{TemplateFits, template-sound}
-use Rattle.clip.specs.declared.Prepared.{Prepared}
+use Rattle.std.specs.Prelude.{Result, Err}
+use Rattle.definitions.specs.declared.refusal.Refusal.{Refusal}
+use Rattle.definitions.specs.declared.refusal.Refusal.TheVariants.{TooManyClips}
+use Rattle.definitions.specs.Refusals.{number_of}
+use Rattle.clip.specs.declared.ClipSet.{ClipSet}
 use Rattle.definitions.specs.Examining.{by_template, empty_set}
+use Rattle.definitions.proofs.Refused.{not-zero}
 use Rattle.clip.specs.Holding.{manifest}
-use Rattle.clip.specs.Preparing.{HandsBack, Examines}
+use Rattle.clip.specs.Preparing.{Examines}
 use Rattle.clip.specs.Storing.{settle_number, Stores}
 use Rattle.template.specs.Expanding.{template_fields_number, expanded_set}
 use Rattle.clip.proofs.Laws.{same_number}
@@ -48,11 +52,11 @@ fields-first f h =
     same_number 1 (template1 f) _ _ h
     (λ h. same_number 2 (template2 f) _ _ h (λ h. same_number 7 (template7 f) _ _ h (λ h. same_number 6 (template6 f) _ _ h (λ h. absurd (h refl)))))
 
-refuses : (f : TemplateFields) (n : ℕ) (r : Prepared) → n ≡ template_number f → (n ≡ 0 → ⊥) → HandsBack n empty_set r → Examines (by_template f) r
-refuses f n r e h q = examines (by_template f) r (prepares-not empty_set (template_set f) r n (template_number f) e h empty-sound q)
+refuses : (f : TemplateFields) (r : Result ClipSet Refusal) (e : Refusal) → r ≡ Err e → number_of e ≡ template_number f → Examines (by_template f) r
+refuses f r e h n = examines (by_template f) r (prepares-not empty_set (template_set f) r e (template_number f) h n empty-sound)
 
-pub template-refuses : (f : TemplateFields) (n : ℕ) (r : Prepared) → n ≡ template_fields_number f → (n ≡ 0 → ⊥) → HandsBack n empty_set r → Examines (by_template f) r
-template-refuses f n r e h q = refuses f n r (e ∙ fields-first f (λ z. h (e ∙ z))) h q
+pub template-refuses : (f : TemplateFields) (r : Result ClipSet Refusal) (e : Refusal) → r ≡ Err e → number_of e ≡ template_fields_number f → Examines (by_template f) r
+template-refuses f r e h n = refuses f r e h (n ∙ fields-first f (λ z. not-zero e (n ∙ z)))
 
 -- ---- the 257th clip, and at most 256
 
@@ -60,8 +64,8 @@ eight : (f : TemplateFields) → FieldsPass f → 256 < length (promoted f.times
 unfolding template_number template8
 eight f p l = rw (p.not1, p.not2, p.not7, p.not6, lt-ltb max_clips (length (promoted f.times)) l)
 
-pub template-beyond : (f : TemplateFields) (r : Prepared) → template_fields_number f ≡ 0 → 256 < length (promoted f.times) → HandsBack 8 empty_set r → Examines (by_template f) r
-template-beyond f r z l q = refuses f 8 r (eight f (fields-pass f z) l) (λ n. omega arith) q
+pub template-beyond : (f : TemplateFields) → template_fields_number f ≡ 0 → 256 < length (promoted f.times) → Examines (by_template f) (Err TooManyClips)
+template-beyond f z l = refuses f (Err TooManyClips) TooManyClips refl (eight f (fields-pass f z) l)
 
 number_is : (f : TemplateFields) → FieldsPass f → length (promoted f.times) ≤ 256 → settle_number (template_set f) ≡ template_number f
 unfolding settle_number template_number template8 template_set
@@ -72,7 +76,7 @@ set_is : (f : TemplateFields) → expanded_set (promoted f.times) f.times (activ
 unfolding expanded_set template_set
 set_is f = refl
 
-pub template-settles : (f : TemplateFields) (r : Prepared) → TemplateFits f → template_fields_number f ≡ 0 → length (promoted f.times) ≤ 256
+pub template-settles : (f : TemplateFields) (r : Result ClipSet Refusal) → TemplateFits f → template_fields_number f ≡ 0 → length (promoted f.times) ≤ 256
     → Stores empty_set (expanded_set (promoted f.times) f.times (active_offset f) f.blocks (manifest f.default f.interpolate_missing)) r → Examines (by_template f) r
 template-settles f r h z l t =
     examines (by_template f) r (prepares empty_set (template_set f) r (settle_number (template_set f)) (template_number f) (number_is f (fields-pass f z) l) empty-sound (template-sound f h)

@@ -1,5 +1,5 @@
 -- What a template acceptance replies. Assumes nothing.
-use Rattle.std.specs.Prelude.{ℕ, suc, ◌+◌, ◌≤◌, ◌≡◌, Bool, cond, List, [], ◌∷◌, ◌++◌, map, length, take, Float}
+use Rattle.std.specs.Prelude.{ℕ, suc, ◌+◌, ◌≤◌, ◌≡◌, Bool, cond, List, [], ◌∷◌, ◌++◌, map, length, take, Float, Result}
 use Rattle.std.proofs.Math.Option.{Option, none, some}
 use Rattle.gf.specs.Doubles.{◌⊕◌, ◌⊖◌, ◌⊘◌, 10000·0, abs}
 use Rattle.definitions.specs.declared.Missing.{Missing}
@@ -8,8 +8,9 @@ use Rattle.definitions.specs.Lists.{◌if◌else◌}
 use Rattle.definitions.specs.ClipSet as Definitions
 use Rattle.definitions.specs.ClipSet.{max_clips, max_blocks, sort_active, sort_knots}
 use Rattle.definitions.specs.Template.{TemplateFields, promoted, activations, clip_knots, with_bounds, template1, template2, template7, template6}
-use Rattle.definitions.specs.Questions.{ask_clip_times}
-use Rattle.sdf.specs.declared.Counted.{Counted}
+use Rattle.definitions.specs.declared.refusal.Refusal.{Refusal}
+use Rattle.definitions.specs.Refusals.{reply_of}
+use Rattle.definitions.specs.Questions.{Reply, refused, replied, ask_clip_times}
 use Rattle.sdf.specs.Counted.{counted, listed, itself}
 use Rattle.template.specs.declared.expanding.Promoted.{Promoted}
 
@@ -43,8 +44,8 @@ pub record Promotes (x : TemplateTimes) (r : Promoted) : Type 0 where
 
 -- ---- the clip times that are asked for
 
-pub record SaysClipTimes (x : TemplateTimes) (o : Option Float) (before after : List Float) (r : Counted) : Type 0 where
-  pub count : r ≡ counted (ask_clip_times x o (length before))
+pub record SaysClipTimes (x : TemplateTimes) (o : Option Float) (before after : List Float) (r : Result ℕ Refusal) : Type 0 where
+  pub count : reply_of r ≡ counted (ask_clip_times x o (length before))
   pub times : after ≡ listed itself (ask_clip_times x o (length before)) before
 
 -- ---- the lists of the times t

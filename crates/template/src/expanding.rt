@@ -5,8 +5,9 @@ ghost use Rattle.definitions.specs.Examining.{empty_set};
 ghost use Rattle.clip.specs.Storing.{Stores};
 ghost use Rattle.template.specs.Expanding.{offset_of, Promotes, times_of_clips, bounded, knot_xs, knot_count, numbered, RoomForLists, expanded_set};
 
-use clip::{Prepared, storage, storing};
+use clip::{ClipSet, storing};
 use definitions::limits::CLIPS;
+use definitions::refusal::Refusal;
 use definitions::{Missing, TemplateTimes};
 
 // The times t and their number; of a 257th only the number tells.
@@ -20,17 +21,14 @@ pub struct Promoted {
 pub fn promote(times: TemplateTimes) -> Promoted
     ensures { Promotes times result }
 {
-    let none = storage::no_blocks();
-    let mut items = none.items;
+    let mut items = [0.0; CLIPS];
     let stride = times.stride * 10000.0;
     let bound = times.end * 10000.0 + 0.5;
     let mut t = times.start * 10000.0;
-    let mut i: usize = 0;
-    while i < CLIPS {
+    for i in 0..CLIPS {
         if t <= bound {
             items[i] = t;
-            t = t + stride;
-            i += 1;
+            t += stride;
         } else {
             return Promoted { items, count: i };
         }
@@ -57,10 +55,8 @@ fn write_starts(ts: &[f64], times: TemplateTimes, offset: bool, to: &mut [f64])
     requires { length to.old ≡ length ts.now }
     ensures { to.new ≡ map (stage_time (offset_of times offset)) ts.now }
 {
-    let mut i: usize = 0;
-    while i < ts.len() {
-        to[i] = stage_time(ts[i], times, offset);
-        i += 1;
+    for (i, t) in ts.iter().enumerate() {
+        to[i] = stage_time(*t, times, offset);
     }
 }
 
@@ -68,10 +64,8 @@ fn write_starts(ts: &[f64], times: TemplateTimes, offset: bool, to: &mut [f64])
 fn write_numbers(to: &mut [u64])
     ensures { to.new ≡ numbered 0 to.old }
 {
-    let mut i: usize = 0;
-    while i < to.len() {
-        to[i] = i as u64;
-        i += 1;
+    for (i, number) in to.iter_mut().enumerate() {
+        *number = i as u64;
     }
 }
 
@@ -79,10 +73,8 @@ pub fn write_clip_times(ts: &[f64], to: &mut [f64])
     requires { length to.old ≡ length ts.now }
     ensures { to.new ≡ times_of_clips ts.now }
 {
-    let mut i: usize = 0;
-    while i < ts.len() {
-        to[i] = ts[i] / 10000.0;
-        i += 1;
+    for (i, t) in ts.iter().enumerate() {
+        to[i] = *t / 10000.0;
     }
 }
 
@@ -129,14 +121,14 @@ pub fn expand_lists(
     numbers: &mut [u64],
     xs: &mut [f64],
     ys: &mut [f64],
-) -> Prepared
+) -> Result<ClipSet, Refusal>
     requires { RoomForLists offset ts.now starts.old numbers.old xs.old ys.old blocks.now }
     ensures { Stores empty_set (expanded_set ts.now times (offset_of times offset) blocks.now manifest) result }
 {
     write_starts(ts, times, offset, starts);
     write_numbers(numbers);
     write_knots(ts, times, offset, xs);
-    lists::writing::copy(xs, ys);
+    ys.copy_from_slice(xs);
     let clips = ts.len() as u64;
     storing::sort_lists(starts, numbers, xs, ys);
     storing::check_and_store(clips, starts, numbers, xs, ys, blocks, manifest)

@@ -1,77 +1,65 @@
 // A template's fields: the numbers that they alone give.
 ghost use Rattle.std.specs.Prelude.{◌≡◌};
 ghost use Rattle.definitions.specs.Template.{times_unstorable, times_disordered};
+ghost use Rattle.definitions.specs.Refusals.{number_in};
 ghost use Rattle.template.specs.Expanding.{offset_of, template_fields, template_fields_number};
 
 use clip::storing;
 use definitions::limits::{BLOCKS, TEMPLATE_BYTES};
-use definitions::{Missing, TemplateTimes, refusal};
+use definitions::refusal::Refusal;
+use definitions::{Missing, TemplateTimes};
 
 // 2 of the four numbers. An absent offset's slot is not looked at.
+#[tactic(auto, unfolding(definitions::specs::Template::times_unstorable))]
 pub fn is_unstorable(times: TemplateTimes, offset: bool) -> bool
     ensures { result ≡ times_unstorable times (offset_of times offset) }
 {
-    if !gf::is_storable(times.start) {
-        return true;
-    }
-    if !gf::is_storable(times.end) {
-        return true;
-    }
-    if !gf::is_finite(times.stride) {
-        return true;
-    }
-    if offset {
-        return !gf::is_finite(times.offset);
-    }
-    false
+    !gf::is_storable(times.start)
+        || !gf::is_storable(times.end)
+        || !gf::is_finite(times.stride)
+        || (offset && !gf::is_finite(times.offset))
 }
 
 // 7.
+#[tactic(auto, unfolding(definitions::specs::Template::times_disordered))]
 pub fn is_disordered(times: TemplateTimes, offset: bool) -> bool
     ensures { result ≡ times_disordered times (offset_of times offset) }
 {
-    if times.stride <= 0.0 {
-        return true;
-    }
-    if times.end < times.start {
-        return true;
-    }
-    if offset {
-        return times.stride < gf::magnitude::abs(times.offset);
-    }
-    false
+    times.stride <= 0.0
+        || times.end < times.start
+        || (offset && times.stride < gf::magnitude::abs(times.offset))
 }
 
 // 1, 2, 7 and 6, in this order.
-pub fn fields_number(
+pub fn check_fields(
     template: &[u8],
     times: TemplateTimes,
     offset: bool,
     blocks: &[f64],
     manifest: Missing,
-) -> u8
-    ensures { result ≡ template_fields_number (template_fields template.now times offset blocks.now manifest) }
+) -> Result<(), Refusal>
+    ensures { number_in result ≡ template_fields_number (template_fields template.now times offset blocks.now manifest) }
 {
     if TEMPLATE_BYTES < template.len() {
-        return refusal::MISSHAPEN;
+        return Err(Refusal::Misshapen);
     }
     if BLOCKS < blocks.len() {
-        return refusal::MISSHAPEN;
+        return Err(Refusal::Misshapen);
     }
     if is_unstorable(times, offset) {
-        return refusal::UNSTORABLE;
+        return Err(Refusal::Unstorable);
     }
     if lists::any_unstorable(blocks) {
-        return refusal::UNSTORABLE;
+        return Err(Refusal::Unstorable);
     }
     if storing::is_nan_default(manifest.default) {
-        return refusal::UNSTORABLE;
+        return Err(Refusal::Unstorable);
     }
     if is_disordered(times, offset) {
-        return refusal::DISORDERED_TEMPLATE;
+        return Err(Refusal::DisorderedTemplate);
     }
     if !names::is_readable(template) {
-        return refusal::UNREADABLE_TEMPLATE;
+        return Err(Refusal::UnreadableTemplate);
     }
-    0
+    Ok(())
 }

@@ -5,18 +5,17 @@
 mod expanding;
 mod fields;
 
-ghost use Rattle.std.specs.Prelude.{◌≡◌};
 ghost use Rattle.definitions.specs.Examining.{by_template};
 ghost use Rattle.clip.specs.Holding.{manifest};
 ghost use Rattle.clip.specs.Preparing.{Examines};
 ghost use Rattle.template.specs.Expanding.{offset_of, template_fields, SaysClipTimes};
 
-use clip::{Prepared, storing};
+use clip::ClipSet;
 use definitions::limits::{CLIPS, KNOTS, STARTS};
-use definitions::{Default, Missing, TemplateTimes, refusal};
-use sdf::Counted;
+use definitions::refusal::Refusal;
+use definitions::{Default, Missing, TemplateTimes};
 
-// Examines a template: the set that it expands to, or the empty one, where 1, 2, 7, 6, 8, 2, 4, 5 or 9 refuses it. Where `offset` is false the offset is absent, whatever its slot holds.
+// Examines a template: the set that it expands to, unless 1, 2, 7, 6, 8, 2, 4, 5 or 9 refuses it. Where `offset` is false the offset is absent, whatever its slot holds: so C lends it, and so it comes down to here.
 pub fn expand_template(
     template: &[u8],
     times: TemplateTimes,
@@ -24,21 +23,18 @@ pub fn expand_template(
     blocks: &[f64],
     default: Default,
     interpolate: bool,
-) -> Prepared
+) -> Result<ClipSet, Refusal>
     ensures { Examines (by_template (template_fields template.now times offset blocks.now (manifest default interpolate))) result }
 {
     let manifest = Missing {
         default,
         interpolate,
     };
-    let number = fields::fields_number(template, times, offset, blocks, manifest);
-    if number != 0 {
-        return storing::refused(number);
-    }
+    fields::check_fields(template, times, offset, blocks, manifest)?;
     let promoted = expanding::promote(times);
     let n = promoted.count;
     if CLIPS < n {
-        return storing::refused(refusal::TOO_MANY_CLIPS);
+        return Err(Refusal::TooManyClips);
     }
     let m = expanding::knot_count(n, offset);
     let ts = promoted.items;
@@ -59,31 +55,25 @@ pub fn expand_template(
     )
 }
 
-// The clip times of a template's clips, written to the lent list: 2, 7 and 8 of its four numbers, then 22. The offset moves the starts and not these.
-pub fn clip_times(times: TemplateTimes, offset: bool, out: &mut [f64]) -> Counted
+// The clip times of a template's clips, written to the lent list: 2, 7 and 8 of its four numbers, then 22. The offset moves the starts and not these. Replies their count.
+pub fn clip_times(times: TemplateTimes, offset: bool, out: &mut [f64]) -> Result<usize, Refusal>
     ensures { SaysClipTimes times (offset_of times offset) out.old out.new result }
 {
     if fields::is_unstorable(times, offset) {
-        return refused(refusal::UNSTORABLE);
+        return Err(Refusal::Unstorable);
     }
     if fields::is_disordered(times, offset) {
-        return refused(refusal::DISORDERED_TEMPLATE);
+        return Err(Refusal::DisorderedTemplate);
     }
     let promoted = expanding::promote(times);
     let count = promoted.count;
     if CLIPS < count {
-        return refused(refusal::TOO_MANY_CLIPS);
+        return Err(Refusal::TooManyClips);
     }
     if out.len() < count {
-        return refused(refusal::NO_ROOM);
+        return Err(Refusal::NoRoom);
     }
     let ts = promoted.items;
     expanding::write_clip_times(&ts[..count], &mut out[..count]);
-    Counted { number: 0, count }
-}
-
-fn refused(number: u8) -> Counted
-    ensures { result ≡ record { number = number; count = 0 } }
-{
-    Counted { number, count: 0 }
+    Ok(count)
 }

@@ -8,11 +8,13 @@ use lib.ListN.{length, take, drop, length-map}
 use lib.Seq.{take-append_seam}
 use lib.Ieee.{Float}
 use borrow.Author.Tests.{lt-ltb, le-ltb}
-use Rattle.gf.specs.Doubles.{0·0, least, most}
+use Rattle.gf.specs.Doubles.{least, most}
 use Rattle.definitions.specs.Lists.{◌if◌else◌, written_over}
 use Rattle.definitions.specs.ClipSet.{ClipSet}
 use Rattle.definitions.specs.Samples.{Samples}
-use Rattle.definitions.specs.Questions.{reply}
+use Rattle.std.specs.Prelude.{Ok, Err}
+use Rattle.definitions.specs.declared.refusal.Refusal.TheVariants.{NoRoom}
+use Rattle.definitions.specs.Questions.{reply, replied}
 use Rattle.definitions.specs.Calls.{baked_of, outputs_after}
 use Rattle.definitions.specs.Track.{Entry, Change, change_times, Outputs, slots, write_track}
 use Rattle.definitions.specs.Moments.{outputs}
@@ -21,7 +23,7 @@ use Rattle.laws.specs.cell.Keys.{entry_at_key}
 use Rattle.laws.specs.cell.Tracks.{written_change}
 use Rattle.run.specs.Walks.{written_from, written}
 use Rattle.track.specs.span.Changes.{changes_of}
-use Rattle.track.specs.Bakes.{track_of, bake_code, BakeIs}
+use Rattle.track.specs.Bakes.{track_of, BakeIs}
 use Rattle.track.specs.Fills.{copied}
 
 pub written-length : (cs : List (steps.Change Entry)) → length (map written_change cs) ≡ length cs
@@ -37,10 +39,6 @@ from_first {A} new old = ap₂ (λ (l r : List A). (l ++ new) ++ r) (none-taken 
     none-taken (x ∷ l) = refl
 
 -- ---- a page that is copied
-
-pub copied_is : (n : ℕ) (page o : Outputs) (ts vs : List Float) (ms : List ℕ) → ts ≡ take n page.times → vs ≡ take n page.values → ms ≡ take n page.marks
-    → outputs (ts ++ drop n o.times) (vs ++ drop n o.values) (ms ++ drop n o.marks) ≡ copied n page o
-copied_is n page o ts vs ms a b c = λ i. record { times = a i ++ drop n o.times; values = b i ++ drop n o.values; marks = c i ++ drop n o.marks }
 
 column-copied : {A : Type 0} (new page out : List A) (n : ℕ) → n ≡ length new → take n (written_from 0 new page) ++ drop n out ≡ written_from 0 new out
 column-copied {A} new page out n e =
@@ -74,22 +72,22 @@ module _ (set : ClipSet) (s : Samples) (times values : List Float) (marks : List
   room-is = refl
 
   pub bake-refused : min (length times) (min (length values) (length marks)) < length (changes_of set s least most)
-      → BakeIs set s (outputs times values marks) (outputs times values marks) (record { number = 22; mark = 0; value = 0·0; count = 0 })
+      → BakeIs set s (outputs times values marks) (outputs times values marks) (Err NoRoom)
   bake-refused h =
       let n = sym (ap (λ (b : Bool). 22 if b else 0) (lt-ltb (slots before) (length (track_of set s).changes) less)) in
-      record { replies = ap (λ (k : ℕ). bake_code (reply k (baked_of (track_of set s)))) n; writes = ap (λ (k : ℕ). outputs_after k (track_of set s) before) n }
+      record { replies = ap (λ (k : ℕ). reply k (baked_of (track_of set s))) n; writes = ap (λ (k : ℕ). outputs_after k (track_of set s) before) n }
     where
       less : slots before < length (track_of set s).changes
       less = let e = written-length (changes_of set s least most) in let r = room-is in omega arith
 
   pub bake-done : (after : Outputs) (mark : ℕ) (value : Float) (n : ℕ) → length (changes_of set s least most) ≤ min (length times) (min (length values) (length marks))
       → ◌≡◌ {A = Entry} (record { value = value; mark = mark }) (entry_at_key set s least) → n ≡ length (changes_of set s least most) → after ≡ written 0 (changes_of set s least most) (outputs times values marks)
-      → BakeIs set s (outputs times values marks) after (record { number = 0; mark = mark; value = value; count = n })
+      → BakeIs set s (outputs times values marks) after (Ok (record { mark = mark; value = value; count = n }))
   bake-done after mark value n h e c w =
       let z = sym (ap (λ (b : Bool). 22 if b else 0) (le-ltb (slots before) (length (track_of set s).changes) enough)) in
       record {
-        replies = (λ i. record { number = 0; mark = (e i).mark; value = (e i).value; count = (c ∙ sym (written-length (changes_of set s least most))) i })
-            ∙ ap (λ (k : ℕ). bake_code (reply k (baked_of (track_of set s)))) z;
+        replies = (λ i. replied (record { initial = e i; count = (c ∙ sym (written-length (changes_of set s least most))) i }))
+            ∙ ap (λ (k : ℕ). reply k (baked_of (track_of set s))) z;
         writes = w ∙ all ∙ ap (λ (k : ℕ). outputs_after k (track_of set s) before) z;
       }
     where

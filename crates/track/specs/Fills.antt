@@ -1,5 +1,5 @@
 -- The walk over the changes of the value that stops when its outputs are full: where it stands, and what it promises. Assumes nothing.
-use Rattle.std.specs.Prelude.{◌≡◌, true, false, List, ◌++◌, ℕ, ◌+◌, ◌≤◌, ◌<◌, length, take, drop, Float}
+use Rattle.std.specs.Prelude.{◌≡◌, true, false, List, ◌++◌, ℕ, ◌≤◌, ◌<◌, length, take, drop, Float}
 use Rattle.definitions.specs.declared.Missing.{Missing}
 use Rattle.definitions.specs.Track.{Outputs, slots}
 use Rattle.laws.specs.cell.Keys.{Keys, entry_at_key}

@@ -1,6 +1,5 @@
 // The bake: the head and the changes of the value, counted before any is written.
 ghost use Rattle.std.specs.Prelude.{length, ◌≡◌, ◌<◌};
-ghost use Rattle.gf.specs.Doubles.{0·0};
 ghost use Rattle.gf.specs.Doubles as Key;
 ghost use Rattle.definitions.specs.Track.{slots};
 ghost use Rattle.definitions.specs.Moments.{outputs};
@@ -10,22 +9,19 @@ ghost use Rattle.run.specs.Walks.{Room};
 ghost use Rattle.track.specs.Bakes.{BakeIs};
 ghost use Rattle.track.specs.Fills.{CursorIs, copied};
 
-use crate::copying::copy_marks;
 use crate::count::count_within;
 use crate::fill::{Cursor, fill, least_cursor, shortest};
-use definitions::{Missing, refusal};
+use definitions::Missing;
+use definitions::refusal::Refusal;
 use gf::MOST;
-use lists::writing::copy;
 use window::search::latest::latest_inverses;
 
 // How many changes a page holds.
 pub const PAGE: usize = 256;
 
-// What a bake replies: 22, or 0 with the head and the number of changes.
-#[repr(C)]
+// What a bake replies: the head, and the number of changes.
 #[derive(Clone, Copy)]
 pub struct Baked {
-    pub number: u8,
     pub mark: u8,
     pub value: f64,
     pub count: usize,
@@ -45,20 +41,9 @@ fn write_page(
     requires fact_2 { Room n 0 (outputs outtimes.old outvalues.old outmarks.old) }
     ensures { outputs outtimes.new outvalues.new outmarks.new ≡ copied n (outputs pagetimes.now pagevalues.now pagemarks.now) (outputs outtimes.old outvalues.old outmarks.old) }
 {
-    copy(&pagetimes[..n], &mut outtimes[..n]);
-    copy(&pagevalues[..n], &mut outvalues[..n]);
-    copy_marks(&pagemarks[..n], &mut outmarks[..n]);
-}
-
-fn refused() -> Baked
-    ensures { result ≡ record { number = 22; mark = 0; value = 0·0; count = 0 } }
-{
-    Baked {
-        number: refusal::NO_ROOM,
-        mark: 0,
-        value: 0.0,
-        count: 0,
-    }
+    outtimes[..n].copy_from_slice(&pagetimes[..n]);
+    outvalues[..n].copy_from_slice(&pagevalues[..n]);
+    outmarks[..n].copy_from_slice(&pagemarks[..n]);
 }
 
 // Bakes from the cursor at the lowest key, with a page at hand. A track that fits into the page is walked once; of any other the
@@ -82,7 +67,7 @@ fn bake_by_pages(
     outtimes: &mut [f64],
     outvalues: &mut [f64],
     outmarks: &mut [u8],
-) -> Baked
+) -> Result<Baked, Refusal>
     requires accepted_lists { AcceptedLists starts.now clips.now xs.now ys.now blocks.now m times.now values.now marks.now ends.now }
     requires latest_of { LatestOf xs.now ys.now latest.now }
     requires cursor_is_1 { CursorIs starts.now clips.now xs.now ys.now blocks.now m times.now values.now marks.now ends.now Key.most from }
@@ -98,18 +83,17 @@ fn bake_by_pages(
     );
     let count = first.count;
     if room < count {
-        return refused();
+        return Err(Refusal::NoRoom);
     }
     if first.done {
         write_page(
             pagetimes, pagevalues, pagemarks, count, outtimes, outvalues, outmarks,
         );
-        return Baked {
-            number: 0,
+        return Ok(Baked {
             mark: head.mark,
             value: head.value,
             count,
-        };
+        });
     }
     let left = room - count;
     let rest = count_within(
@@ -132,18 +116,17 @@ fn bake_by_pages(
         pagemarks,
     );
     if left < rest {
-        return refused();
+        return Err(Refusal::NoRoom);
     }
     let filled = fill(
         starts, clips, xs, ys, blocks, m, times, values, marks, ends, latest, from, MOST, outtimes,
         outvalues, outmarks,
     );
-    Baked {
-        number: 0,
+    Ok(Baked {
         mark: head.mark,
         value: head.value,
         count: filled.count,
-    }
+    })
 }
 
 // Bakes with a page of its own, from the value at the lowest finite double on.
@@ -162,7 +145,7 @@ fn bake_from_least(
     outtimes: &mut [f64],
     outvalues: &mut [f64],
     outmarks: &mut [u8],
-) -> Baked
+) -> Result<Baked, Refusal>
     requires accepted_lists { AcceptedLists starts.now clips.now xs.now ys.now blocks.now m times.now values.now marks.now ends.now }
     requires latest_of { LatestOf xs.now ys.now latest.now }
     ensures { BakeIs (set_of (length ends.now) starts.now clips.now xs.now ys.now blocks.now m) (samples_of times.now values.now marks.now ends.now) (outputs outtimes.old outvalues.old outmarks.old) (outputs outtimes.new outvalues.new outmarks.new) result }
@@ -209,7 +192,7 @@ pub fn bake(
     outtimes: &mut [f64],
     outvalues: &mut [f64],
     outmarks: &mut [u8],
-) -> Baked
+) -> Result<Baked, Refusal>
     requires { AcceptedLists starts.now clips.now xs.now ys.now blocks.now m times.now values.now marks.now ends.now }
     ensures { BakeIs (set_of (length ends.now) starts.now clips.now xs.now ys.now blocks.now m) (samples_of times.now values.now marks.now ends.now) (outputs outtimes.old outvalues.old outmarks.old) (outputs outtimes.new outvalues.new outmarks.new) result }
 {

@@ -23,7 +23,7 @@ pub struct Cursor {
     pub place: WindowPlace,
 }
 
-// How many changes were written, where the walk stands, and whether there are no more.
+// How many changes were written, where the walk stands, and whether there are no more. An Option would be no plainer: the others hold either way.
 #[derive(Clone, Copy)]
 pub struct Filled {
     pub count: usize,
@@ -50,11 +50,10 @@ pub fn least_cursor(
     let last = entry_at(
         starts, clips, xs, ys, blocks, m, times, values, marks, ends, LEAST,
     );
-    let place = no_place(starts);
     Cursor {
         key: LEAST,
         last,
-        place,
+        place: no_place(starts),
     }
 }
 
@@ -62,16 +61,7 @@ pub fn least_cursor(
 pub fn shortest(a: usize, b: usize, c: usize) -> usize
     ensures { result ≡ min a (min b c) }
 {
-    if a < b {
-        if a < c {
-            return a;
-        }
-        return c;
-    }
-    if b < c {
-        return b;
-    }
-    c
+    a.min(b.min(c))
 }
 
 // Writes the changes above the cursor's key and up to top, as many as the shortest output has slots.
@@ -105,14 +95,13 @@ pub fn fill(
     let mut count: usize = 0;
     loop {
         if at == top {
-            let cursor = Cursor {
-                key: at,
-                last,
-                place,
-            };
             return Filled {
                 count,
-                cursor,
+                cursor: Cursor {
+                    key: at,
+                    last,
+                    place,
+                },
                 done: true,
             };
         }
@@ -124,14 +113,13 @@ pub fn fill(
         let here = s.here;
         let slot = offer(here, last, k, room, count, outtimes, outvalues, outmarks);
         if room < slot {
-            let cursor = Cursor {
-                key: at,
-                last,
-                place,
-            };
             return Filled {
                 count,
-                cursor,
+                cursor: Cursor {
+                    key: at,
+                    last,
+                    place,
+                },
                 done: false,
             };
         }
@@ -139,16 +127,13 @@ pub fn fill(
             times, values, marks, ends, s, k, room, slot, outtimes, outvalues, outmarks,
         );
         if !went.done {
-            let end = went.last;
-            let reached = step.place;
-            let cursor = Cursor {
-                key: went.key,
-                last: end,
-                place: reached,
-            };
             return Filled {
                 count: went.count,
-                cursor,
+                cursor: Cursor {
+                    key: went.key,
+                    last: went.last,
+                    place: step.place,
+                },
                 done: false,
             };
         }

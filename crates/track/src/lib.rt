@@ -8,8 +8,6 @@ pub mod entry;
 pub mod fill;
 // The changes counted.
 pub mod count;
-// Marks copied.
-mod copying;
 // The bake.
 pub mod bake;
 // The held reading.

@@ -5,17 +5,16 @@ pub mod fill;
 // The cell of a window without knots.
 pub mod knotless;
 
-ghost use Rattle.std.specs.Prelude.{◌≡◌};
+ghost use Rattle.std.specs.Prelude.{◌≡◌, Some};
 ghost use Rattle.laws.specs.cell.Keys.{Keys};
 ghost use Rattle.laws.specs.cell.Lent.{AcceptedLists};
 ghost use Rattle.window.specs.search.Latest.{LatestOf};
-ghost use Rattle.window.specs.declared.Bound.TheVariants.{At};
 ghost use Rattle.cell.specs.WindowPlaces.{PlaceIs};
 ghost use Rattle.track.specs.span.Runs.{read_on, StepIs};
 ghost use Rattle.track.specs.span.Knotless.{knotless_cell};
 ghost use Rattle.track.specs.span.Steps.{Readable, ReadsAt, CellStep, CellStepAsks, FoundStep, RunAsks, RunStep};
 
-use cell::end::{end_key, lesser};
+use cell::end::end_key;
 use cell::place::{WindowPlace, place_at};
 use cell::step::entry::{Entry, entry_of};
 use cell::step::line::{Line, place_on};
@@ -86,24 +85,18 @@ fn cell_step(
     ensures { FoundStep starts.now xs.now ys.now m times.now values.now marks.now ends.now at k top result }
 {
     let piece = cell_at(starts, xs, ys, times, latest, at, gf::of_key(k));
-    let cell = piece.cell;
-    let end = piece.end;
-    let e = end_key(end);
-    let hi = lesser(top, e - 1);
-    let source = read_on(times, ends, cell, k);
+    let hi = top.min(end_key(piece.end) - 1);
+    let source = read_on(times, ends, piece.cell, k);
     let here = entry_of(answer_of(m, times, values, marks, ends, source));
-    let way = ReadBy::ByCell(cell);
-    let span = Span { way, here, hi };
-    let w = at.window;
-    let reached = WindowPlace {
-        start: at.start,
-        window: w,
-        knot: piece.knot,
-        sample: piece.sample,
-    };
+    let way = ReadBy::ByCell(piece.cell);
     Step {
-        span,
-        place: reached,
+        span: Span { way, here, hi },
+        place: WindowPlace {
+            start: at.start,
+            window: at.window,
+            knot: piece.knot,
+            sample: piece.sample,
+        },
     }
 }
 
@@ -118,22 +111,21 @@ fn knotless_step(
     k: u64,
     top: u64,
 ) -> Step
-    requires { ReadsAt times.now values.now marks.now ends.now (knotless_cell at.window) (At at.window.max) k }
-    ensures { CellStep m times.now values.now marks.now ends.now (knotless_cell at.window) (At at.window.max) at k top result }
+    requires { ReadsAt times.now values.now marks.now ends.now (knotless_cell at.window) (Some at.window.max) k }
+    ensures { CellStep m times.now values.now marks.now ends.now (knotless_cell at.window) (Some at.window.max) at k top result }
 {
-    let w = at.window;
-    let cell = knotless_cell(w);
-    let next = gf::key(w.max);
-    let hi = lesser(top, next - 1);
+    let cell = knotless_cell(at.window);
+    let hi = top.min(gf::key(at.window.max) - 1);
     let read = read_on(times, ends, cell, k);
     let here = entry_of(answer_of(m, times, values, marks, ends, read));
     let way = ReadBy::ByCell(cell);
-    let span = Span { way, here, hi };
-    Step { span, place: at }
+    Step {
+        span: Span { way, here, hi },
+        place: at,
+    }
 }
 
-// The span past the samples of the segment from the knot at i on, up to the inverse time h. The lower neighbour is l, and
-// n is near the first sample.
+// The span past the samples of a segment, from the lower neighbour where the run begins up to its end.
 fn run_step(
     xs: &[f64],
     ys: &[f64],
@@ -142,35 +134,28 @@ fn run_step(
     marks: &[u8],
     ends: &[u64],
     at: WindowPlace,
-    i: usize,
-    l: f64,
-    h: f64,
-    n: usize,
+    run: RunBegin,
     top: u64,
 ) -> Step
-    requires { RunAsks xs.now ys.now times.now values.now marks.now ends.now at.window.clip i l h }
-    ensures { RunStep xs.now ys.now times.now values.now marks.now ends.now at i l h n top result }
+    requires { RunAsks xs.now ys.now times.now values.now marks.now ends.now at.window.clip run.knot run.lower run.upto }
+    ensures { RunStep xs.now ys.now times.now values.now marks.now ends.now at run.knot run.lower run.upto run.sample top result }
 {
-    let w = at.window;
-    let s = segment_at(xs, ys, i);
-    let past = gf::key(h);
-    let hi = lesser(top, past - 1);
-    let a = clip_begin(ends, w.clip);
-    let b = clip_end(ends, w.clip);
-    let line = Line::Segment(s);
-    let place = place_on(&times[a..b], line, gf::key(l));
+    let clip = at.window.clip;
+    let s = segment_at(xs, ys, run.knot);
+    let hi = top.min(gf::key(run.upto) - 1);
+    let a = clip_begin(ends, clip);
+    let b = clip_end(ends, clip);
+    let place = place_on(&times[a..b], Line::Segment(s), gf::key(run.lower));
     let here = entry_of_sample(&values[a..b], &marks[a..b], place);
-    let way = ReadBy::ByRun(w.clip, l, s, n);
-    let span = Span { way, here, hi };
-    let reached = WindowPlace {
-        start: at.start,
-        window: w,
-        knot: i,
-        sample: n,
-    };
+    let way = ReadBy::ByRun(clip, run.lower, s, run.sample);
     Step {
-        span,
-        place: reached,
+        span: Span { way, here, hi },
+        place: WindowPlace {
+            start: at.start,
+            window: at.window,
+            knot: run.knot,
+            sample: run.sample,
+        },
     }
 }
 
@@ -205,10 +190,9 @@ pub fn span_at(
         return knotless_step(m, times, values, marks, ends, at, k, top);
     }
     if 1 < starts.len() {
-        let w = at.window;
-        let found = run_begin(xs, ys, latest, times, w, t, at.knot, at.sample);
-        if let RunBegin::At(i, l, h, n) = found {
-            return run_step(xs, ys, times, values, marks, ends, at, i, l, h, n, top);
+        let found = run_begin(xs, ys, latest, times, at.window, t, at.knot, at.sample);
+        if let Some(begun) = found {
+            return run_step(xs, ys, times, values, marks, ends, at, begun, top);
         }
     }
     cell_step(

@@ -11,10 +11,9 @@ use Rattle.definitions.specs.declared.Source.{Source}
 use Rattle.definitions.specs.declared.Source.TheVariants.{Sample as sample, Default as default, Blocked as blocked, Absent as absent}
 use Rattle.definitions.specs.declared.Answer.{Answer}
 use Rattle.definitions.specs.declared.Answer.TheVariants.{Value, Blocked, Absent}
-use Rattle.definitions.specs.declared.SampleRead.{SampleRead}
 use Rattle.definitions.specs.ClipSet.{ClipSet}
 use Rattle.definitions.specs.Samples.{Samples, clip_begin}
-use Rattle.definitions.specs.Value.{says, value_source, value_in_set, sample_read, value_read}
+use Rattle.definitions.specs.Value.{SampleRead, says, value_source, value_in_set, sample_read, value_read}
 use Rattle.laws.proofs.cell.Readings.{Placed, value-placed}
 use Rattle.laws.specs.cell.Lent.{set_of, samples_of, AcceptedLists}
 use Rattle.sdf.specs.look.Reads.{marked_at}

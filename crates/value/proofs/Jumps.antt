@@ -106,15 +106,6 @@ module _ (xs : List Float) (a : Ascending xs) (lower upper : Float) (fl : Fits l
       subst T e (lt-le-trans lower (get_or xs i nan) (get_or xs k nan) fl x.0 y.0 u (step-le i k l h)))
 
   -- down to the place i, where none is from the next on
-  pub none-step : (i n : ℕ) → suc i ≡ n → eq (get_or xs i nan) (get_or xs n nan) ≡ false → ((j : ℕ) → n ≤ j → j + 1 < length xs → jumps j (j + 1) ≡ false) → (j : ℕ) → i ≤ j → j + 1 < length xs → jumps j (j + 1) ≡ false
-  none-step i n q e f j l h = elim (dec_le n j) [
-    | yes p ↦ f j p h
-    | no p ↦
-        let z : i ≡ j = omega arith in
-        let y : n ≡ j + 1 = omega arith in
-        none-if j (j + 1) (λ u v w. subst T (subst (λ (k : ℕ). eq (get_or xs k nan) (get_or xs (j + 1) nan) ≡ false) z (subst (λ (k : ℕ). eq (get_or xs i nan) (get_or xs k nan) ≡ false) y e)) u)
-  ]
-
   pub none-all : (n : ℕ) → lt lower (get_or xs n nan) ≡ false → n < length xs → ((j : ℕ) → n ≤ j → j + 1 < length xs → jumps j (j + 1) ≡ false) → jump_in xs lower upper ≡ false
   none-all n e b f = any_none (jumps_at lower upper) xs (λ j h. elim (dec_le n j) [ yes p ↦ f j p h | no p ↦ none_below n j e (omega arith) b ])
 

@@ -1,5 +1,6 @@
 -- A run: from a time in a segment of the knots on, the window's times above its lower neighbour are the inverse times of that segment's samples, up to one
 -- of them that lies below the next knot and the next start. So a time of the run holds its value from the lower neighbour, with no jump. Assumes nothing.
+use Rattle.std.specs.Prelude.{Option, None, Some}
 use mathlib.Core.Path.{◌≡◌, refl, sym, subst}
 use mathlib.Core.Logic.{inl, inr}
 use mathlib.Core.Bool.{Bool, true, false, cond}
@@ -25,8 +26,6 @@ use Rattle.laws.specs.list.Places.{Number, Fits}
 use Rattle.laws.proofs.cell.Window.{inf-below}
 use Rattle.laws.specs.cell.Neighbours.{IsLower, IsUpper}
 use Rattle.laws.specs.cell.Lent.{knots_of}
-use Rattle.window.specs.declared.Bound.{Bound}
-use Rattle.window.specs.declared.Bound.TheVariants.{At, Nothing}
 use Rattle.window.specs.Bounds.{In, inside, LowerIs, UpperIs}
 use Rattle.window.proofs.BoundsLaws.{in-every, every_in, lower-there, upper-there}
 use Rattle.window.specs.Inverses.{on_segment, inverses_of}
@@ -354,13 +353,13 @@ module _ (xs ys latest cs : List Float) (w : Window) (t : Float) (i : ℕ) (l h 
     pub run-held : Every Fits (window_times xs ys cs w) → HeldAt xs ys cs w i l u
     run-held fit = let a = lower-there u nu.0 g fit in let b = upper-there u nu.0 g fit in go a.0 b.0 a.1 b.1
       where
-        go : (a b : Bound) → LowerIs g u a → UpperIs g u b → HeldAt xs ys cs w i l u
-        go Nothing b L U =
+        go : (a b : Option Float) → LowerIs g u a → UpperIs g u b → HeldAt xs ys cs w i l u
+        go None b L U =
             let r = of-l (λ (x : Float). T (le x u) → ⊥) L in
             let e = eq→key r.0 l r.2.0 nl.0 r.2.1 nl.1 r.1 in
             absurd (r.3 (key→le r.0 u r.2.0 nu.0 r.2.1 nu.1 (omega (arith, kl))))
-        go (At m) Nothing L U = absurd (of-h (λ (x : Float). T (lt u x) → ⊥) U h-above)
-        go (At m) (At n) L U = held m n L U
+        go (Some m) None L U = absurd (of-h (λ (x : Float). T (lt u x) → ⊥) U h-above)
+        go (Some m) (Some n) L U = held m n L U
 
   -- where it begins, the lower neighbour is l
   pub run-first : Every Fits (window_times xs ys cs w) → IsLower (l ∷ on_segment cs (segment_of xs ys i)) t l

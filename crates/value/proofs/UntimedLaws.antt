@@ -1,4 +1,4 @@
--- The answer without a time: that of the set, and case by case. Assumes nothing.
+-- The answer without a time is that of the set. Assumes nothing.
 use mathlib.Core.Path.{◌≡◌, refl, sym, ap, ap₂, ◌∙◌}
 use mathlib.Core.Bool.{Bool, true, false, not, ◌||◌, cond}
 use mathlib.Core.List.{List, [], ◌∷◌}
@@ -70,26 +70,3 @@ module _ {starts : List Float} {clips : List ℕ} {xs ys blocks : List Float} {m
       go [] (y ∷ b) e v = absurd (omega arith)
       go (x ∷ a) [] e v = absurd (omega arith)
       go (x ∷ a) (y ∷ b) e v = rw (ne_eqb (length (y ∷ b)) 0 (λ z. omega arith))
-
--- ---- case by case
-
-module _ (clips : List ℕ) (m : Missing) (ends : List ℕ) where
-  pub untimed-absent : length clips ≡ 0 → Absent ≡ untimed_of clips m ends
-  untimed-absent e = rw (eq-eqb (length clips) 0 e)
-
-  module _ (n : length clips ≡ 0 → ⊥) where
-    answer : (b c : Bool) → any (has_samples ends) clips ≡ b → eqb m.default.mark mark_value ≡ c → cond (b || c) Present Blocked ≡ untimed_of clips m ends
-    answer b c e f = rw (ne_eqb (length clips) 0 n, e, f)
-
-    pub untimed-default : m.default.mark ≡ 0 → Present ≡ untimed_of clips m ends
-    untimed-default e = go (any (has_samples ends) clips) refl
-      where
-        go : (b : Bool) → any (has_samples ends) clips ≡ b → Present ≡ untimed_of clips m ends
-        go true q = answer true true q (eq-eqb m.default.mark 0 e)
-        go false q = answer false true q (eq-eqb m.default.mark 0 e)
-
-    pub untimed-samples : any (has_samples ends) clips ≡ true → Present ≡ untimed_of clips m ends
-    untimed-samples e = answer true (eqb m.default.mark mark_value) e refl
-
-    pub untimed-blocked : (m.default.mark ≡ 0 → ⊥) → any (has_samples ends) clips ≡ false → Blocked ≡ untimed_of clips m ends
-    untimed-blocked k e = answer false false e (ne_eqb m.default.mark 0 k)

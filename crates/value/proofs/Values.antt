@@ -1,8 +1,9 @@
 -- The value by the neighbours that a program found, what it says, and that a sample that is read lies in its list. Assumes nothing.
+use Rattle.std.specs.Prelude.{Option, None, Some}
 use mathlib.Core.Path.{◌≡◌, refl, sym, ap, ap₂, ◌∙◌, subst}
 use mathlib.Core.Bool.{Bool, true, false, cond}
 use mathlib.Core.List.{List, [], ◌∷◌}
-use mathlib.Core.Option.{Option, none, some}
+use mathlib.Core.Option.{Option as MathOption, none, some}
 use Prim.Native.Nat.{ℕ, ◌≤◌, ◌<◌}
 use native.Mathlib.Omega.{arith}
 use lib.Dec.{T}
@@ -32,8 +33,6 @@ use Rattle.laws.specs.cell.Neighbours.{IsLower, IsUpper}
 use Rattle.laws.proofs.cell.Neighbours.{lower-found, lower-none, upper-found, upper-none, jump-alike}
 use Rattle.laws.specs.cell.Lent.{active_of, knots_of, set_of, samples_of, AcceptedLists}
 use Rattle.laws.proofs.cell.Lent.{sound-set, sound-samples}
-use Rattle.window.specs.declared.Bound.{Bound}
-use Rattle.window.specs.declared.Bound.TheVariants.{At, Nothing}
 use Rattle.window.specs.declared.Neighbours.{Neighbours}
 use Rattle.window.specs.Bounds.{LowerIs, UpperIs, NeighboursAre}
 use Rattle.window.proofs.Parts.{ready-active, ready-position, ready-readable}
@@ -52,17 +51,17 @@ module _ (xs ys times : List Float) (w : Window) (t : Float) (n : Neighbours) (N
   read_at : (x : Float) → held_at xs t n.lower n.upper ≡ x → r ≡ window_source xs ys times w x → ValueIn xs ys times w t r
   read_at x e q = record { bounds = n; near = N; reads = q ∙ ap (window_source xs ys times w) (sym e) }
 
-  pub read_below : n.lower ≡ Nothing → r ≡ window_source xs ys times w t → ValueIn xs ys times w t r
-  read_below e q = read_at t (ap (λ (b : Bound). held_at xs t b n.upper) e) q
+  pub read_below : n.lower ≡ None → r ≡ window_source xs ys times w t → ValueIn xs ys times w t r
+  read_below e q = read_at t (ap (λ (b : Option Float). held_at xs t b n.upper) e) q
 
-  module _ (l : Float) (e : n.lower ≡ At l) where
-    pub read-last : n.upper ≡ Nothing → r ≡ window_source xs ys times w t → ValueIn xs ys times w t r
+  module _ (l : Float) (e : n.lower ≡ Some l) where
+    pub read-last : n.upper ≡ None → r ≡ window_source xs ys times w t → ValueIn xs ys times w t r
     read-last f q = read_at t (ap₂ (held_at xs t) e f) q
 
-    pub read-jump : (h : Float) → n.upper ≡ At h → jump_in xs l h ≡ true → r ≡ window_source xs ys times w t → ValueIn xs ys times w t r
+    pub read-jump : (h : Float) → n.upper ≡ Some h → jump_in xs l h ≡ true → r ≡ window_source xs ys times w t → ValueIn xs ys times w t r
     read-jump h f j q = read_at t (ap₂ (held_at xs t) e f ∙ ap (λ (b : Bool). cond b t l) j) q
 
-    pub read_held : (h : Float) → n.upper ≡ At h → jump_in xs l h ≡ false → r ≡ window_source xs ys times w l → ValueIn xs ys times w t r
+    pub read_held : (h : Float) → n.upper ≡ Some h → jump_in xs l h ≡ false → r ≡ window_source xs ys times w l → ValueIn xs ys times w t r
     read_held h f j q = read_at l (ap₂ (held_at xs t) e f ∙ ap (λ (b : Bool). cond b t l) j) q
 
 -- ---- a neighbour is a double
@@ -112,7 +111,7 @@ module _ {starts : List Float} {clips : List ℕ} {xs ys blocks : List Float} {m
   }
 
   direct-by : held_from set s (stage t) ≡ none → direct_source set s (stage t) ≡ value_source set s (stage t)
-  direct-by e = sym (by ∙ ap (λ (o : Option Float). direct_source set s (stage (read_as o t))) e)
+  direct-by e = sym (by ∙ ap (λ (o : MathOption Float). direct_source set s (stage (read_as o t))) e)
 
   -- "One start: direct"
   pub value-few : length starts < 2 → direct_source set s (stage t) ≡ value_source set s (stage t)
@@ -133,16 +132,16 @@ module _ {starts : List Float} {clips : List ℕ} {xs ys blocks : List Float} {m
     fit = gathered-fit set s S A p
 
     -- "If t is below all": direct
-    pub value-below : LowerIs (gathered set s p) t Nothing → direct_source set s (stage t) ≡ value_source set s (stage t)
-    value-below h = direct-by (held ∙ ap (λ (o : Option Float). held_between (knots_of xs ys) o (upper_neighbour (gathered set s p) t)) (lower-none (gathered set s p) fit t ft h))
+    pub value-below : LowerIs (gathered set s p) t None → direct_source set s (stage t) ≡ value_source set s (stage t)
+    value-below h = direct-by (held ∙ ap (λ (o : MathOption Float). held_between (knots_of xs ys) o (upper_neighbour (gathered set s p) t)) (lower-none (gathered set s p) fit t ft h))
 
     -- "from the last on": direct
-    pub value-last : UpperIs (gathered set s p) t Nothing → direct_source set s (stage t) ≡ value_source set s (stage t)
+    pub value-last : UpperIs (gathered set s p) t None → direct_source set s (stage t) ≡ value_source set s (stage t)
     value-last h =
         direct-by
-        (held ∙ ap (λ (o : Option Float). held_between (knots_of xs ys) (lower_neighbour (gathered set s p) t) o) (upper-none (gathered set s p) fit t ft h) ∙ go (lower_neighbour (gathered set s p) t))
+        (held ∙ ap (λ (o : MathOption Float). held_between (knots_of xs ys) (lower_neighbour (gathered set s p) t) o) (upper-none (gathered set s p) fit t ft h) ∙ go (lower_neighbour (gathered set s p) t))
       where
-        go : (o : Option Float) → held_between (knots_of xs ys) o none ≡ none
+        go : (o : MathOption Float) → held_between (knots_of xs ys) o none ≡ none
         go none = refl
         go (some l) = refl
 
@@ -169,7 +168,7 @@ module _ {starts : List Float} {clips : List ℕ} {xs ys blocks : List Float} {m
       pub value-held : jump (knots_of xs ys) l h ≡ false → direct_source set s (stage l) ≡ value_source set s (stage t)
       value-held e =
           let b = between false e in
-          direct-alike set s S A l b.0 L.fits b.2 b.3 ∙ sym (by ∙ ap (λ (o : Option Float). direct_source set s (stage (read_as o t))) b.1)
+          direct-alike set s S A l b.0 L.fits b.2 b.3 ∙ sym (by ∙ ap (λ (o : MathOption Float). direct_source set s (stage (read_as o t))) b.1)
 
     -- ---- in the window that is handed on
 
@@ -191,10 +190,10 @@ module _ {starts : List Float} {clips : List ℕ} {xs ys blocks : List Float} {m
           here : window_source xs ys times w t ≡ direct_source set s (stage t)
           here = sym (W.direct t (sym at))
 
-          go : (b d : Bound) → LowerIs (gathered set s p) t b → UpperIs (gathered set s p) t d → window_source xs ys times w (held_at xs t b d) ≡ value_source set s (stage t)
-          go Nothing d L U = here ∙ value-below L
-          go (At l) Nothing L U = here ∙ value-last U
-          go (At l) (At h) L U = by_jump (jump_in xs l h) (jump-by-x l h xs ys R.knots-paired)
+          go : (b d : Option Float) → LowerIs (gathered set s p) t b → UpperIs (gathered set s p) t d → window_source xs ys times w (held_at xs t b d) ≡ value_source set s (stage t)
+          go None d L U = here ∙ value-below L
+          go (Some l) None L U = here ∙ value-last U
+          go (Some l) (Some h) L U = by_jump (jump_in xs l h) (jump-by-x l h xs ys R.knots-paired)
             where
               by_jump : (j : Bool) → jump (knots_of xs ys) l h ≡ j → window_source xs ys times w (cond j t l) ≡ value_source set s (stage t)
               by_jump true e = here ∙ value-jump l h L U e

@@ -1,9 +1,7 @@
 -- The value by the neighbours that a program found. Assumes nothing.
-use Rattle.std.specs.Prelude.{◌≡◌, cond, List, length, Float}
+use Rattle.std.specs.Prelude.{◌≡◌, cond, List, length, Float, Option, None, Some}
 use Rattle.definitions.specs.declared.Source.{Source}
 use Rattle.laws.specs.list.Places.{Ascending}
-use Rattle.window.specs.declared.Bound.{Bound}
-use Rattle.window.specs.declared.Bound.TheVariants.{At, Nothing}
 use Rattle.window.specs.declared.Neighbours.{Neighbours}
 use Rattle.window.specs.Bounds.{NeighboursAre}
 use Rattle.window.specs.declared.search.Window.{Window}
@@ -14,10 +12,10 @@ use Rattle.value.specs.Jumps.{jump_in}
 -- ---- the value in a window
 
 -- the time whose direct value is the value at t, by its neighbours
-abbrev pub held_at : List Float → Float → Bound → Bound → Float
-held_at xs t Nothing upper = t
-held_at xs t (At l) Nothing = t
-held_at xs t (At l) (At h) = cond (jump_in xs l h) t l
+abbrev pub held_at : List Float → Float → Option Float → Option Float → Float
+held_at xs t None upper = t
+held_at xs t (Some l) None = t
+held_at xs t (Some l) (Some h) = cond (jump_in xs l h) t l
 
 -- what a search in the window asks
 pub record Valued (xs ys times : List Float) (w : Window) (t : Float) : Type 0 where

@@ -10,16 +10,14 @@ pub fn is_jump(xs: &[f64], lower: f64, upper: f64, knot: usize) -> bool
     requires { Ascending xs.now }
     ensures { result ≡ jump_in xs.now lower upper }
 {
-    let mut i = lists::near::last_at_most_near(xs, upper, knot);
-    while i > 0 {
-        let x = xs[i];
-        if lower < x {
-            i -= 1;
-            if xs[i] == x {
-                return true;
-            }
-        } else {
+    let last = lists::near::last_at_most_near(xs, upper, knot);
+    for i in (0..last).rev() {
+        let x = xs[i + 1];
+        if !(lower < x) {
             return false;
+        }
+        if xs[i] == x {
+            return true;
         }
     }
     false

@@ -13,13 +13,10 @@ fn any_samples(clips: &[u64], ends: &[u64]) -> bool
     requires { Every (λ (c : ℕ). c < length ends.now) clips.now }
     ensures { result ≡ any (has_samples ends.now) clips.now }
 {
-    let mut i: usize = 0;
-    while i < clips.len() {
-        let clip = clips[i];
-        if clip_begin(ends, clip) < clip_end(ends, clip) {
+    for clip in clips {
+        if clip_begin(ends, *clip) < clip_end(ends, *clip) {
             return true;
         }
-        i += 1;
     }
     false
 }
@@ -29,14 +26,10 @@ pub fn untimed_answer_in_set(clips: &[u64], m: Missing, ends: &[u64]) -> ValueSt
     requires { Every (λ (c : ℕ). c < length ends.now) clips.now }
     ensures { result ≡ untimed_of clips.now m ends.now }
 {
-    if clips.len() == 0 {
+    if clips.is_empty() {
         return ValueState::Absent;
     }
-    let default = m.default;
-    if default.mark == 0 {
-        return ValueState::Present;
-    }
-    if any_samples(clips, ends) {
+    if m.default.mark == 0 || any_samples(clips, ends) {
         return ValueState::Present;
     }
     ValueState::Blocked

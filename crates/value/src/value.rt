@@ -9,9 +9,9 @@ ghost use Rattle.value.specs.Values.{Valued, ValueIn};
 
 use super::jump::is_jump;
 use super::windowed::{source_in, window_of};
-use definitions::{Answer, Missing, SampleRead, Source, StageTime, ValueRead};
+use definitions::{Answer, Missing, Source, StageTime, ValueRead};
+use sdf::look::Look;
 use sdf::part::{clip_begin, clip_end};
-use window::Bound;
 use window::search::{Window, neighbours_in};
 
 // What is read at the time `t` of a window: directly, or held from the lower neighbour.
@@ -19,24 +19,13 @@ fn value_in(xs: &[f64], ys: &[f64], times: &[f64], w: Window, t: StageTime) -> S
     requires { Valued xs.now ys.now times.now w t.0 }
     ensures { ValueIn xs.now ys.now times.now w t.0 result }
 {
-    let begin = w.begin;
-    let end = w.end;
     // One question is not worth the latest of all segments.
-    let found = neighbours_in(xs, ys, &xs[0..0], &times[begin..end], w, t.0, 0, 0);
-    let lower = found.lower;
-    let upper = found.upper;
-    let knot = found.knot;
-    let sample = found.sample;
-    let Bound::At(l) = lower else {
-        return source_in(xs, ys, times, w, t, knot, sample);
+    let found = neighbours_in(xs, ys, &xs[0..0], &times[w.begin..w.end], w, t.0, 0, 0);
+    let at = match (found.lower, found.upper) {
+        (Some(l), Some(h)) if !is_jump(xs, l, h, found.knot) => StageTime(l),
+        _ => t,
     };
-    let Bound::At(h) = upper else {
-        return source_in(xs, ys, times, w, t, knot, sample);
-    };
-    if is_jump(xs, l, h, knot) {
-        return source_in(xs, ys, times, w, t, knot, sample);
-    }
-    source_in(xs, ys, times, w, StageTime(l), knot, sample)
+    source_in(xs, ys, times, w, at, found.knot, found.sample)
 }
 
 // What is read at the stage time `t`.
@@ -87,30 +76,28 @@ pub fn answer_of(
         Source::Sample(clip, place) => {
             let begin = clip_begin(ends, clip);
             let end = clip_end(ends, clip);
-            sdf::look::answer_in(times, values, marks, begin, end, place as usize)
+            let look = Look {
+                times,
+                values,
+                marks,
+                begin,
+                end,
+            };
+            look.answer(place as usize)
         }
-        Source::Default => {
-            let default = m.default;
-            Answer::Value(default.value)
-        }
+        Source::Default => Answer::Value(m.default.value),
         Source::Blocked => Answer::Blocked,
         Source::Absent => Answer::Absent,
     }
 }
 
 // The sample that a number was read from. A block that is read is a reading, but no number.
-fn sample_read(answer: Answer, source: Source) -> SampleRead
+fn sample_read(answer: Answer, source: Source) -> Option<(u64, u64)>
     ensures { result ≡ sample_read answer source }
 {
-    match answer {
-        Answer::Value(_) => match source {
-            Source::Sample(clip, place) => SampleRead::Of(clip, place),
-            Source::Default => SampleRead::Nothing,
-            Source::Blocked => SampleRead::Nothing,
-            Source::Absent => SampleRead::Nothing,
-        },
-        Answer::Blocked => SampleRead::Nothing,
-        Answer::Absent => SampleRead::Nothing,
+    match (answer, source) {
+        (Answer::Value(_), Source::Sample(clip, place)) => Some((clip, place)),
+        _ => None,
     }
 }
 

@@ -21,10 +21,7 @@ use window::{window_max, window_min};
 fn has_samples(blocks: &[f64], m: Missing, start: f64, begin: usize, end: usize) -> bool
     ensures { result ≡ (ltb begin end && not (m.interpolate && any (λ (b : Float). eq b start) blocks.now)) }
 {
-    if begin < end {
-        return contributes(blocks, m, start);
-    }
-    false
+    begin < end && contributes(blocks, m, start)
 }
 
 // The window of the start at the place `p`.
@@ -80,15 +77,7 @@ pub fn window_of(
 pub fn is_between(xs: &[f64], t: f64, knot: usize) -> bool
     ensures { result ≡ is_between xs.now t knot }
 {
-    if knot < xs.len() {
-        let next = knot + 1;
-        if next < xs.len() {
-            if xs[knot] <= t {
-                return t < xs[next];
-            }
-        }
-    }
-    false
+    knot < xs.len() && knot + 1 < xs.len() && xs[knot] <= t && t < xs[knot + 1]
 }
 
 // The clip time at `t`, looked for at a hint.
@@ -118,11 +107,9 @@ pub fn source_in(
     requires fact_3 { Lent times.now w }
     ensures { result ≡ window_source xs.now ys.now times.now w t.0 }
 {
-    let begin = w.begin;
-    let end = w.end;
-    if begin < end {
+    if w.begin < w.end {
         let c = clip_time(xs, ys, t, knot);
-        let place = lists::near::last_at_most_near(&times[begin..end], c.0, sample);
+        let place = lists::near::last_at_most_near(&times[w.begin..w.end], c.0, sample);
         return Source::Sample(w.clip, place as u64);
     }
     w.gap

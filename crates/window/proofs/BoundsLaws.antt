@@ -1,4 +1,5 @@
 -- The neighbours of a time among times in any order: what they are, and that there are some. Assumes nothing.
+use Rattle.std.specs.Prelude.{Option, None, Some}
 use mathlib.Core.Path.{◌≡◌, refl, sym, subst}
 use mathlib.Core.Logic.{inl, inr}
 use mathlib.Core.Bool.{Bool, true, false}
@@ -11,8 +12,6 @@ use Rattle.laws.specs.list.Every.{Every}
 use Rattle.laws.proofs.list.Tests.{or_l, or_r}
 use Rattle.laws.proofs.list.Every.{every_map, every-zip}
 use Rattle.laws.specs.list.Places.{Fits}
-use Rattle.window.specs.declared.Bound.{Bound}
-use Rattle.window.specs.declared.Bound.TheVariants.{At, Nothing}
 use Rattle.window.specs.Bounds.{LowerIs, UpperIs, In}
 
 -- ---- one time more
@@ -39,42 +38,42 @@ module _ (t : Float) (ft : Fits t) where
     behind m h = or_r (eq x m) (any (λ (y : Float). eq y m) l) h
 
     -- x itself
-    lower-here : T (le x t) → Every (λ (y : Float). T (le y t) → T (le y x)) l → LowerIs (x ∷ l) t (At x)
+    lower-here : T (le x t) → Every (λ (y : Float). T (le y t) → T (le y x)) l → LowerIs (x ∷ l) t (Some x)
     lower-here u h =
         let r = le_refl x fx (le-no-nan x t u).0 in
         record { fits = fx; listed = or_l (eq x x) (any (λ (y : Float). eq y x) l) (le-both x x fx fx r r); upto = u; last = (λ _. r, h) }
 
-    upper-here : T (lt t x) → Every (λ (y : Float). T (lt t y) → T (le x y)) l → UpperIs (x ∷ l) t (At x)
+    upper-here : T (lt t x) → Every (λ (y : Float). T (lt t y) → T (le x y)) l → UpperIs (x ∷ l) t (Some x)
     upper-here u h =
         let r = le_refl x fx (le-no-nan t x (lt→le t x u)).1 in
         record { fits = fx; listed = or_l (eq x x) (any (λ (y : Float). eq y x) l) (le-both x x fx fx r r); above = u; first = (λ _. r, h) }
 
-    lower-more : (b : Bound) → LowerIs l t b → (c : Bool) → le x t ≡ c → (b : Bound) × LowerIs (x ∷ l) t b
-    lower-more Nothing L true e = (At x, lower-here (subst T (sym e) tt) (every_map (λ (y : Float). T (le y t) → ⊥) (λ (y : Float). T (le y t) → T (le y x)) (λ y c u. absurd (c u)) l L))
-    lower-more Nothing L false e = (Nothing, (λ u. subst T e u, L))
-    lower-more (At m) L false e = (At m, record { fits = L.fits; listed = behind m L.listed; upto = L.upto; last = (λ u. absurd (subst T e u), L.last) })
-    lower-more (At m) L true e =
+    lower-more : (b : Option Float) → LowerIs l t b → (c : Bool) → le x t ≡ c → (b : Option Float) × LowerIs (x ∷ l) t b
+    lower-more None L true e = (Some x, lower-here (subst T (sym e) tt) (every_map (λ (y : Float). T (le y t) → ⊥) (λ (y : Float). T (le y t) → T (le y x)) (λ y c u. absurd (c u)) l L))
+    lower-more None L false e = (None, (λ u. subst T e u, L))
+    lower-more (Some m) L false e = (Some m, record { fits = L.fits; listed = behind m L.listed; upto = L.upto; last = (λ u. absurd (subst T e u), L.last) })
+    lower-more (Some m) L true e =
         let u : T (le x t) = subst T (sym e) tt in
         elim (le-or-lt x m fx L.fits (le-no-nan x t u).0 (le-no-nan m t L.upto).0) [
-          | inl h ↦ (At m, record { fits = L.fits; listed = behind m L.listed; upto = L.upto; last = (λ _. h, L.last) })
-          | inr h ↦ (At x, lower-here u (every-zip Fits (λ (y : Float). T (le y t) → T (le y m)) (λ (y : Float). T (le y t) → T (le y x)) (λ y g q v. le_trans y m x g L.fits fx (q v) (lt→le m x h)) l f L.last))
+          | inl h ↦ (Some m, record { fits = L.fits; listed = behind m L.listed; upto = L.upto; last = (λ _. h, L.last) })
+          | inr h ↦ (Some x, lower-here u (every-zip Fits (λ (y : Float). T (le y t) → T (le y m)) (λ (y : Float). T (le y t) → T (le y x)) (λ y g q v. le_trans y m x g L.fits fx (q v) (lt→le m x h)) l f L.last))
         ]
 
-    upper-more : (b : Bound) → UpperIs l t b → (c : Bool) → lt t x ≡ c → (b : Bound) × UpperIs (x ∷ l) t b
-    upper-more Nothing U true e = (At x, upper-here (subst T (sym e) tt) (every_map (λ (y : Float). T (lt t y) → ⊥) (λ (y : Float). T (lt t y) → T (le x y)) (λ y c u. absurd (c u)) l U))
-    upper-more Nothing U false e = (Nothing, (λ u. subst T e u, U))
-    upper-more (At m) U false e = (At m, record { fits = U.fits; listed = behind m U.listed; above = U.above; first = (λ u. absurd (subst T e u), U.first) })
-    upper-more (At m) U true e =
+    upper-more : (b : Option Float) → UpperIs l t b → (c : Bool) → lt t x ≡ c → (b : Option Float) × UpperIs (x ∷ l) t b
+    upper-more None U true e = (Some x, upper-here (subst T (sym e) tt) (every_map (λ (y : Float). T (lt t y) → ⊥) (λ (y : Float). T (lt t y) → T (le x y)) (λ y c u. absurd (c u)) l U))
+    upper-more None U false e = (None, (λ u. subst T e u, U))
+    upper-more (Some m) U false e = (Some m, record { fits = U.fits; listed = behind m U.listed; above = U.above; first = (λ u. absurd (subst T e u), U.first) })
+    upper-more (Some m) U true e =
         let u : T (lt t x) = subst T (sym e) tt in
         elim (le-or-lt m x U.fits fx (le-no-nan t m (lt→le t m U.above)).1 (le-no-nan t x (lt→le t x u)).1) [
-          | inl h ↦ (At m, record { fits = U.fits; listed = behind m U.listed; above = U.above; first = (λ _. h, U.first) })
-          | inr h ↦ (At x, upper-here u (every-zip Fits (λ (y : Float). T (lt t y) → T (le m y)) (λ (y : Float). T (lt t y) → T (le x y)) (λ y g q v. le_trans x m y fx U.fits g (lt→le x m h) (q v)) l f U.first))
+          | inl h ↦ (Some m, record { fits = U.fits; listed = behind m U.listed; above = U.above; first = (λ _. h, U.first) })
+          | inr h ↦ (Some x, upper-here u (every-zip Fits (λ (y : Float). T (lt t y) → T (le m y)) (λ (y : Float). T (lt t y) → T (le x y)) (λ y g q v. le_trans x m y fx U.fits g (lt→le x m h) (q v)) l f U.first))
         ]
 
-  pub lower-there : (l : List Float) → Every Fits l → (b : Bound) × LowerIs l t b
-  lower-there [] f = (Nothing, tt)
+  pub lower-there : (l : List Float) → Every Fits l → (b : Option Float) × LowerIs l t b
+  lower-there [] f = (None, tt)
   lower-there (x ∷ l) f = let r = lower-there l f.1 in lower-more x l f.0 f.1 r.0 r.1 (le x t) refl
 
-  pub upper-there : (l : List Float) → Every Fits l → (b : Bound) × UpperIs l t b
-  upper-there [] f = (Nothing, tt)
+  pub upper-there : (l : List Float) → Every Fits l → (b : Option Float) × UpperIs l t b
+  upper-there [] f = (None, tt)
   upper-there (x ∷ l) f = let r = upper-there l f.1 in upper-more x l f.0 f.1 r.0 r.1 (lt t x) refl

@@ -34,10 +34,7 @@ fn begins_at(cs: &[f64], sa: f64, ca: f64, sb: f64, cb: f64, t: f64, n: usize) -
     ensures nan_value { (result ≡ true) → n < length cs.now → is_beyond t (knot sa ca, knot sb cb) (get_or cs.now n nan) ≡ true }
     ensures n_in_bounds { (result ≡ false) → (n < length cs.now) × (is_beyond t (knot sa ca, knot sb cb) (get_or cs.now n nan) ≡ false) }
 {
-    if n < cs.len() {
-        return is_beyond(sa, ca, sb, cb, cs[n], t);
-    }
-    true
+    cs.len() <= n || is_beyond(sa, ca, sb, cb, cs[n], t)
 }
 
 // `n` is a place in the list or its end, and the sample before it, if there is one, lies before the place.
@@ -47,14 +44,10 @@ fn ends_before(cs: &[f64], sa: f64, ca: f64, sb: f64, cb: f64, t: f64, n: usize)
     if cs.len() < n {
         return false;
     }
-    if n == 0 {
-        return true;
-    }
-    let before = n - 1;
-    !is_beyond(sa, ca, sb, cb, cs[before], t)
+    n == 0 || !is_beyond(sa, ca, sb, cb, cs[n - 1], t)
 }
 
-// The place, by bisection.
+// The place, by bisection. Std's `partition_point` says its place of parted lists alone, and this one is right in any.
 fn search_crossing(cs: &[f64], sa: f64, ca: f64, sb: f64, cb: f64, t: f64) -> usize
     ensures { Crossing (is_beyond t (knot sa ca, knot sb cb)) cs.now result }
 {
@@ -76,22 +69,19 @@ pub fn crossing(cs: &[f64], sa: f64, ca: f64, sb: f64, cb: f64, t: f64, hint: us
     ensures { Crossing (is_beyond t (knot sa ca, knot sb cb)) cs.now result }
 {
     if !begins_at(cs, sa, ca, sb, cb, t, hint) {
-        let next = hint + 1;
-        if begins_at(cs, sa, ca, sb, cb, t, next) {
-            return next;
+        if begins_at(cs, sa, ca, sb, cb, t, hint + 1) {
+            return hint + 1;
         }
         return search_crossing(cs, sa, ca, sb, cb, t);
     }
     if ends_before(cs, sa, ca, sb, cb, t, hint) {
         return hint;
     }
-    if 0 < hint {
-        let before = hint - 1;
-        if begins_at(cs, sa, ca, sb, cb, t, before) {
-            if ends_before(cs, sa, ca, sb, cb, t, before) {
-                return before;
-            }
-        }
+    if 0 < hint
+        && begins_at(cs, sa, ca, sb, cb, t, hint - 1)
+        && ends_before(cs, sa, ca, sb, cb, t, hint - 1)
+    {
+        return hint - 1;
     }
     search_crossing(cs, sa, ca, sb, cb, t)
 }

@@ -9,18 +9,11 @@ pub mod search;
 ghost use Rattle.std.specs.Prelude.{◌≡◌, ◌<◌, length};
 ghost use Rattle.window.specs.Windows.{min_of, max_of};
 
-// A neighbour of a time.
-#[derive(Clone, Copy)]
-pub enum Bound {
-    At(f64),
-    Nothing,
-}
-
-// The neighbours of a time, as far as they are found.
+// The neighbours of a time, as far as there are any.
 #[derive(Clone, Copy)]
 pub struct Neighbours {
-    pub lower: Bound,
-    pub upper: Bound,
+    pub lower: Option<f64>,
+    pub upper: Option<f64>,
 }
 
 // The first window reaches down without end.
@@ -29,7 +22,7 @@ pub fn window_min(starts: &[f64], p: usize) -> f64
     ensures { result ≡ min_of starts.now p }
 {
     if p == 0 {
-        return -1.0 / 0.0;
+        return f64::NEG_INFINITY;
     }
     starts[p]
 }
@@ -39,9 +32,8 @@ pub fn window_max(starts: &[f64], p: usize) -> f64
     requires { p < length starts.now }
     ensures { result ≡ max_of starts.now p }
 {
-    let next = p + 1;
-    if next < starts.len() {
-        return starts[next];
+    if p + 1 < starts.len() {
+        return starts[p + 1];
     }
-    1.0 / 0.0
+    f64::INFINITY
 }

@@ -11,10 +11,10 @@ ghost use Rattle.window.specs.search.Latest.{LatestOf};
 ghost use Rattle.window.specs.search.Reaches.{Searchable, PastAll, times_of, Reached, Around};
 ghost use Rattle.window.specs.search.Windowed.{bounds_of, starts_of, window_times, Nearing};
 
+use crate::Neighbours;
 use crate::crossing::crossing;
 use crate::nearest::candidate::with_near;
 use crate::nearest::{near_crossing, near_times};
-use crate::{Bound, Neighbours};
 use definitions::Source;
 use gf::interval::Interval;
 use latest::latest_before;
@@ -35,8 +35,8 @@ pub struct Window {
 // The neighbours of a time, the place of the last knot that is at most it, and the place of a sample beside it: hints for the next search, on which no contract rests.
 #[derive(Clone, Copy)]
 pub struct NeighboursAndHints {
-    pub lower: Bound,
-    pub upper: Bound,
+    pub lower: Option<f64>,
+    pub upper: Option<f64>,
     pub knot: usize,
     pub sample: usize,
 }
@@ -57,31 +57,27 @@ fn near_segment(
 {
     let s = segment_at(xs, ys, j);
     let n = crossing(cs, s.a.x, s.a.y, s.b.x, s.b.y, t, known.sample);
-    let low = known.lower;
-    let high = known.upper;
     let both = Neighbours {
-        lower: low,
-        upper: high,
+        lower: known.lower,
+        upper: known.upper,
     };
     let found = near_crossing(both, s, cs, n, w, t);
-    let lower = found.lower;
-    let upper = found.upper;
     NeighboursAndHints {
-        lower: lower,
-        upper: upper,
+        lower: found.lower,
+        upper: found.upper,
         knot: known.knot,
         sample: n,
     }
 }
 
 // No time up to `top` is above the lower neighbour.
-fn is_past(lower: Bound, top: f64) -> bool
+fn is_past(lower: Option<f64>, top: f64) -> bool
     ensures { (result ≡ true) → PastAll lower top }
 {
-    if let Bound::At(l) = lower {
-        return top <= l;
+    match lower {
+        Some(l) => top <= l,
+        None => false,
     }
-    false
 }
 
 // With those of the segments before the knot at `to`, from the last one down, until none can reach past the lower neighbour. That neighbour is not below the
@@ -105,15 +101,10 @@ fn near_before(
     ensures { Reached t w xs.now ys.now cs.now 0 to (bounds_of known) (bounds_of result) }
 {
     let mut r = known;
-    let mut j = to;
-    while j > 0 {
-        if j <= i {
-            let low = r.lower;
-            if is_past(low, latest_before(xs, ys, latest, j)) {
-                return r;
-            }
+    for j in (0..to).rev() {
+        if j < i && is_past(r.lower, latest_before(xs, ys, latest, j + 1)) {
+            return r;
         }
-        j -= 1;
         r = near_segment(r, xs, ys, cs, j, w, t);
     }
     r
@@ -124,9 +115,8 @@ fn next_place(xs: &[f64], i: usize) -> usize
     requires { i < length xs.now }
     ensures { (i ≤ result) × (result < length xs.now) × (i + 1 < length xs.now → i < result) }
 {
-    let next = i + 1;
-    if next < xs.len() {
-        return next;
+    if i + 1 < xs.len() {
+        return i + 1;
     }
     i
 }
@@ -149,13 +139,11 @@ fn near_around(
     requires fact_4 { i ≡ last_at_most xs.now t }
     ensures { Around t w xs.now ys.now cs.now known (bounds_of result) }
 {
-    let lower = known.lower;
-    let upper = known.upper;
     let hinted = NeighboursAndHints {
-        lower: lower,
-        upper: upper,
+        lower: known.lower,
+        upper: known.upper,
         knot: i,
-        sample: sample,
+        sample,
     };
     let to = next_place(xs, i);
     near_before(hinted, xs, ys, latest, cs, i, to, w, t)
@@ -165,14 +153,13 @@ fn near_around(
 fn near_starts(w: Window, t: f64) -> Neighbours
     ensures { Searched t (starts_of w) nothing result }
 {
-    let max = w.max;
     let none = Neighbours {
-        lower: Bound::Nothing,
-        upper: Bound::Nothing,
+        lower: None,
+        upper: None,
     };
     let first = with_near(none, w.start, t);
-    if max < 1.0 / 0.0 {
-        return with_near(first, max, t);
+    if w.max < f64::INFINITY {
+        return with_near(first, w.max, t);
     }
     first
 }
@@ -192,18 +179,17 @@ pub fn neighbours_in(
     requires { Nearing xs.now ys.now latest.now cs.now w t }
     ensures { NeighboursAre (window_times xs.now ys.now cs.now w) t (bounds_of result) }
 {
-    let min = w.min;
-    let max = w.max;
-    let inside = Interval { min: min, max: max };
+    let inside = Interval {
+        min: w.min,
+        max: w.max,
+    };
     let starts = near_starts(w, t);
     if xs.len() == 0 {
         let place = lists::near::last_at_most_near(cs, t, sample);
         let found = near_times(starts, cs, place, inside, t);
-        let lower = found.lower;
-        let upper = found.upper;
         return NeighboursAndHints {
-            lower: lower,
-            upper: upper,
+            lower: found.lower,
+            upper: found.upper,
             knot: 0,
             sample: place,
         };

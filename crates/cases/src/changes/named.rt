@@ -1,4 +1,5 @@
 // The calls that may change the dispatcher: each reads its name and its fields, and hands back what the operation replied.
+ghost use Rattle.definitions.specs.Refusals.{number_in};
 ghost use Rattle.pages.specs.Pages.{pages, Made};
 ghost use Rattle.set_changes.specs.Promises.{Accepts, Expands};
 ghost use Rattle.cases.specs.Changes.{explicit_of, template_of};
@@ -9,19 +10,18 @@ use crate::changes::{ExplicitRead, TemplateRead, read_explicit, read_template};
 use crate::lines::held::{DEFAULTS, ENTRIES, KNOT_ENTRIES, NAMES, SHAPES};
 use crate::lines::limits::{BLOCKS, BYTES, KNOTS, NAME, STARTS};
 use crate::lines::named_calls::NamedChange;
-use crate::lines::{named_calls, naming};
+use crate::lines::naming;
 use crate::prepared;
 use crate::prepared::Slots;
-use crate::text::{first_bytes, first_doubles};
-use definitions::{Default, LayerOffset};
+use crate::text::{ended, first, read_bytes, read_double};
+use definitions::LayerOffset;
+use definitions::refusal::Refusal;
 
-// What a line is answered. Where it could not be read, or its slot has no set, no call was made.
+// What a line that could be read is answered. Where its slot has no set, no call was made.
 #[derive(Clone, Copy)]
 pub(crate) enum Said {
-    Unreadable,
     Empty,
-    // The number that refuses the call, or 0.
-    Number(u8),
+    Replied(Result<(), Refusal>),
 }
 
 fn accept_read(
@@ -41,15 +41,10 @@ fn accept_read(
     newxs: &[f64],
     newys: &[f64],
     newblocks: &[f64],
-) -> u8
+) -> Result<(), Refusal>
     requires { Made (pages starts.old numbers.old xs.old ys.old blocks.old defaults.old counts.old bytes.old) }
-    ensures { Accepts (pages starts.old numbers.old xs.old ys.old blocks.old defaults.old counts.old bytes.old) name.now declares (explicit_of read newstarts.now newnumbers.now newxs.now newys.now newblocks.now) result (pages starts.new numbers.new xs.new ys.new blocks.new defaults.new counts.new bytes.new) }
+    ensures { Accepts (pages starts.old numbers.old xs.old ys.old blocks.old defaults.old counts.old bytes.old) name.now declares (explicit_of read newstarts.now newnumbers.now newxs.now newys.now newblocks.now) (number_in result) (pages starts.new numbers.new xs.new ys.new blocks.new defaults.new counts.new bytes.new) }
 {
-    let filling = read.filling;
-    let default = Default {
-        mark: filling.mark,
-        value: filling.value,
-    };
     set_changes::accept(
         starts,
         numbers,
@@ -62,13 +57,13 @@ fn accept_read(
         name,
         declares,
         read.clips,
-        first_doubles(newstarts, read.starts),
-        first_doubles(newnumbers, read.numbers),
-        first_doubles(newxs, read.xs),
-        first_doubles(newys, read.ys),
-        first_doubles(newblocks, read.blocks),
-        default,
-        filling.interpolate,
+        first(newstarts, read.starts),
+        first(newnumbers, read.numbers),
+        first(newxs, read.xs),
+        first(newys, read.ys),
+        first(newblocks, read.blocks),
+        read.manifest.default,
+        read.manifest.interpolate,
     )
 }
 
@@ -83,7 +78,7 @@ fn explicit(
     defaults: &mut [f64; DEFAULTS],
     counts: &mut [u64; SHAPES],
     bytes: &mut [u8; NAMES],
-) -> Said
+) -> Option<Said>
     requires { Made (pages starts.old numbers.old xs.old ys.old blocks.old defaults.old counts.old bytes.old) }
     ensures { Leaves (pages starts.old numbers.old xs.old ys.old blocks.old defaults.old counts.old bytes.old) result (pages starts.new numbers.new xs.new ys.new blocks.new defaults.new counts.new bytes.new) }
 {
@@ -93,7 +88,7 @@ fn explicit(
     let mut newxs = [0.0f64; KNOTS];
     let mut newys = [0.0f64; KNOTS];
     let mut newblocks = [0.0f64; BLOCKS];
-    let named = naming::read(line, at, &mut name);
+    let named = naming::read(line, at, &mut name)?;
     let read = read_explicit(
         line,
         named.at,
@@ -102,11 +97,8 @@ fn explicit(
         &mut newxs,
         &mut newys,
         &mut newblocks,
-    );
-    if !crate::text::is_end(line, read.at) {
-        return Said::Unreadable;
-    }
-    let number = accept_read(
+    )?;
+    let told = accept_read(
         starts,
         numbers,
         xs,
@@ -115,7 +107,7 @@ fn explicit(
         defaults,
         counts,
         bytes,
-        first_bytes(&name, named.count),
+        first(&name, named.count),
         named.declares,
         read,
         &newstarts,
@@ -124,7 +116,7 @@ fn explicit(
         &newys,
         &newblocks,
     );
-    Said::Number(number)
+    Some(Said::Replied(told))
 }
 
 fn expand_read(
@@ -141,16 +133,10 @@ fn expand_read(
     read: TemplateRead,
     template: &[u8],
     newblocks: &[f64],
-) -> u8
+) -> Result<(), Refusal>
     requires { Made (pages starts.old numbers.old xs.old ys.old blocks.old defaults.old counts.old bytes.old) }
-    ensures { Expands (pages starts.old numbers.old xs.old ys.old blocks.old defaults.old counts.old bytes.old) name.now declares (template_of read template.now newblocks.now) result (pages starts.new numbers.new xs.new ys.new blocks.new defaults.new counts.new bytes.new) }
+    ensures { Expands (pages starts.old numbers.old xs.old ys.old blocks.old defaults.old counts.old bytes.old) name.now declares (template_of read template.now newblocks.now) (number_in result) (pages starts.new numbers.new xs.new ys.new blocks.new defaults.new counts.new bytes.new) }
 {
-    let filling = read.filling;
-    let times = read.times;
-    let default = Default {
-        mark: filling.mark,
-        value: filling.value,
-    };
     set_changes::accept_template(
         starts,
         numbers,
@@ -162,12 +148,12 @@ fn expand_read(
         bytes,
         name,
         declares,
-        first_bytes(template, read.bytes),
-        times,
+        first(template, read.bytes),
+        read.times,
         read.offset,
-        first_doubles(newblocks, read.blocks),
-        default,
-        filling.interpolate,
+        first(newblocks, read.blocks),
+        read.manifest.default,
+        read.manifest.interpolate,
     )
 }
 
@@ -182,19 +168,16 @@ fn template(
     defaults: &mut [f64; DEFAULTS],
     counts: &mut [u64; SHAPES],
     bytes: &mut [u8; NAMES],
-) -> Said
+) -> Option<Said>
     requires { Made (pages starts.old numbers.old xs.old ys.old blocks.old defaults.old counts.old bytes.old) }
     ensures { Leaves (pages starts.old numbers.old xs.old ys.old blocks.old defaults.old counts.old bytes.old) result (pages starts.new numbers.new xs.new ys.new blocks.new defaults.new counts.new bytes.new) }
 {
     let mut name = [0u8; NAME];
     let mut template = [0u8; BYTES];
     let mut newblocks = [0.0f64; BLOCKS];
-    let named = naming::read(line, at, &mut name);
-    let read = read_template(line, named.at, &mut template, &mut newblocks);
-    if !crate::text::is_end(line, read.at) {
-        return Said::Unreadable;
-    }
-    let number = expand_read(
+    let named = naming::read(line, at, &mut name)?;
+    let read = read_template(line, named.at, &mut template, &mut newblocks)?;
+    let told = expand_read(
         starts,
         numbers,
         xs,
@@ -203,13 +186,13 @@ fn template(
         defaults,
         counts,
         bytes,
-        first_bytes(&name, named.count),
+        first(&name, named.count),
         named.declares,
         read,
         &template,
         &newblocks,
     );
-    Said::Number(number)
+    Some(Said::Replied(told))
 }
 
 fn retime(
@@ -223,22 +206,20 @@ fn retime(
     defaults: &mut [f64; DEFAULTS],
     counts: &mut [u64; SHAPES],
     bytes: &mut [u8; NAMES],
-) -> Said
+) -> Option<Said>
     requires { Made (pages starts.old numbers.old xs.old ys.old blocks.old defaults.old counts.old bytes.old) }
     ensures { Leaves (pages starts.old numbers.old xs.old ys.old blocks.old defaults.old counts.old bytes.old) result (pages starts.new numbers.new xs.new ys.new blocks.new defaults.new counts.new bytes.new) }
 {
     let mut name = [0u8; NAME];
-    let named = crate::text::read_bytes(line, at, &mut name);
-    let offset = crate::text::read_double(line, named.at);
-    let scale = crate::text::read_double(line, offset.at);
-    if !crate::text::is_end(line, scale.at) {
-        return Said::Unreadable;
-    }
+    let named = read_bytes(line, at, &mut name)?;
+    let offset = read_double(line, named.at)?;
+    let scale = read_double(line, offset.at)?;
+    ended(line, scale.at)?;
     let o = LayerOffset {
         offset: offset.value,
         scale: scale.value,
     };
-    let number = set_changes::retime(
+    let told = set_changes::retime(
         starts,
         numbers,
         xs,
@@ -247,10 +228,10 @@ fn retime(
         defaults,
         counts,
         bytes,
-        first_bytes(&name, named.count),
+        first(&name, named.count),
         o,
     );
-    Said::Number(number)
+    Some(Said::Replied(told))
 }
 
 // The set of a slot under a name.
@@ -266,23 +247,19 @@ fn install(
     defaults: &mut [f64; DEFAULTS],
     counts: &mut [u64; SHAPES],
     bytes: &mut [u8; NAMES],
-) -> Said
+) -> Option<Said>
     requires fact_1 { MadeSlots slots }
     requires fact_2 { Made (pages starts.old numbers.old xs.old ys.old blocks.old defaults.old counts.old bytes.old) }
     ensures { Leaves (pages starts.old numbers.old xs.old ys.old blocks.old defaults.old counts.old bytes.old) result (pages starts.new numbers.new xs.new ys.new blocks.new defaults.new counts.new bytes.new) }
 {
     let mut name = [0u8; NAME];
-    let named = naming::read(line, at, &mut name);
-    let slot = prepared::slot_at(line, named.at);
-    if !crate::text::is_end(line, slot.at) {
-        return Said::Unreadable;
-    }
-    let i = slot.value as usize;
-    if !prepared::holds(slots, i) {
-        return Said::Empty;
-    }
-    let set = prepared::get(slots, i);
-    let number = set_changes::install(
+    let named = naming::read(line, at, &mut name)?;
+    let slot = prepared::slot_at(line, named.at)?;
+    ended(line, slot.at)?;
+    let Some(set) = prepared::get(slots, slot.value) else {
+        return Some(Said::Empty);
+    };
+    let told = set_changes::install(
         starts,
         numbers,
         xs,
@@ -291,14 +268,16 @@ fn install(
         defaults,
         counts,
         bytes,
-        first_bytes(&name, named.count),
+        first(&name, named.count),
         named.declares,
         set,
     );
-    Said::Number(number)
+    Some(Said::Replied(told))
 }
 
+// What the operation replied. Where the line could not be read none was asked.
 pub(crate) fn change(
+    call: NamedChange,
     line: &[u8],
     slots: Slots,
     starts: &mut [f64; ENTRIES],
@@ -309,12 +288,12 @@ pub(crate) fn change(
     defaults: &mut [f64; DEFAULTS],
     counts: &mut [u64; SHAPES],
     bytes: &mut [u8; NAMES],
-) -> Said
+) -> Option<Said>
     requires fact_1 { MadeSlots slots }
     requires fact_2 { Made (pages starts.old numbers.old xs.old ys.old blocks.old defaults.old counts.old bytes.old) }
     ensures { Leaves (pages starts.old numbers.old xs.old ys.old blocks.old defaults.old counts.old bytes.old) result (pages starts.new numbers.new xs.new ys.new blocks.new defaults.new counts.new bytes.new) }
 {
-    match named_calls::change_of(line) {
+    match call {
         NamedChange::Explicit(at) => {
             explicit(
                 line, at, starts, numbers, xs, ys, blocks, defaults, counts, bytes,
@@ -335,6 +314,5 @@ pub(crate) fn change(
                 line, at, slots, starts, numbers, xs, ys, blocks, defaults, counts, bytes,
             )
         }
-        NamedChange::Nothing => Said::Unreadable,
     }
 }

@@ -1,7 +1,7 @@
 // Standard input as lines, in one buffer: its bytes from `from` to `end` are still to be answered.
-ghost use Rattle.std.specs.Prelude.{◌≤◌, length};
+ghost use Rattle.std.specs.Prelude.{◌≡◌, ◌≤◌, length};
 
-use crate::text::{Stop, first_bytes, scan};
+use crate::text::{Stop, first, part, scan, without_comment};
 use std::io::{Read, Stdin};
 
 #[derive(Clone, Copy)]
@@ -24,7 +24,7 @@ pub(crate) fn empty() -> Buffer {
 
 // The place of the next line end, `end` or beyond if there is none.
 pub(crate) fn line_end(input: &[u8], buffer: Buffer) -> usize {
-    scan(first_bytes(input, buffer.end), buffer.from, Stop::LineEnd)
+    scan(first(input, buffer.end), buffer.from, Stop::LineEnd)
 }
 
 // The line up to `to`, without its comment; empty where the end of a skipped line stands there.
@@ -33,7 +33,7 @@ pub(crate) fn line(input: &[u8], buffer: Buffer, to: usize) -> &[u8] {
     if buffer.skips {
         return &input[0..0];
     }
-    crate::text::without_comment(crate::text::part(input, from, to))
+    without_comment(part(input, from, to))
 }
 
 // The line that ends at `to` is answered.
@@ -50,18 +50,15 @@ pub(crate) fn past(buffer: Buffer, to: usize) -> Buffer {
 }
 
 // Moves the bytes from `from` to `end` to the front, and says how many they are.
-fn to_front(input: &mut [u8], from: usize, end: usize) -> usize {
-    let mut i: usize = 0;
-    let mut j = from;
-    while j < end {
-        if j >= input.len() {
-            return i;
-        }
-        input[i] = input[j];
-        i += 1;
-        j += 1;
+fn to_front(input: &mut [u8], from: usize, end: usize) -> usize
+    ensures { length input.new ≡ length input.old }
+{
+    let end = end.min(input.len());
+    if end < from {
+        return 0;
     }
-    i
+    input.copy_within(from..end, 0);
+    end - from
 }
 
 // Reads at most as much as there is room for, and says how much: nothing at the input's end, and where a read fails, which ends it.
@@ -69,10 +66,7 @@ fn read(from: Stdin, room: &mut [u8]) -> usize
     ensures { result ≤ length room.new }
 {
     let mut from = from;
-    match from.read(room) {
-        Ok(n) => n,
-        Err(_) => 0,
-    }
+    from.read(room).unwrap_or(0)
 }
 
 // Reads more behind the first `kept` bytes. Where the input ends, its last line gets an end.

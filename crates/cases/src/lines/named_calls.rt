@@ -1,5 +1,6 @@
 // Which call to the dispatcher a line makes, and where its arguments begin. They stand apart, since they alone need its lists.
-use crate::text::{NOWHERE, after};
+use crate::lines::calls::behind_first;
+use crate::text::word;
 
 #[derive(Clone, Copy)]
 pub(crate) enum NamedChange {
@@ -7,7 +8,6 @@ pub(crate) enum NamedChange {
     Template(usize),
     Retime(usize),
     Install(usize),
-    Nothing,
 }
 
 #[derive(Clone, Copy)]
@@ -17,69 +17,27 @@ pub(crate) enum NamedQuestion {
     Track(usize),
     Sets(usize),
     Dump(usize),
-    Nothing,
 }
 
-pub(crate) fn change_of(line: &[u8]) -> NamedChange {
-    let at = after(line, 0, b"dexplicit");
-    if at != NOWHERE {
-        return NamedChange::Explicit(at);
-    }
-    let at = after(line, 0, b"dtemplate");
-    if at != NOWHERE {
-        return NamedChange::Template(at);
-    }
-    let at = after(line, 0, b"dretime");
-    if at != NOWHERE {
-        return NamedChange::Retime(at);
-    }
-    let at = after(line, 0, b"dinstall");
-    if at != NOWHERE {
-        return NamedChange::Install(at);
-    }
-    NamedChange::Nothing
-}
-
-pub(crate) fn question_of(line: &[u8]) -> NamedQuestion {
-    let at = after(line, 0, b"dvalue");
-    if at != NOWHERE {
-        return NamedQuestion::Value(false, at);
-    }
-    let at = after(line, 0, b"dread");
-    if at != NOWHERE {
-        return NamedQuestion::Value(true, at);
-    }
-    let at = after(line, 0, b"dtrack");
-    if at != NOWHERE {
-        return NamedQuestion::Track(at);
-    }
-    let at = after(line, 0, b"dsets");
-    if at != NOWHERE {
-        return NamedQuestion::Sets(at);
-    }
-    let at = after(line, 0, b"ddump");
-    if at != NOWHERE {
-        return NamedQuestion::Dump(at);
-    }
-    NamedQuestion::Nothing
-}
-
-pub(crate) fn changes(line: &[u8]) -> bool {
-    match change_of(line) {
-        NamedChange::Explicit(_) => true,
-        NamedChange::Template(_) => true,
-        NamedChange::Retime(_) => true,
-        NamedChange::Install(_) => true,
-        NamedChange::Nothing => false,
+pub(crate) fn change_of(line: &[u8]) -> Option<NamedChange> {
+    let at = behind_first(line);
+    match word(line, 0) {
+        b"dexplicit" => Some(NamedChange::Explicit(at)),
+        b"dtemplate" => Some(NamedChange::Template(at)),
+        b"dretime" => Some(NamedChange::Retime(at)),
+        b"dinstall" => Some(NamedChange::Install(at)),
+        _ => None,
     }
 }
 
-pub(crate) fn asks(line: &[u8]) -> bool {
-    match question_of(line) {
-        NamedQuestion::Value(_, _) => true,
-        NamedQuestion::Track(_) => true,
-        NamedQuestion::Sets(_) => true,
-        NamedQuestion::Dump(_) => true,
-        NamedQuestion::Nothing => false,
+pub(crate) fn question_of(line: &[u8]) -> Option<NamedQuestion> {
+    let at = behind_first(line);
+    match word(line, 0) {
+        b"dvalue" => Some(NamedQuestion::Value(false, at)),
+        b"dread" => Some(NamedQuestion::Value(true, at)),
+        b"dtrack" => Some(NamedQuestion::Track(at)),
+        b"dsets" => Some(NamedQuestion::Sets(at)),
+        b"ddump" => Some(NamedQuestion::Dump(at)),
+        _ => None,
     }
 }

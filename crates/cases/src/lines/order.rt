@@ -2,54 +2,30 @@
 ghost use Rattle.cases.specs.Lending.{LendsOrder};
 
 use crate::lines::held::{ALL_SAMPLES, NAME_ENDS_AT};
-use crate::lines::lent::{Lending, Lent};
+use crate::lines::lent::Lent;
 use crate::lines::limits::{LISTED, ORDER};
-use crate::text::{NOWHERE, after, copy_bytes, copy_numbers};
+use crate::text::{after, copy, ended, numbers_after, read_bytes};
 
-// Whether a list is given, and how much of its two lists is in use.
+// How much of its two lists is in use.
 #[derive(Clone, Copy)]
 pub(crate) struct Order {
-    pub given: bool,
     pub ends: usize,
     pub bytes: usize,
 }
 
-// The list of a line, and before it whether the line could be read.
-#[derive(Clone, Copy)]
-struct Ordered {
-    readable: bool,
-    order: Order,
-}
-
-pub(crate) fn none() -> Order {
-    Order {
-        given: false,
-        ends: 0,
-        bytes: 0,
-    }
-}
-
 // `none`, or `ends N e.. bytes BYTES`
-fn read_into(line: &[u8], at: usize, ends: &mut [u64], bytes: &mut [u8]) -> Ordered {
-    let absent = after(line, at, b"none");
-    if absent != NOWHERE {
-        let order = none();
-        return Ordered {
-            readable: crate::text::is_end(line, absent),
-            order,
-        };
+fn read_into(line: &[u8], at: usize, ends: &mut [u64], bytes: &mut [u8]) -> Option<Option<Order>> {
+    if let Some(absent) = after(line, at, b"none") {
+        ended(line, absent)?;
+        return Some(None);
     }
-    let e = crate::text::numbers_after(line, at, b"ends", ends);
-    let b = crate::text::read_bytes(line, after(line, e.at, b"bytes"), bytes);
-    let order = Order {
-        given: true,
+    let e = numbers_after(line, at, b"ends", ends)?;
+    let b = read_bytes(line, after(line, e.at, b"bytes")?, bytes)?;
+    ended(line, b.at)?;
+    Some(Some(Order {
         ends: e.count,
         bytes: b.count,
-    };
-    Ordered {
-        readable: crate::text::is_end(line, b.at),
-        order,
-    }
+    }))
 }
 
 // Lends the list of a line in place of the one that was lent. A line that is not readable changes nothing.
@@ -59,32 +35,13 @@ pub(crate) fn lend(
     lent: Lent,
     ends: &mut [u64],
     marks: &mut [u8],
-) -> Lending
-    ensures { LendsOrder lent result ends.old ends.new marks.old marks.new }
+) -> Option<Lent>
+    ensures { LendsOrder result ends.old ends.new marks.old marks.new }
 {
     let mut newends = [0u64; ORDER];
     let mut newbytes = [0u8; LISTED];
-    let read = read_into(line, at, &mut newends, &mut newbytes);
-    if !read.readable {
-        return Lending {
-            readable: false,
-            lent,
-        };
-    }
-    copy_numbers(&newends, ends, NAME_ENDS_AT);
-    copy_bytes(&newbytes, marks, ALL_SAMPLES);
-    let order = read.order;
-    let parted = lent.parted;
-    let now = Lent {
-        ends: lent.ends,
-        times: lent.times,
-        values: lent.values,
-        marks: lent.marks,
-        order,
-        parted,
-    };
-    Lending {
-        readable: true,
-        lent: now,
-    }
+    let order = read_into(line, at, &mut newends, &mut newbytes)?;
+    copy(&newends, ends, NAME_ENDS_AT);
+    copy(&newbytes, marks, ALL_SAMPLES);
+    Some(Lent { order, ..lent })
 }

@@ -2,9 +2,9 @@
 ghost use Rattle.cases.specs.Lending.{Lends};
 
 use crate::lines::held::COUNTS_AT;
-use crate::lines::lent::{Lending, Lent};
+use crate::lines::lent::Lent;
 use crate::lines::limits::{COUNTS, ENDS, PARTED, PARTED_ENDS, SAMPLES};
-use crate::text::{copy_bytes, copy_doubles, copy_numbers};
+use crate::text::{copy, doubles_after, ended, marks_after, numbers_after};
 
 // How much of each of the five lists is in use.
 #[derive(Clone, Copy)]
@@ -14,13 +14,6 @@ pub(crate) struct Parted {
     pub times: usize,
     pub values: usize,
     pub marks: usize,
-}
-
-// The samples of a line, and before them whether the line could be read.
-#[derive(Clone, Copy)]
-struct PartedRead {
-    readable: bool,
-    parted: Parted,
 }
 
 pub(crate) fn none() -> Parted {
@@ -42,26 +35,23 @@ fn read_into(
     times: &mut [f64],
     values: &mut [f64],
     marks: &mut [u8],
-) -> PartedRead {
-    let n = crate::text::numbers_after(line, at, b"counts", counts);
-    let e = crate::text::numbers_after(line, n.at, b"ends", ends);
-    let t = crate::text::doubles_after(line, e.at, b"t", times);
-    let v = crate::text::doubles_after(line, t.at, b"v", values);
-    let m = crate::text::marks_after(line, v.at, b"m", marks);
-    let parted = Parted {
+) -> Option<Parted> {
+    let n = numbers_after(line, at, b"counts", counts)?;
+    let e = numbers_after(line, n.at, b"ends", ends)?;
+    let t = doubles_after(line, e.at, b"t", times)?;
+    let v = doubles_after(line, t.at, b"v", values)?;
+    let m = marks_after(line, v.at, b"m", marks)?;
+    ended(line, m.at)?;
+    Some(Parted {
         counts: n.count,
         ends: e.count,
         times: t.count,
         values: v.count,
         marks: m.count,
-    };
-    PartedRead {
-        readable: crate::text::is_end(line, m.at),
-        parted,
-    }
+    })
 }
 
-// Lends the samples of a line in place of those that were lent. A line that is not readable changes nothing.
+// Lends the samples of a line in place of those that were lent. The line is read into lists apart first: one that is not readable changes nothing.
 pub(crate) fn lend(
     line: &[u8],
     at: usize,
@@ -70,15 +60,15 @@ pub(crate) fn lend(
     times: &mut [f64],
     values: &mut [f64],
     marks: &mut [u8],
-) -> Lending
-    ensures { Lends lent result ends.old ends.new times.old times.new values.old values.new marks.old marks.new }
+) -> Option<Lent>
+    ensures { Lends result ends.old ends.new times.old times.new values.old values.new marks.old marks.new }
 {
     let mut newcounts = [0u64; COUNTS];
     let mut newends = [0u64; PARTED_ENDS];
     let mut newtimes = [0.0f64; PARTED];
     let mut newvalues = [0.0f64; PARTED];
     let mut newmarks = [0u8; PARTED];
-    let read = read_into(
+    let parted = read_into(
         line,
         at,
         &mut newcounts,
@@ -86,30 +76,11 @@ pub(crate) fn lend(
         &mut newtimes,
         &mut newvalues,
         &mut newmarks,
-    );
-    if !read.readable {
-        return Lending {
-            readable: false,
-            lent,
-        };
-    }
-    copy_numbers(&newcounts, ends, COUNTS_AT);
-    copy_numbers(&newends, ends, ENDS);
-    copy_doubles(&newtimes, times, SAMPLES);
-    copy_doubles(&newvalues, values, SAMPLES);
-    copy_bytes(&newmarks, marks, SAMPLES);
-    let order = lent.order;
-    let parted = read.parted;
-    let now = Lent {
-        ends: lent.ends,
-        times: lent.times,
-        values: lent.values,
-        marks: lent.marks,
-        order,
-        parted,
-    };
-    Lending {
-        readable: true,
-        lent: now,
-    }
+    )?;
+    copy(&newcounts, ends, COUNTS_AT);
+    copy(&newends, ends, ENDS);
+    copy(&newtimes, times, SAMPLES);
+    copy(&newvalues, values, SAMPLES);
+    copy(&newmarks, marks, SAMPLES);
+    Some(Lent { parted, ..lent })
 }

@@ -1,60 +1,63 @@
-// The replies that several calls share, each a whole line.
-use crate::text::Replies;
+// The replies that several calls share, each a whole line, and parts of them.
+use crate::text::{Replies, bits_of};
+use definitions::refusal::Refusal;
 
-pub(crate) fn unreadable(out: &mut Replies, full: usize) -> usize {
-    crate::text::put(out, full, b"unreadable\n")
-}
-
-pub(crate) fn refused(number: u8, out: &mut Replies, full: usize) -> usize {
-    let n = crate::text::put(out, full, b"refused ");
-    let n = crate::text::put_decimal(out, n, number as u64);
-    crate::text::put_byte(out, n, b'\n')
-}
-
-// Of a call that may change what stands.
-pub(crate) fn changed(number: u8, out: &mut Replies, full: usize) -> usize {
-    if number == 0 {
-        return crate::text::put(out, full, b"ok\n");
+impl Replies {
+    pub(crate) fn unreadable(&mut self) {
+        self.put(b"unreadable\n");
     }
-    refused(number, out, full)
-}
 
-// Of a slot that has no set.
-pub(crate) fn empty(out: &mut Replies, full: usize) -> usize {
-    crate::text::put(out, full, b"empty\n")
-}
+    pub(crate) fn refused(&mut self, why: Refusal) {
+        self.put(b"refused ");
+        self.put_decimal(u64::from(u8::from(why)));
+        self.put_byte(b'\n');
+    }
 
-pub(crate) fn case_named(name: &[u8], out: &mut Replies, full: usize) -> usize {
-    let n = crate::text::put(out, full, b"case ");
-    let n = crate::text::put(out, n, name);
-    crate::text::put_byte(out, n, b'\n')
-}
+    // Of a call that may change what stands.
+    pub(crate) fn changed(&mut self, refusal: Option<Refusal>) {
+        match refusal {
+            Some(why) => self.refused(why),
+            None => self.put(b"ok\n"),
+        }
+    }
 
-// A blank and a number.
-pub(crate) fn decimal(value: u64, out: &mut Replies, full: usize) -> usize {
-    let n = crate::text::put_byte(out, full, b' ');
-    crate::text::put_decimal(out, n, value)
-}
+    // Of a slot that has no set.
+    pub(crate) fn empty(&mut self) {
+        self.put(b"empty\n");
+    }
 
-// A blank and a mark.
-pub(crate) fn mark(value: u8, out: &mut Replies, full: usize) -> usize {
-    decimal(value as u64, out, full)
-}
+    pub(crate) fn case_named(&mut self, name: &[u8]) {
+        self.put(b"case ");
+        self.put(name);
+        self.put_byte(b'\n');
+    }
 
-// A blank and a double's bits.
-pub(crate) fn bits(value: u64, out: &mut Replies, full: usize) -> usize {
-    let n = crate::text::put_byte(out, full, b' ');
-    crate::text::put_bits(out, n, value)
-}
+    // A blank and a number.
+    pub(crate) fn decimal(&mut self, value: u64) {
+        self.put_byte(b' ');
+        self.put_decimal(value);
+    }
 
-// A blank and a double.
-pub(crate) fn double(value: f64, out: &mut Replies, full: usize) -> usize {
-    bits(crate::text::bits_of(value), out, full)
-}
+    // A blank and a mark.
+    pub(crate) fn mark(&mut self, value: u8) {
+        self.decimal(u64::from(value));
+    }
 
-// A track's head, behind the word of its call.
-pub(crate) fn head(word: &[u8], kind: u8, value: f64, out: &mut Replies, full: usize) -> usize {
-    let n = crate::text::put(out, full, word);
-    let n = mark(kind, out, n);
-    double(value, out, n)
+    // A blank and a double's bits.
+    pub(crate) fn bits(&mut self, value: u64) {
+        self.put_byte(b' ');
+        self.put_bits(value);
+    }
+
+    // A blank and a double.
+    pub(crate) fn double(&mut self, value: f64) {
+        self.bits(bits_of(value));
+    }
+
+    // A track's head, behind the word of its call.
+    pub(crate) fn head(&mut self, word: &[u8], kind: u8, value: f64) {
+        self.put(word);
+        self.mark(kind);
+        self.double(value);
+    }
 }

@@ -1,32 +1,17 @@
 // How much of the lent output lists a question may use.
-ghost use Rattle.std.specs.Prelude.{◌≡◌, min};
-
-use crate::text::Listed;
+use crate::text::{Listed, is_end, read_decimal};
 
 // The line's last word, at most `most`, or `room` if the line has no more words.
-pub(crate) fn slots(line: &[u8], at: usize, room: usize, most: usize) -> Listed {
-    if crate::text::is_end(line, at) {
-        return Listed { at, count: room };
+pub(crate) fn slots(line: &[u8], at: usize, room: usize, most: usize) -> Option<Listed> {
+    if is_end(line, at) {
+        return Some(Listed { at, count: room });
     }
-    let n = crate::text::read_decimal(line, at);
-    let count = n.value;
-    if count > most as u64 {
-        return Listed {
-            at: crate::text::NOWHERE,
-            count: 0,
-        };
+    let n = read_decimal(line, at)?;
+    if n.value > most as u64 {
+        return None;
     }
-    Listed {
+    Some(Listed {
         at: n.at,
-        count: count as usize,
-    }
-}
-
-pub(crate) fn least(a: usize, b: usize) -> usize
-    ensures { result ≡ min a b }
-{
-    if a < b {
-        return a;
-    }
-    b
+        count: n.value as usize,
+    })
 }

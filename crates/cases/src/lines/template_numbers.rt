@@ -1,4 +1,5 @@
 // A template's four numbers: `START END STRIDE OFFSET`.
+use crate::text::{Read, after, read_double};
 use definitions::TemplateTimes;
 
 // Where `offset` is false the offset is absent.
@@ -9,45 +10,32 @@ pub(crate) struct TemplateNumbers {
     pub offset: bool,
 }
 
-// A template's offset: a double, or `none`. The slot of an absent one holds a NaN, which nothing may look at.
-#[derive(Clone, Copy)]
-struct Offset {
-    at: usize,
-    present: bool,
-    value: f64,
-}
-
-fn read_offset(line: &[u8], at: usize) -> Offset {
-    let absent = crate::text::after(line, at, b"none");
-    if absent != crate::text::NOWHERE {
-        return Offset {
-            at: absent,
-            present: false,
-            value: 0.0 / 0.0,
-        };
+// A template's offset: a double, or `none`.
+fn read_offset(line: &[u8], at: usize) -> Option<Read<Option<f64>>> {
+    if let Some(at) = after(line, at, b"none") {
+        return Some(Read { at, value: None });
     }
-    let d = crate::text::read_double(line, at);
-    Offset {
+    let d = read_double(line, at)?;
+    Some(Read {
         at: d.at,
-        present: true,
-        value: d.value,
-    }
+        value: Some(d.value),
+    })
 }
 
-pub(crate) fn read(line: &[u8], at: usize) -> TemplateNumbers {
-    let start = crate::text::read_double(line, at);
-    let end = crate::text::read_double(line, start.at);
-    let stride = crate::text::read_double(line, end.at);
-    let o = read_offset(line, stride.at);
-    let times = TemplateTimes {
-        start: start.value,
-        end: end.value,
-        stride: stride.value,
-        offset: o.value,
-    };
-    TemplateNumbers {
-        at: o.at,
-        times,
-        offset: o.present,
-    }
+// The slot of an absent offset holds a NaN, which nothing may look at.
+pub(crate) fn read(line: &[u8], at: usize) -> Option<TemplateNumbers> {
+    let start = read_double(line, at)?;
+    let end = read_double(line, start.at)?;
+    let stride = read_double(line, end.at)?;
+    let offset = read_offset(line, stride.at)?;
+    Some(TemplateNumbers {
+        at: offset.at,
+        times: TemplateTimes {
+            start: start.value,
+            end: end.value,
+            stride: stride.value,
+            offset: offset.value.unwrap_or(0.0 / 0.0),
+        },
+        offset: offset.value.is_some(),
+    })
 }

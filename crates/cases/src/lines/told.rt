@@ -1,7 +1,7 @@
 // What is told on standard error: each line that could not be read, and why.
 use crate::lines::fault;
 use crate::lines::limits::LINE;
-use crate::lines::slots::least;
+use crate::text::{first, is_end, word};
 use std::io::Stderr;
 
 // How much of a word is shown.
@@ -23,38 +23,24 @@ fn begin(to: Stderr, number: u64) {
 
 // A byte of printable ASCII as it stands.
 fn printable(b: u8) -> u8 {
-    if b < 32 {
-        return b'?';
-    }
-    if b > 126 {
-        return b'?';
-    }
-    b
+    if (32..=126).contains(&b) { b } else { b'?' }
 }
 
-// The first bytes of a word, and how many they are.
-fn printables(word: &[u8], shown: &mut [u8]) -> usize {
-    let n = least(word.len(), shown.len());
-    let mut i: usize = 0;
-    while i < n {
-        shown[i] = printable(word[i]);
-        i += 1;
-    }
-    n
-}
-
+// The first bytes of a word.
 fn quoted(to: Stderr, word: &[u8]) {
     let mut shown = [0u8; SHOWN];
-    let n = printables(word, &mut shown);
-    put(to, crate::text::first_bytes(&shown, n));
-    if word.len() > n {
+    for (slot, b) in shown.iter_mut().zip(word) {
+        *slot = printable(*b);
+    }
+    put(to, first(&shown, word.len()));
+    if word.len() > SHOWN {
         put(to, b"..");
     }
 }
 
 fn word_of(to: Stderr, line: &[u8], at: usize) {
-    let word = crate::text::word(line, at);
-    if word.len() == 0 {
+    let word = word(line, at);
+    if word.is_empty() {
         put(to, b": a word is missing\n");
         return;
     }
@@ -66,16 +52,10 @@ fn word_of(to: Stderr, line: &[u8], at: usize) {
 // The line of this number could not be read: its first word that stands in the way. A walk that finds none is told too.
 pub(crate) fn unreadable(to: Stderr, number: u64, line: &[u8]) {
     begin(to, number);
-    let walk = fault::walked(line);
-    if walk.stuck {
-        word_of(to, line, walk.at);
-        return;
+    match fault::walked(line) {
+        Ok(at) if is_end(line, at) => put(to, b": cannot be read\n"),
+        Ok(at) | Err(at) => word_of(to, line, at),
     }
-    if crate::text::is_end(line, walk.at) {
-        put(to, b": cannot be read\n");
-        return;
-    }
-    word_of(to, line, walk.at);
 }
 
 // The line of this number is longer than the buffer.

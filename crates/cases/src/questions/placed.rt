@@ -2,36 +2,37 @@
 ghost use Rattle.pages.specs.Pages.{pages, Made};
 
 use crate::lines::limits::SLOTS;
-use crate::lines::slots::{least, slots};
-use crate::lines::{reply, written};
-use crate::questions::sampled;
-use crate::text::Replies;
+use crate::lines::slots::slots;
+use crate::text::{Replies, ended, read_double};
 use definitions::StageTime;
-use set_questions::{PlacedRead, ValueReply};
+use set_questions::PlacedRead;
 
-// The place, behind the word of the call.
-fn place(word: &[u8], placed: bool, set: u64, out: &mut Replies, full: usize) -> usize {
-    let n = crate::text::put(out, full, word);
-    if placed {
-        return reply::decimal(set, out, n);
+impl Replies {
+    // The place, behind the word of the call.
+    fn place(&mut self, word: &[u8], place: Option<u64>) {
+        self.put(word);
+        match place {
+            Some(place) => self.decimal(place),
+            None => self.put(b" none"),
+        }
     }
-    crate::text::put(out, n, b" none")
-}
 
-// `dread` says the sample too, `dvalue` the answer alone.
-fn answered(r: PlacedRead, sample: bool, out: &mut Replies, full: usize) -> usize {
-    let read = r.read;
-    let a = read.answer;
-    if sample {
-        let s = read.sample;
-        let n = place(b"dread", r.placed, r.set, out, full);
-        let n = sampled::answer(b"", a, out, n);
-        let n = sampled::sample(s, out, n);
-        return crate::text::put_byte(out, n, b'\n');
+    // `dread` says the sample too, `dvalue` the answer alone.
+    fn placed(&mut self, r: PlacedRead, sample: bool) {
+        self.place(
+            if sample {
+                b"dread".as_slice()
+            } else {
+                b"dvalue"
+            },
+            r.place,
+        );
+        self.answer(b"", r.read.answer);
+        if sample {
+            self.sample(r.read.sample);
+        }
+        self.put_byte(b'\n');
     }
-    let n = place(b"dvalue", r.placed, r.set, out, full);
-    let n = sampled::answer(b"", a, out, n);
-    crate::text::put_byte(out, n, b'\n')
 }
 
 pub(super) fn value<'a>(
@@ -55,14 +56,11 @@ pub(super) fn value<'a>(
     values: &[f64],
     marks: &[u8],
     out: &mut Replies,
-    full: usize,
-) -> usize
+) -> Option<()>
     requires { Made (pages starts.now numbers.now xs.now ys.now blocks.now defaults.now counts.now bytes.now) }
 {
-    let t = crate::text::read_double(line, at);
-    if !crate::text::is_end(line, t.at) {
-        return crate::text::NOWHERE;
-    }
+    let t = read_double(line, at)?;
+    ended(line, t.at)?;
     let told = set_questions::value(
         starts,
         numbers,
@@ -83,12 +81,13 @@ pub(super) fn value<'a>(
         StageTime(t.value),
     );
     match told {
-        ValueReply::Answered(r) => answered(r, sample, out, full),
-        ValueReply::Refused(number) => reply::refused(number, out, full),
+        Ok(r) => out.placed(r, sample),
+        Err(why) => out.refused(why),
     }
+    Some(())
 }
 
-// The track, in the first `count` entries of three lists.
+// The track, in the first entries of three lists, which are lent as in `sampled`.
 fn track_in<'a>(
     count: usize,
     starts: &'a [f64],
@@ -111,14 +110,13 @@ fn track_in<'a>(
     outvalues: &mut [f64],
     outmarks: &mut [u8],
     out: &mut Replies,
-    full: usize,
-) -> usize
+)
     requires { Made (pages starts.now numbers.now xs.now ys.now blocks.now defaults.now counts.now bytes.now) }
 {
-    let k = least(
-        count,
-        least(outtimes.len(), least(outvalues.len(), outmarks.len())),
-    );
+    let k = count
+        .min(outtimes.len())
+        .min(outvalues.len())
+        .min(outmarks.len());
     let told = set_questions::bake(
         starts,
         numbers,
@@ -136,17 +134,18 @@ fn track_in<'a>(
         times,
         values,
         marks,
-        &mut outtimes[0..k],
-        &mut outvalues[0..k],
-        &mut outmarks[0..k],
+        &mut outtimes[..k],
+        &mut outvalues[..k],
+        &mut outmarks[..k],
     );
-    let baked = told.baked;
-    if baked.number != 0 {
-        return reply::refused(baked.number, out, full);
+    match told {
+        Ok(r) => {
+            out.place(b"dtrack", r.place);
+            out.head(b"", r.baked.mark, r.baked.value);
+            out.changes(r.baked.count, outtimes, outvalues, outmarks);
+        }
+        Err(why) => out.refused(why),
     }
-    let n = place(b"dtrack", told.placed, told.set, out, full);
-    let n = reply::head(b"", baked.mark, baked.value, out, n);
-    written::changes(baked.count, outtimes, outvalues, outmarks, out, n)
 }
 
 pub(super) fn track<'a>(
@@ -169,17 +168,11 @@ pub(super) fn track<'a>(
     values: &[f64],
     marks: &[u8],
     out: &mut Replies,
-    full: usize,
-) -> usize
+) -> Option<()>
     requires { Made (pages starts.now numbers.now xs.now ys.now blocks.now defaults.now counts.now bytes.now) }
 {
-    let mut outtimes = [0.0f64; SLOTS];
-    let mut outvalues = [0.0f64; SLOTS];
-    let mut outmarks = [0u8; SLOTS];
-    let s = slots(line, at, SLOTS, SLOTS);
-    if !crate::text::is_end(line, s.at) {
-        return crate::text::NOWHERE;
-    }
+    let s = slots(line, at, SLOTS, SLOTS)?;
+    ended(line, s.at)?;
     track_in(
         s.count,
         starts,
@@ -198,10 +191,10 @@ pub(super) fn track<'a>(
         times,
         values,
         marks,
-        &mut outtimes,
-        &mut outvalues,
-        &mut outmarks,
+        &mut [0.0f64; SLOTS],
+        &mut [0.0f64; SLOTS],
+        &mut [0u8; SLOTS],
         out,
-        full,
-    )
+    );
+    Some(())
 }

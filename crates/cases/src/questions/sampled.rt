@@ -2,43 +2,52 @@
 ghost use Rattle.resolver.specs.State.{Made};
 
 use crate::lines::limits::SLOTS;
-use crate::lines::slots::{least, slots};
-use crate::lines::{reply, written};
-use crate::text::Replies;
-use definitions::{Answer, SampleRead, StageTime, ValueRead, ValueState};
-use resolver::{Resolver, UntimedReply, ValueReply};
+use crate::lines::slots::slots;
+use crate::text::{Replies, ended, read_double};
+use crate::track_hash::hash_of;
+use definitions::refusal::Refusal;
+use definitions::{Answer, StageTime, ValueRead, ValueState};
+use resolver::Resolver;
 
-// Mark and value, behind the word of the call.
-pub(super) fn answer(word: &[u8], a: Answer, out: &mut Replies, full: usize) -> usize {
-    match a {
-        Answer::Value(x) => reply::head(word, 0, x, out, full),
-        Answer::Blocked => reply::head(word, 1, 0.0, out, full),
-        Answer::Absent => reply::head(word, 2, 0.0, out, full),
-    }
-}
-
-// Clip and place.
-pub(super) fn sample(s: SampleRead, out: &mut Replies, full: usize) -> usize {
-    match s {
-        SampleRead::Of(clip, place) => {
-            let n = reply::decimal(clip, out, full);
-            reply::decimal(place, out, n)
+impl Replies {
+    // Mark and value, behind the word of the call.
+    pub(super) fn answer(&mut self, word: &[u8], a: Answer) {
+        match a {
+            Answer::Value(x) => self.head(word, 0, x),
+            Answer::Blocked => self.head(word, 1, 0.0),
+            Answer::Absent => self.head(word, 2, 0.0),
         }
-        SampleRead::Nothing => crate::text::put(out, full, b" none none"),
     }
-}
 
-// `read` says the sample too, `value` the answer alone.
-fn answered(r: ValueRead, sampled: bool, out: &mut Replies, full: usize) -> usize {
-    let a = r.answer;
-    if sampled {
-        let s = r.sample;
-        let n = answer(b"read", a, out, full);
-        let n = sample(s, out, n);
-        return crate::text::put_byte(out, n, b'\n');
+    // Clip and place.
+    pub(super) fn sample(&mut self, s: Option<(u64, u64)>) {
+        match s {
+            Some((clip, place)) => {
+                self.decimal(clip);
+                self.decimal(place);
+            }
+            None => self.put(b" none none"),
+        }
     }
-    let n = answer(b"value", a, out, full);
-    crate::text::put_byte(out, n, b'\n')
+
+    // `read` says the sample too, `value` the answer alone.
+    fn read(&mut self, r: ValueRead, sampled: bool) {
+        if sampled {
+            self.answer(b"read", r.answer);
+            self.sample(r.sample);
+        } else {
+            self.answer(b"value", r.answer);
+        }
+        self.put_byte(b'\n');
+    }
+
+    fn state(&mut self, s: ValueState) {
+        self.put(match s {
+            ValueState::Present => b"untimed present\n",
+            ValueState::Blocked => b"untimed blocked\n",
+            ValueState::Absent => b"untimed absent\n".as_slice(),
+        });
+    }
 }
 
 pub(super) fn value(
@@ -51,26 +60,16 @@ pub(super) fn value(
     marks: &[u8],
     sampled: bool,
     out: &mut Replies,
-    full: usize,
-) -> usize
+) -> Option<()>
     requires { Made resolver }
 {
-    let t = crate::text::read_double(line, at);
-    if !crate::text::is_end(line, t.at) {
-        return crate::text::NOWHERE;
-    }
+    let t = read_double(line, at)?;
+    ended(line, t.at)?;
     match by_value::value(resolver, times, values, marks, ends, StageTime(t.value)) {
-        ValueReply::Answered(r) => answered(r, sampled, out, full),
-        ValueReply::Refused(number) => reply::refused(number, out, full),
+        Ok(r) => out.read(r, sampled),
+        Err(why) => out.refused(why),
     }
-}
-
-fn state(s: ValueState, out: &mut Replies, full: usize) -> usize {
-    match s {
-        ValueState::Present => crate::text::put(out, full, b"untimed present\n"),
-        ValueState::Blocked => crate::text::put(out, full, b"untimed blocked\n"),
-        ValueState::Absent => crate::text::put(out, full, b"untimed absent\n"),
-    }
+    Some(())
 }
 
 pub(super) fn untimed(
@@ -82,20 +81,19 @@ pub(super) fn untimed(
     values: &[f64],
     marks: &[u8],
     out: &mut Replies,
-    full: usize,
-) -> usize
+) -> Option<()>
     requires { Made resolver }
 {
-    if !crate::text::is_end(line, at) {
-        return crate::text::NOWHERE;
-    }
+    ended(line, at)?;
     match by_value::untimed(resolver, times, values, marks, ends) {
-        UntimedReply::Answered(s) => state(s, out, full),
-        UntimedReply::Refused(number) => reply::refused(number, out, full),
+        Ok(s) => out.state(s),
+        Err(why) => out.refused(why),
     }
+    Some(())
 }
 
-// The times, in the first `count` entries of a list.
+// The times, in the first entries of a list.
+// It is lent, here and below: of a range of an array as long as SLOTS the check does not find the bounds (`slice_bounds`).
 fn times_in(
     count: usize,
     resolver: Resolver,
@@ -105,23 +103,22 @@ fn times_in(
     marks: &[u8],
     outtimes: &mut [f64],
     out: &mut Replies,
-    full: usize,
-) -> usize
+)
     requires { Made resolver }
 {
-    let k = least(count, outtimes.len());
-    let counted = by_value::stage_sample_times(
+    let k = count.min(outtimes.len());
+    let told = by_value::stage_sample_times(
         resolver,
         times,
         values,
         marks,
         ends,
-        &mut outtimes[0..k],
+        &mut outtimes[..k],
     );
-    if counted.number != 0 {
-        return reply::refused(counted.number, out, full);
+    match told {
+        Ok(count) => out.times(b"times", count, outtimes),
+        Err(why) => out.refused(why),
     }
-    written::times(b"times", counted.count, outtimes, out, full)
 }
 
 pub(super) fn stage_sample_times(
@@ -133,15 +130,11 @@ pub(super) fn stage_sample_times(
     values: &[f64],
     marks: &[u8],
     out: &mut Replies,
-    full: usize,
-) -> usize
+) -> Option<()>
     requires { Made resolver }
 {
-    let mut outtimes = [0.0f64; SLOTS];
-    let s = slots(line, at, SLOTS, SLOTS);
-    if !crate::text::is_end(line, s.at) {
-        return crate::text::NOWHERE;
-    }
+    let s = slots(line, at, SLOTS, SLOTS)?;
+    ended(line, s.at)?;
     times_in(
         s.count,
         resolver,
@@ -149,13 +142,13 @@ pub(super) fn stage_sample_times(
         times,
         values,
         marks,
-        &mut outtimes,
+        &mut [0.0f64; SLOTS],
         out,
-        full,
-    )
+    );
+    Some(())
 }
 
-// The stage samples, in the first `count` entries of two lists.
+// The stage samples, in the first entries of two lists.
 fn samples_in(
     count: usize,
     resolver: Resolver,
@@ -166,24 +159,23 @@ fn samples_in(
     outtimes: &mut [f64],
     outmarks: &mut [u8],
     out: &mut Replies,
-    full: usize,
-) -> usize
+)
     requires { Made resolver }
 {
-    let k = least(count, least(outtimes.len(), outmarks.len()));
-    let counted = by_value::stage_samples(
+    let k = count.min(outtimes.len()).min(outmarks.len());
+    let told = by_value::stage_samples(
         resolver,
         times,
         values,
         marks,
         ends,
-        &mut outtimes[0..k],
-        &mut outmarks[0..k],
+        &mut outtimes[..k],
+        &mut outmarks[..k],
     );
-    if counted.number != 0 {
-        return reply::refused(counted.number, out, full);
+    match told {
+        Ok(count) => out.marked_times(b"ssamples", count, outtimes, outmarks),
+        Err(why) => out.refused(why),
     }
-    written::marked_times(b"ssamples", counted.count, outtimes, outmarks, out, full)
 }
 
 pub(super) fn stage_samples(
@@ -195,16 +187,11 @@ pub(super) fn stage_samples(
     values: &[f64],
     marks: &[u8],
     out: &mut Replies,
-    full: usize,
-) -> usize
+) -> Option<()>
     requires { Made resolver }
 {
-    let mut outtimes = [0.0f64; SLOTS];
-    let mut outmarks = [0u8; SLOTS];
-    let s = slots(line, at, SLOTS, SLOTS);
-    if !crate::text::is_end(line, s.at) {
-        return crate::text::NOWHERE;
-    }
+    let s = slots(line, at, SLOTS, SLOTS)?;
+    ended(line, s.at)?;
     samples_in(
         s.count,
         resolver,
@@ -212,14 +199,14 @@ pub(super) fn stage_samples(
         times,
         values,
         marks,
-        &mut outtimes,
-        &mut outmarks,
+        &mut [0.0f64; SLOTS],
+        &mut [0u8; SLOTS],
         out,
-        full,
-    )
+    );
+    Some(())
 }
 
-// The track, in the first `count` entries of three lists.
+// The track, in the first entries of three lists.
 fn track_in(
     count: usize,
     resolver: Resolver,
@@ -231,29 +218,30 @@ fn track_in(
     outvalues: &mut [f64],
     outmarks: &mut [u8],
     out: &mut Replies,
-    full: usize,
-) -> usize
+)
     requires { Made resolver }
 {
-    let k = least(
-        count,
-        least(outtimes.len(), least(outvalues.len(), outmarks.len())),
-    );
-    let baked = by_value::bake(
+    let k = count
+        .min(outtimes.len())
+        .min(outvalues.len())
+        .min(outmarks.len());
+    let told = by_value::bake(
         resolver,
         times,
         values,
         marks,
         ends,
-        &mut outtimes[0..k],
-        &mut outvalues[0..k],
-        &mut outmarks[0..k],
+        &mut outtimes[..k],
+        &mut outvalues[..k],
+        &mut outmarks[..k],
     );
-    if baked.number != 0 {
-        return reply::refused(baked.number, out, full);
+    match told {
+        Ok(baked) => {
+            out.head(b"track", baked.mark, baked.value);
+            out.changes(baked.count, outtimes, outvalues, outmarks);
+        }
+        Err(why) => out.refused(why),
     }
-    let n = reply::head(b"track", baked.mark, baked.value, out, full);
-    written::changes(baked.count, outtimes, outvalues, outmarks, out, n)
 }
 
 pub(super) fn track(
@@ -265,17 +253,11 @@ pub(super) fn track(
     values: &[f64],
     marks: &[u8],
     out: &mut Replies,
-    full: usize,
-) -> usize
+) -> Option<()>
     requires { Made resolver }
 {
-    let mut outtimes = [0.0f64; SLOTS];
-    let mut outvalues = [0.0f64; SLOTS];
-    let mut outmarks = [0u8; SLOTS];
-    let s = slots(line, at, SLOTS, SLOTS);
-    if !crate::text::is_end(line, s.at) {
-        return crate::text::NOWHERE;
-    }
+    let s = slots(line, at, SLOTS, SLOTS)?;
+    ended(line, s.at)?;
     track_in(
         s.count,
         resolver,
@@ -283,12 +265,12 @@ pub(super) fn track(
         times,
         values,
         marks,
-        &mut outtimes,
-        &mut outvalues,
-        &mut outmarks,
+        &mut [0.0f64; SLOTS],
+        &mut [0.0f64; SLOTS],
+        &mut [0u8; SLOTS],
         out,
-        full,
-    )
+    );
+    Some(())
 }
 
 // The numbers are the bake's, except for 22.
@@ -301,35 +283,30 @@ pub(super) fn track_hash(
     values: &[f64],
     marks: &[u8],
     out: &mut Replies,
-    full: usize,
-) -> usize
+) -> Option<()>
     requires { Made resolver }
 {
-    if !crate::text::is_end(line, at) {
-        return crate::text::NOWHERE;
-    }
+    ended(line, at)?;
     if !resolver.stands {
-        return reply::refused(20, out, full);
+        out.refused(Refusal::NoSet);
+        return Some(());
     }
-    let number = sdf::samples_number(resolver.set.clips, times, values, marks, ends);
-    if number != 0 {
-        return reply::refused(number, out, full);
-    }
-    crate::track_hash::put_hashed(
-        crate::track_hash::hash_of(
-            &resolver.set.starts,
-            &resolver.set.numbers,
-            &resolver.set.xs,
-            &resolver.set.ys,
-            &resolver.set.blocks,
-            resolver.set.counts,
-            resolver.set.manifest,
+    let set = &resolver.set;
+    match sdf::check_samples(set.clips, times, values, marks, ends) {
+        Ok(()) => out.put_hashed(hash_of(
+            &set.starts,
+            &set.numbers,
+            &set.xs,
+            &set.ys,
+            &set.blocks,
+            set.counts,
+            set.manifest,
             times,
             values,
             marks,
             ends,
-        ),
-        out,
-        full,
-    )
+        )),
+        Err(why) => out.refused(why),
+    }
+    Some(())
 }

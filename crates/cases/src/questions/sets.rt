@@ -4,28 +4,20 @@ ghost use Rattle.dispatch.specs.NamedSets.{max_sets};
 ghost use Rattle.pages.specs.Pages.{Sizes, Names};
 
 use crate::lines::limits::NAME;
-use crate::lines::reply;
-use crate::questions::dump::put_lists;
-use crate::text::{Replies, doubles_from, first_bytes, numbers_from, part};
+use crate::text::{Replies, ended, first, part, part_from, read_bytes};
+use definitions::refusal::Refusal;
 use pages::{layout, storing};
-use set_names::{Found, PAGE};
-
-fn wide(b: u8) -> usize
-    ensures { result < 256 }
-{
-    b as usize
-}
+use set_names::PAGE;
 
 // The i-th set's name, and whether it declares.
-fn named(bytes: &[u8], i: usize, out: &mut Replies, full: usize) -> usize
+fn named(bytes: &[u8], i: usize, out: &mut Replies)
     requires { (length bytes.now ≡ 4144) × (i < max_sets) }
 {
-    let at = i * PAGE;
-    let begin = at + 1;
-    let end = begin + wide(bytes[at]);
-    let n = crate::text::put_byte(out, full, b' ');
-    let n = crate::text::put_bytes(out, n, part(bytes, begin, end));
-    reply::mark(bytes[layout::DECLARES + i], out, n)
+    let begin = i * PAGE + 1;
+    let end = begin + usize::from(bytes[i * PAGE]);
+    out.put_byte(b' ');
+    out.put_bytes(part(bytes, begin, end));
+    out.mark(bytes[layout::DECLARES + i]);
 }
 
 // The names in the order of acceptance.
@@ -35,23 +27,19 @@ pub(super) fn sets(
     counts: &[u64],
     bytes: &[u8],
     out: &mut Replies,
-    full: usize,
-) -> usize
+) -> Option<()>
     requires fact_1 { length bytes.now ≡ 4144 }
     requires fact_2 { Names counts.now bytes.now }
 {
-    if !crate::text::is_end(line, at) {
-        return crate::text::NOWHERE;
+    ended(line, at)?;
+    let count = counts[0] as usize;
+    out.put(b"dsets");
+    out.decimal(count as u64);
+    for i in 0..count {
+        named(bytes, i, out);
     }
-    let count = counts[0];
-    let n = crate::text::put(out, full, b"dsets");
-    let mut n = reply::decimal(count, out, n);
-    let mut i: usize = 0;
-    while i < count as usize {
-        n = named(bytes, i, out, n);
-        i += 1;
-    }
-    crate::text::put_byte(out, n, b'\n')
+    out.put_byte(b'\n');
+    Some(())
 }
 
 // The i-th set: its entries stand from the i-th page on.
@@ -66,21 +54,18 @@ fn dump_at(
     counts: &[u64],
     bytes: &[u8],
     out: &mut Replies,
-    full: usize,
-) -> usize
+)
     requires { (Sizes defaults.now counts.now bytes.now) × (i < max_sets) }
 {
     let shape = storing::shape_at(defaults, counts, bytes, i);
-    put_lists(
+    out.put_lists(
         shape.clips,
-        doubles_from(starts, i * layout::PAGE, shape.counts.starts),
-        numbers_from(numbers, i * layout::PAGE, shape.counts.starts),
-        doubles_from(xs, i * layout::KNOT_PAGE, shape.counts.knots),
-        doubles_from(ys, i * layout::KNOT_PAGE, shape.counts.knots),
-        doubles_from(blocks, i * layout::PAGE, shape.counts.blocks),
-        out,
-        full,
-    )
+        part_from(starts, i * layout::PAGE, shape.counts.starts),
+        part_from(numbers, i * layout::PAGE, shape.counts.starts),
+        part_from(xs, i * layout::KNOT_PAGE, shape.counts.knots),
+        part_from(ys, i * layout::KNOT_PAGE, shape.counts.knots),
+        part_from(blocks, i * layout::PAGE, shape.counts.blocks),
+    );
 }
 
 // The set of a name, as `dump` shows the standing one.
@@ -96,24 +81,19 @@ pub(super) fn dump(
     counts: &[u64],
     bytes: &[u8],
     out: &mut Replies,
-    full: usize,
-) -> usize
+) -> Option<()>
     requires fact_1 { Sizes defaults.now counts.now bytes.now }
     requires fact_2 { Names counts.now bytes.now }
 {
     let mut name = [0u8; NAME];
-    let read = crate::text::read_bytes(line, at, &mut name);
-    if !crate::text::is_end(line, read.at) {
-        return crate::text::NOWHERE;
-    }
+    let read = read_bytes(line, at, &mut name)?;
+    ended(line, read.at)?;
     let n = counts[0] as usize;
-    let found = set_names::find(bytes, n, first_bytes(&name, read.count));
-    match found {
-        Found::At(i) => {
-            dump_at(
-                i, starts, numbers, xs, ys, blocks, defaults, counts, bytes, out, full,
-            )
-        }
-        Found::Nothing => reply::refused(20, out, full),
+    match set_names::find(bytes, n, first(&name, read.count)) {
+        Some(i) => dump_at(
+            i, starts, numbers, xs, ys, blocks, defaults, counts, bytes, out,
+        ),
+        None => out.refused(Refusal::NoSet),
     }
+    Some(())
 }

@@ -1,54 +1,39 @@
 // The active clip and the clip time at a stage time.
 ghost use Rattle.resolver.specs.State.{Made};
 
-use crate::lines::reply;
-use crate::text::Replies;
+use crate::text::{Replies, ended, read_double};
 use definitions::StageTime;
-use resolver::{ClipReply, Resolver, TimeReply};
+use resolver::Resolver;
 
-pub(super) fn active(
-    line: &[u8],
-    at: usize,
-    resolver: Resolver,
-    out: &mut Replies,
-    full: usize,
-) -> usize
+pub(super) fn active(line: &[u8], at: usize, resolver: Resolver, out: &mut Replies) -> Option<()>
     requires { Made resolver }
 {
-    let t = crate::text::read_double(line, at);
-    if !crate::text::is_end(line, t.at) {
-        return crate::text::NOWHERE;
-    }
+    let t = read_double(line, at)?;
+    ended(line, t.at)?;
     match by_value::active_clip(resolver, StageTime(t.value)) {
-        ClipReply::Clip(clip) => {
-            let n = crate::text::put(out, full, b"active");
-            let n = reply::decimal(clip, out, n);
-            crate::text::put_byte(out, n, b'\n')
+        Ok(Some(clip)) => {
+            out.put(b"active");
+            out.decimal(clip);
+            out.put_byte(b'\n');
         }
-        ClipReply::NoClip => crate::text::put(out, full, b"active none\n"),
-        ClipReply::Refused(number) => reply::refused(number, out, full),
+        Ok(None) => out.put(b"active none\n"),
+        Err(why) => out.refused(why),
     }
+    Some(())
 }
 
-pub(super) fn clip_time(
-    line: &[u8],
-    at: usize,
-    resolver: Resolver,
-    out: &mut Replies,
-    full: usize,
-) -> usize
+pub(super) fn clip_time(line: &[u8], at: usize, resolver: Resolver, out: &mut Replies) -> Option<()>
     requires { Made resolver }
 {
-    let t = crate::text::read_double(line, at);
-    if !crate::text::is_end(line, t.at) {
-        return crate::text::NOWHERE;
-    }
+    let t = read_double(line, at)?;
+    ended(line, t.at)?;
     match by_value::clip_time(resolver, StageTime(t.value)) {
-        TimeReply::Time(time) => {
-            let n = crate::text::put(out, full, b"cliptime");
-            let n = reply::double(time.0, out, n);
-            crate::text::put_byte(out, n, b'\n')
+        Ok(time) => {
+            out.put(b"cliptime");
+            out.double(time.0);
+            out.put_byte(b'\n');
         }
-        TimeReply::Refused(number) => reply::refused(number, out, full),
+        Err(why) => out.refused(why),
     }
+    Some(())
 }

@@ -2,10 +2,10 @@
 ghost use Rattle.std.specs.Prelude.{◌≡◌, ◌+◌, ◌-◌, ◌^◌, ◌<◌, ◌≤◌, false};
 ghost use Rattle.std.specs.Float.{binary64};
 ghost use Rattle.std.specs.Float.Ieee.{round};
-ghost use Rattle.cases.specs.Decimals.{stands, no_decimal, unread_double, decimal_at, signed_of, valued, read_written};
+ghost use Rattle.cases.specs.Decimals.{stands, decimal_at, signed_of, valued, read_written};
 
-use crate::text::numbers::{Double, digits_from};
-use crate::text::words::{NOWHERE, closed, skip_blanks};
+use crate::text::numbers::{Read, digits_from};
+use crate::text::words::{closed, skip_blanks};
 
 // The digits of a decimal: the number that they write, the point left out, how many stand before the point and how many
 // behind it.
@@ -20,75 +20,36 @@ struct Decimal {
 fn stands_at(line: &[u8], at: usize, b: u8) -> bool
     ensures { result ≡ stands line.now at b }
 {
-    if at < line.len() {
-        return line[at] == b;
-    }
-    false
-}
-
-// How far `to` lies behind `from`.
-fn apart(to: usize, from: usize) -> usize
-    ensures { result ≡ to - from }
-{
-    if to < from {
-        return 0;
-    }
-    to - from
-}
-
-// What is no decimal.
-fn none() -> Decimal
-    ensures { result ≡ no_decimal }
-{
-    Decimal {
-        at: NOWHERE,
-        digits: 0,
-        whole: 0,
-        scale: 0,
-    }
+    at < line.len() && line[at] == b
 }
 
 // The decimal from `from` on, without its sign. Behind a point stands a digit.
-fn decimal_at(line: &[u8], from: usize) -> Decimal
+#[tactic(auto, unfolding(crate::specs::Decimals::decimal_at))]
+fn decimal_at(line: &[u8], from: usize) -> Option<Decimal>
     ensures { result ≡ decimal_at line.now from }
 {
-    let n = digits_from(line, from, 0);
-    let point = n.at;
-    let whole = apart(point, from);
-    if stands_at(line, point, b'.') {
-        let first = point + 1;
-        let all = digits_from(line, first, n.value);
-        let scale = apart(all.at, first);
-        if scale == 0 {
-            return none();
-        }
-        return Decimal {
-            at: all.at,
-            digits: all.value,
+    let n = digits_from(line, from, 0)?;
+    let whole = n.at.saturating_sub(from);
+    if !stands_at(line, n.at, b'.') {
+        return Some(Decimal {
+            at: n.at,
+            digits: n.value,
             whole,
-            scale,
-        };
+            scale: 0,
+        });
     }
-    Decimal {
-        at: point,
-        digits: n.value,
+    let first = n.at + 1;
+    let all = digits_from(line, first, n.value)?;
+    let scale = all.at.saturating_sub(first);
+    if scale == 0 {
+        return None;
+    }
+    Some(Decimal {
+        at: all.at,
+        digits: all.value,
         whole,
-        scale: 0,
-    }
-}
-
-// Ten to a power.
-fn ten_to(k: usize) -> u64
-    requires { k ≤ 15 }
-    ensures { result ≡ 10 ^ k }
-{
-    let mut power: u64 = 1;
-    let mut i: usize = 0;
-    while i < k {
-        power = power * 10;
-        i += 1;
-    }
-    power
+        scale,
+    })
 }
 
 // The digits' number over ten to the number of those behind the point. Both are doubles as they stand, so that the division
@@ -98,55 +59,37 @@ fn quotient(digits: u64, scale: usize) -> f64
     requires fact_2 { scale ≤ 15 }
     ensures { result ≡ round binary64 false digits (10 ^ scale) }
 {
-    std::num::nearest_u64_to_f64(digits) / std::num::nearest_u64_to_f64(ten_to(scale))
+    std::num::nearest_u64_to_f64(digits) / std::num::nearest_u64_to_f64(10u64.pow(scale as u32))
 }
 
 fn signed(x: f64, negative: bool) -> f64
     ensures { result ≡ signed_of x negative }
 {
-    if negative {
-        return -x;
-    }
-    x
-}
-
-// A double that could not be read.
-fn nowhere() -> Double
-    ensures { result ≡ unread_double }
-{
-    Double {
-        at: NOWHERE,
-        value: 0.0,
-    }
+    if negative { -x } else { x }
 }
 
 // The double that a decimal writes, if it has a digit before its point, at most 15 in all, and ends its word.
-fn value_of(line: &[u8], negative: bool, d: Decimal) -> Double
+#[tactic(auto, unfolding(crate::specs::Decimals::valued))]
+fn value_of(line: &[u8], negative: bool, d: Decimal) -> Option<Read<f64>>
     requires { d.digits < 10 ^ (d.whole + d.scale) }
     ensures { result ≡ valued line.now negative d }
 {
-    if d.whole == 0 {
-        return nowhere();
+    if d.whole == 0 || d.whole > 15 || d.scale > 15 - d.whole {
+        return None;
     }
-    if d.whole > 15 {
-        return nowhere();
-    }
-    if d.scale > 15 - d.whole {
-        return nowhere();
-    }
-    Double {
-        at: closed(line, d.at),
+    Some(Read {
+        at: closed(line, d.at)?,
         value: signed(quotient(d.digits, d.scale), negative),
-    }
+    })
 }
 
 // The next word, a double that is written as a decimal.
-pub(crate) fn read_written(line: &[u8], at: usize) -> Double
+#[tactic(auto, unfolding(crate::specs::Decimals::read_written))]
+pub(crate) fn read_written(line: &[u8], at: usize) -> Option<Read<f64>>
     ensures { result ≡ read_written line.now at }
 {
     let from = skip_blanks(line, at);
-    if stands_at(line, from, b'-') {
-        return value_of(line, true, decimal_at(line, from + 1));
-    }
-    value_of(line, false, decimal_at(line, from))
+    let negative = stands_at(line, from, b'-');
+    let first = if negative { from + 1 } else { from };
+    value_of(line, negative, decimal_at(line, first)?)
 }

@@ -1,147 +1,113 @@
 // Numbers of a line: decimal counts, and doubles.
 ghost use Rattle.std.specs.Prelude.{◌≡◌, ◌≤◌, drop, from_bits, to_bits};
 ghost use Rattle.std.specs.Float.{binary64};
-ghost use Rattle.cases.specs.Numbers.{digit_of, unread, decimals, hexes_at, read_decimal, read_bits, byte_of};
+ghost use Rattle.cases.specs.Numbers.{digit_of, decimals, hexes_at, read_decimal, read_bits, byte_of};
 ghost use Rattle.cases.specs.Doubles.{read_double, read_pattern};
 
 use crate::text::decimals::read_written;
-use crate::text::words::{NOWHERE, closed, skip_blanks};
+use crate::text::listings::rest;
+use crate::text::words::{closed, skip_blanks};
 
+// What was read, and the place behind it.
 #[derive(Clone, Copy)]
-pub(crate) struct Number {
+pub(crate) struct Read<T> {
     pub at: usize,
-    pub value: u64,
-}
-
-#[derive(Clone, Copy)]
-pub(crate) struct Byte {
-    pub at: usize,
-    pub value: u8,
-}
-
-#[derive(Clone, Copy)]
-pub(crate) struct Double {
-    pub at: usize,
-    pub value: f64,
-}
-
-// A number that could not be read.
-fn nowhere() -> Number
-    ensures { result ≡ unread }
-{
-    Number {
-        at: NOWHERE,
-        value: 0,
-    }
-}
-
-fn wide(b: u8) -> u64
-    ensures { result ≡ b }
-{
-    b as u64
+    pub value: T,
 }
 
 // The digit that the byte is, 16 for a byte that is none.
+#[tactic(auto, unfolding(crate::specs::Numbers::digit_of))]
 fn digit(b: u8) -> u64
     ensures { (result ≡ digit_of b) × (result ≤ 16) }
 {
-    if b < 48 {
-        return 16;
+    match b {
+        b'0'..=b'9' => u64::from(b - b'0'),
+        b'A'..=b'F' => u64::from(b - b'A' + 10),
+        b'a'..=b'f' => u64::from(b - b'a' + 10),
+        _ => 16,
     }
-    if b <= 57 {
-        return wide(b - 48);
-    }
-    if b < 65 {
-        return 16;
-    }
-    if b <= 70 {
-        return wide(b - 55);
-    }
-    if b < 97 {
-        return 16;
-    }
-    if b <= 102 {
-        return wide(b - 87);
-    }
-    16
 }
 
 // The decimal digits from `at` on, behind those of the number `head`, if all of them write a number of at most 64 bits.
-pub(crate) fn digits_from(line: &[u8], at: usize, head: u64) -> Number
+#[tactic(auto, using(crate::proofs::Digits::decimals_on))]
+pub(crate) fn digits_from(line: &[u8], at: usize, head: u64) -> Option<Read<u64>>
     ensures { result ≡ decimals head at (drop at line.now) }
 {
-    let mut i = at;
+    let line = rest(line, at);
     let mut value = head;
-    while i < line.len() {
-        let d = digit(line[i]);
+    for (n, b) in line.iter().enumerate() {
+        let d = digit(*b);
         if d >= 10 {
-            return Number { at: i, value };
+            return Some(Read { at: at + n, value });
         }
-        if value > (0xffff_ffff_ffff_ffff - d) / 10 {
-            return nowhere();
-        }
-        value = value * 10 + d;
-        i += 1;
+        value = value.checked_mul(10)?.checked_add(d)?;
     }
-    Number { at: i, value }
+    Some(Read {
+        at: at + line.len(),
+        value,
+    })
 }
 
 // The next word, a decimal number.
-pub(crate) fn read_decimal(line: &[u8], at: usize) -> Number
+#[tactic(auto, unfolding(crate::specs::Numbers::read_decimal))]
+pub(crate) fn read_decimal(line: &[u8], at: usize) -> Option<Read<u64>>
     ensures { result ≡ read_decimal line.now at }
 {
     let from = skip_blanks(line, at);
-    let n = digits_from(line, from, 0);
+    let n = digits_from(line, from, 0)?;
     if n.at == from {
-        return nowhere();
+        return None;
     }
-    Number {
-        at: closed(line, n.at),
+    Some(Read {
+        at: closed(line, n.at)?,
         value: n.value,
-    }
+    })
 }
 
 // The next word, a decimal number that a byte holds.
-pub(crate) fn read_byte(line: &[u8], at: usize) -> Byte
+pub(crate) fn read_byte(line: &[u8], at: usize) -> Option<Read<u8>>
     ensures { result ≡ byte_of (read_decimal line.now at) }
 {
-    let n = read_decimal(line, at);
-    let value = n.value;
-    if value > 255 {
-        return Byte {
-            at: NOWHERE,
-            value: 0,
-        };
+    let n = read_decimal(line, at)?;
+    if n.value > 255 {
+        return None;
     }
-    Byte {
+    Some(Read {
         at: n.at,
-        value: value as u8,
+        value: n.value as u8,
+    })
+}
+
+// The next word, 0 or 1.
+pub(crate) fn read_flag(line: &[u8], at: usize) -> Option<Read<bool>> {
+    let n = read_byte(line, at)?;
+    if n.value > 1 {
+        return None;
     }
+    Some(Read {
+        at: n.at,
+        value: n.value == 1,
+    })
 }
 
 // The number of exactly `count` hex digits from `at` on.
-pub(crate) fn hex_digits(line: &[u8], at: usize, count: usize) -> Number
+#[tactic(auto, using(crate::proofs::Digits::hexes_on))]
+pub(crate) fn hex_digits(line: &[u8], at: usize, count: usize) -> Option<Read<u64>>
     ensures { result ≡ hexes_at line.now at count }
 {
-    let mut i = at;
-    let mut left = count;
+    let digits = rest(line, at).get(..count)?;
     let mut value: u64 = 0;
-    while left > 0 {
-        if i >= line.len() {
-            return nowhere();
-        }
-        let d = digit(line[i]);
+    for b in digits {
+        let d = digit(*b);
         if d > 15 {
-            return nowhere();
+            return None;
         }
-        if value > 0x0fff_ffff_ffff_ffff {
-            return nowhere();
-        }
-        value = value * 16 + d;
-        i += 1;
-        left -= 1;
+        value = value.checked_mul(16)?.checked_add(d)?;
     }
-    Number { at: i, value }
+    Some(Read {
+        at: at + count,
+        value,
+    })
 }
 
 // The double of a bit pattern. The logic has one NaN, for all of its patterns.
@@ -165,41 +131,42 @@ pub(crate) fn bits_of(x: f64) -> u64
 }
 
 // The next word, a double's bits.
-fn read_bits(line: &[u8], at: usize) -> Number
+#[tactic(auto, unfolding(crate::specs::Numbers::read_bits))]
+fn read_bits(line: &[u8], at: usize) -> Option<Read<u64>>
     ensures { result ≡ read_bits line.now at }
 {
-    let n = hex_digits(line, skip_blanks(line, at), 16);
-    Number {
-        at: closed(line, n.at),
+    let n = hex_digits(line, skip_blanks(line, at), 16)?;
+    Some(Read {
+        at: closed(line, n.at)?,
         value: n.value,
-    }
+    })
 }
 
 // The next word, a double: by its bits, or as a decimal.
-pub(crate) fn read_double(line: &[u8], at: usize) -> Double
+#[tactic(auto, unfolding(crate::specs::Doubles::read_double))]
+pub(crate) fn read_double(line: &[u8], at: usize) -> Option<Read<f64>>
     ensures { result ≡ read_double line.now at }
 {
-    let n = read_bits(line, at);
-    if n.at == NOWHERE {
+    let Some(n) = read_bits(line, at) else {
         return read_written(line, at);
-    }
-    Double {
+    };
+    Some(Read {
         at: n.at,
         value: double_of(n.value),
-    }
+    })
 }
 
 // The same, its bits.
-pub(crate) fn read_pattern(line: &[u8], at: usize) -> Number
+#[tactic(auto, unfolding(crate::specs::Doubles::read_pattern))]
+pub(crate) fn read_pattern(line: &[u8], at: usize) -> Option<Read<u64>>
     ensures { result ≡ read_pattern line.now at }
 {
-    let n = read_bits(line, at);
-    if n.at == NOWHERE {
-        let d = read_written(line, at);
-        return Number {
+    let Some(n) = read_bits(line, at) else {
+        let d = read_written(line, at)?;
+        return Some(Read {
             at: d.at,
             value: bits_of(d.value),
-        };
-    }
-    n
+        });
+    };
+    Some(n)
 }

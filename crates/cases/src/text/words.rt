@@ -1,25 +1,16 @@
-// The words of a line, parted by blanks. A place is an index into the line. `NOWHERE` is the place behind a word that could
-// not be read; whatever is read from there is not readable either, so a call is read straight through and judged at its end.
+// The words of a line, parted by blanks. A place is an index into the line.
 
-ghost use Rattle.std.specs.Prelude.{◌≡◌, length, take, ◌==◌};
+ghost use Rattle.std.specs.Prelude.{◌≡◌, ◌↔◌, IsSome, length, take, ◌==◌};
 ghost use Rattle.cases.specs.declared.text.words.Stop.TheVariants.{Word, Blank, Comment};
 ghost use Rattle.cases.specs.Text.{is_blank, stops_at, scanned, word_at, closed_at, behind};
 
-use crate::text::listings::{first_bytes, part};
-
-pub(crate) const NOWHERE: usize = 0xffff_ffff_ffff_ffff;
+use crate::text::listings::{first, part, rest};
 
 // A space, a tab or the carriage return of a line that ends in two bytes.
 fn is_blank(b: u8) -> bool
     ensures { result ≡ is_blank b }
 {
-    if b == 9 {
-        return true;
-    }
-    if b == 13 {
-        return true;
-    }
-    b == 32
+    matches!(b, b'\t' | b'\r' | b' ')
 }
 
 // What a scan looks for.
@@ -43,17 +34,17 @@ fn stops_at(b: u8, stop: Stop) -> bool
 }
 
 // The first place from `at` on where it stands, the end of the text if it stands nowhere.
+#[tactic(auto, using(crate::proofs::Words::scans))]
 pub(crate) fn scan(text: &[u8], at: usize, stop: Stop) -> usize
     ensures { result ≡ scanned text.now at stop }
 {
-    let mut i = at;
-    while i < text.len() {
-        if stops_at(text[i], stop) {
-            return i;
+    let text = rest(text, at);
+    for (n, b) in text.iter().enumerate() {
+        if stops_at(*b, stop) {
+            return at + n;
         }
-        i += 1;
     }
-    i
+    at + text.len()
 }
 
 pub(crate) fn skip_blanks(line: &[u8], at: usize) -> usize
@@ -73,7 +64,7 @@ pub(crate) fn word_end(line: &[u8], at: usize) -> usize
 pub(crate) fn without_comment(line: &[u8]) -> &[u8]
     ensures { result.now ≡ take (scanned line.now 0 Comment) line.now }
 {
-    first_bytes(line, scan(line, 0, Stop::Comment))
+    first(line, scan(line, 0, Stop::Comment))
 }
 
 // The next word, empty if there is none.
@@ -91,34 +82,32 @@ pub(crate) fn is_end(line: &[u8], at: usize) -> bool
     skip_blanks(line, at) == line.len()
 }
 
+// The line has no more words behind the place.
+pub(crate) fn ended(line: &[u8], at: usize) -> Option<()>
+    ensures { IsSome result ↔ (scanned line.now at Word ≡ length line.now) }
+{
+    if is_end(line, at) { Some(()) } else { None }
+}
+
 // The place itself, if no word goes on there.
-pub(crate) fn closed(line: &[u8], at: usize) -> usize
+#[tactic(auto, unfolding(crate::specs::Text::closed_at))]
+pub(crate) fn closed(line: &[u8], at: usize) -> Option<usize>
     ensures { result ≡ closed_at line.now at }
 {
-    if at < line.len() {
-        if is_blank(line[at]) {
-            return at;
-        }
-        return NOWHERE;
+    if at < line.len() && !is_blank(line[at]) {
+        return None;
     }
-    at
+    Some(at)
 }
 
 // The place behind `word`, if it is the next word of the line.
-pub(crate) fn after(line: &[u8], at: usize, word: &[u8]) -> usize
+#[tactic(auto, unfolding(crate::specs::Text::behind))]
+pub(crate) fn after(line: &[u8], at: usize, word: &[u8]) -> Option<usize>
     ensures { result ≡ behind line.now at word.now }
 {
-    let mut place = skip_blanks(line, at);
-    let mut i: usize = 0;
-    while i < word.len() {
-        if place >= line.len() {
-            return NOWHERE;
-        }
-        if line[place] != word[i] {
-            return NOWHERE;
-        }
-        place += 1;
-        i += 1;
+    let from = skip_blanks(line, at);
+    if !rest(line, from).starts_with(word) {
+        return None;
     }
-    closed(line, place)
+    closed(line, from + word.len())
 }

@@ -18,7 +18,7 @@ use Rattle.definitions.specs.Timing.{last_at_most, last_knot}
 use Rattle.laws.proofs.list.Tests.{is_true}
 use Rattle.laws.proofs.list.Every.{every-at}
 use Rattle.laws.specs.list.Places.{Fits, Ascending}
-use Rattle.laws.proofs.list.Places.{up_to, last-is, fitting}
+use Rattle.laws.proofs.list.Places.{up_to, last-is}
 use Rattle.laws.specs.cell.Knots.{plain, flat, segment, line_of}
 use Rattle.laws.specs.cell.Lent.{knots_of}
 use Rattle.laws.proofs.cell.Lent.{knot-times}

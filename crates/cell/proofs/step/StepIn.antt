@@ -1,10 +1,9 @@
 -- A step of a function that is left once, found in a part of its keys. Assumes nothing.
+use Rattle.std.specs.Prelude.{Option, None, Some}
 use mathlib.Core.Path.{◌≡◌, sym, ◌∙◌}
 use Prim.Native.Nat.{ℕ, ◌-◌, ◌≤◌}
 use native.Mathlib.Omega.{arith}
 use Rattle.laws.specs.track.Steps.{Once, Level, StepAt, FirstStep}
-use Rattle.laws.specs.declared.Next.{Next}
-use Rattle.laws.specs.declared.Next.TheVariants.{At, Nothing}
 
 module _ {f : ℕ → ℕ} {k hi : ℕ} (o : Once f k hi) (a b : ℕ) (l : k ≤ a) (h : b ≤ hi) (e : f a ≡ f k) where
   -- from a key where it is as at k on it is left once
@@ -28,6 +27,6 @@ pub level-whole : {f : ℕ → ℕ} {k hi : ℕ} → Once f k hi → f hi ≡ f 
 level-whole {hi = hi} o e j p q = o j hi p q (omega arith) e
 
 -- up to the last key
-pub first_part : {f : ℕ → ℕ} {k hi : ℕ} → Once f k hi → (a : ℕ) → k ≤ a → a ≤ hi → f a ≡ f k → (r : Next) → FirstStep f a hi r → FirstStep f k hi r
-first_part {hi = hi} o a l g e (At m) s = step_part o a hi l (omega arith) e m s
-first_part {hi = hi} o a l g e Nothing s = level-whole o (s hi g (omega arith) ∙ e)
+pub first_part : {f : ℕ → ℕ} {k hi : ℕ} → Once f k hi → (a : ℕ) → k ≤ a → a ≤ hi → f a ≡ f k → (r : Option ℕ) → FirstStep f a hi r → FirstStep f k hi r
+first_part {hi = hi} o a l g e (Some m) s = step_part o a hi l (omega arith) e m s
+first_part {hi = hi} o a l g e None s = level-whole o (s hi g (omega arith) ∙ e)

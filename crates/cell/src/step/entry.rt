@@ -47,11 +47,5 @@ pub fn entry_of(a: Answer) -> Entry
 pub fn alike(a: Entry, b: Entry) -> bool
     ensures { result ≡ Track.alike (entry_is a) (entry_is b) }
 {
-    if a.mark != b.mark {
-        return false;
-    }
-    if a.mark != 0 {
-        return true;
-    }
-    a.value == b.value
+    a.mark == b.mark && (a.mark != 0 || a.value == b.value)
 }

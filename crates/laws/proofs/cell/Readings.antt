@@ -17,8 +17,7 @@ use Rattle.definitions.specs.declared.Source.{Source}
 use Rattle.definitions.specs.declared.Source.TheVariants.{Sample as sample, Default as default, Blocked as blocked, Absent as absent}
 use Rattle.definitions.specs.declared.Answer.{Answer}
 use Rattle.definitions.specs.declared.Answer.TheVariants.{Value, Blocked, Absent}
-use Rattle.definitions.specs.declared.SampleRead.{SampleRead}
-use Rattle.definitions.specs.declared.SampleRead.TheVariants.{Of}
+use Rattle.std.specs.Prelude.{Some}
 use Rattle.definitions.specs.ClipSet.{ClipSet, mark_value, stage}
 use Rattle.definitions.specs.Timing.{active_position, map_stage_to_clip}
 use Rattle.definitions.specs.Samples.{Samples, clip_begin, clip_end, clip_times, held_place}
@@ -69,17 +68,18 @@ module _ (set : ClipSet) (s : Samples) (S : Sound set) (A : Accepted set s) wher
 -- ---- and has the number that is answered
 
 module _ (set : ClipSet) (s : Samples) where
-  source-stands : (r : Source) (c i : ℕ) → Placed s.ends r → sample_read (says set s r) r ≡ Of c i → Stands s c i (says set s r)
+  source-stands : (r : Source) (c i : ℕ) → Placed s.ends r → sample_read (says set s r) r ≡ Some (c, i) → Stands s c i (says set s r)
   unfolding says
   source-stands (sample d j) c i p e = go (eqb (get_or s.marks at 0) mark_value) (eqb→eq (get_or s.marks at 0) mark_value) e
     where
       at : ℕ
       at = clip_begin s.ends d + j
 
-      go : (b : Bool) → (T b → get_or s.marks at 0 ≡ mark_value) → sample_read (cond b (Value (get_or s.values at 0·0)) Blocked) (sample d j) ≡ Of c i → Stands s c i (cond b (Value (get_or s.values at 0·0)) Blocked)
+      go : (b : Bool) → (T b → get_or s.marks at 0 ≡ mark_value) → sample_read (cond b (Value (get_or s.values at 0·0)) Blocked) (sample d j) ≡ Some (c, i) → Stands s c i (cond b (Value (get_or s.values at 0·0)) Blocked)
       go true m q =
-          let x : d ≡ c = cc in
-          let y : j ≡ i = cc in
+          let read : ◌≡◌ {A = ℕ × ℕ} (d, j) (c, i) = cc in
+          let x : d ≡ c = ap (λ (k : ℕ × ℕ). k.0) read in
+          let y : j ≡ i = ap (λ (k : ℕ × ℕ). k.1) read in
           subst (λ (k : ℕ). Stands s k i (Value (get_or s.values at 0·0))) x (subst (λ (k : ℕ). Stands s d k (Value (get_or s.values at 0·0))) y (record { clip = p.0; place = p.1; marked = m tt; number = refl }))
       go false m q = let z : ◌≡◌ {A = ℕ} 0 1 = cc in absurd (omega arith)
   source-stands default c i p e = let z : ◌≡◌ {A = ℕ} 0 1 = cc in absurd (omega arith)

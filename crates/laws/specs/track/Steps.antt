@@ -1,7 +1,5 @@
 -- A function on the keys that is left once, its first step, and functions that agree. Assumes nothing.
-use Rattle.std.specs.Prelude.{◌≡◌, ℕ, ◌-◌, ◌≤◌, ◌<◌}
-use Rattle.laws.specs.declared.Next.{Next}
-use Rattle.laws.specs.declared.Next.TheVariants.{At, Nothing}
+use Rattle.std.specs.Prelude.{◌≡◌, ℕ, ◌-◌, ◌≤◌, ◌<◌, Option, None, Some}
 
 -- f does not come back to what it has at lo
 abbrev pub Once : (ℕ → ℕ) → ℕ → ℕ → Type 0
@@ -30,6 +28,6 @@ pub record StepAt (f : ℕ → ℕ) (lo hi m : ℕ) : Type 0 where
   pub steps : f m ≡ f lo → ⊥
 
 -- the first step of f above lo and up to hi, or none
-abbrev pub FirstStep : (ℕ → ℕ) → ℕ → ℕ → Next → Type 0
-FirstStep f lo hi (At m) = StepAt f lo hi m
-FirstStep f lo hi Nothing = Level f lo hi
+abbrev pub FirstStep : (ℕ → ℕ) → ℕ → ℕ → Option ℕ → Type 0
+FirstStep f lo hi (Some m) = StepAt f lo hi m
+FirstStep f lo hi None = Level f lo hi

@@ -6,7 +6,7 @@ use Rattle.definitions.specs.Questions.{ask_active_clip}
 use Rattle.laws.specs.cell.Lent.{set_of}
 use Rattle.resolver.specs.declared.Resolver.{Resolver}
 use Rattle.resolver.specs.State.{lent_state}
-use Rattle.resolver.proofs.Laws.{asked-20, asked, not_finite, is_finite, starts-ascend, clip-told, none_told}
+use Rattle.resolver.proofs.Laws.{asked-20, asked, not_finite, is_finite, starts-ascend, clip-told}
 use Rattle.lent_questions.proofs.active_clip.Goals.{Start as At-start}
 use Rattle.lent_questions.proofs.active_clip.Goals as goal
 
@@ -24,28 +24,15 @@ returns-then-not-is_finite c =
     let s = p in
     not_finite s.args.t _ (sym c.is_finite.ensures ∙ c.if-not-is_finite.true) ∙ asked _ (state (goal.at.returns-then-not-is_finite s).Start) (not-false _ p.if-not-shape.false)
 
-pub active_clip-active-requires : goal.active_clip-active-requires
-active_clip-active-requires c =
+pub active_clip-requires : goal.active_clip-requires
+active_clip-requires c =
     let p = c in
     let s = p in
-    record { fact_1 = s.requires.whole.in-starts; fact_2 = s.requires.whole.in-numbers; fact_3 = starts-ascend (state (goal.at.active_clip-active-requires s).Start) s.requires (not-false _ p.if-not-shape.false) }
+    record { fact_1 = s.requires.whole.in-starts; fact_2 = s.requires.whole.in-numbers; fact_3 = starts-ascend (state (goal.at.active_clip-requires s).Start) s.requires (not-false _ p.if-not-shape.false) }
 
-pub returns-in-Clip : goal.returns-in-Clip
+pub returns : goal.returns
 unfolding ask_active_clip active_clip set_of
-returns-in-Clip c =
-    let m = c in
-    let p = m in
-    let s = p in
-    clip-told _ _ (sym c.in-Clip.is ∙ m.active_clip-active.ensures)
-    ∙ is_finite s.args.t _ (sym p.is_finite.ensures ∙ p.if-not-is_finite.false)
-    ∙ asked _ (state (goal.at.returns-in-Clip s).Start) (not-false _ p.if-not-shape.false)
-
-pub returns-in-NoClip : goal.returns-in-NoClip
-unfolding ask_active_clip active_clip set_of
-returns-in-NoClip c =
-    let m = c in
-    let p = m in
-    let s = p in
-    none_told _ (sym c.in-NoClip.is ∙ m.active_clip-active.ensures)
-    ∙ is_finite s.args.t _ (sym p.is_finite.ensures ∙ p.if-not-is_finite.false)
-    ∙ asked _ (state (goal.at.returns-in-NoClip s).Start) (not-false _ p.if-not-shape.false)
+returns c =
+    clip-told _ _ c.active_clip.ensures
+    ∙ is_finite c.args.t _ (sym c.is_finite.ensures ∙ c.if-not-is_finite.false)
+    ∙ asked _ (state (goal.at.returns c).Start) (not-false _ c.if-not-shape.false)

@@ -1,12 +1,14 @@
 -- `lent_questions::change_count` meets its contract: 20, the samples' number, else the count. Assumes nothing.
 use mathlib.Core.Path.{refl}
+use Rattle.std.proofs.lemmas.Result.{err_from_is_err_and}
+use Rattle.definitions.proofs.Refused.{not-zero}
 use borrow.Author.Tests.{not-true, not-false}
 use Rattle.definitions.specs.Samples.{Samples}
 use Rattle.laws.specs.cell.Lent.{samples_of}
 use Rattle.definitions.specs.Questions.{replied}
 use Rattle.resolver.specs.declared.Resolver.{Resolver}
 use Rattle.resolver.specs.State.{lent_state}
-use Rattle.resolver.proofs.Laws.{judged-number, is-asked, counts-20, counts-refused, counts-code, counts-set}
+use Rattle.resolver.proofs.Laws.{judged-number, is-asked, counts-20, counts-refused, counts-set}
 use Rattle.lent_questions.proofs.change_count.Goals.{Start as At-start}
 use Rattle.lent_questions.proofs.change_count.Goals as goal
 
@@ -17,23 +19,19 @@ abbrev lent : At-start → Samples
 lent s = samples_of s.args.times.now s.args.values.now s.args.marks.now s.args.ends.now
 
 pub returns-then-not-shape : goal.returns-then-not-shape
-returns-then-not-shape c = let s = c in counts-code (counts-20 (state (goal.at.returns-then-not-shape s).Start) (lent (goal.at.returns-then-not-shape s).Start) (not-true _ c.if-not-shape.true)) c.refused_list.ensures
+returns-then-not-shape c = let s = c in counts-20 (state (goal.at.returns-then-not-shape s).Start) (lent (goal.at.returns-then-not-shape s).Start) (not-true _ c.if-not-shape.true)
 
-pub returns-then-judged-ne0 : goal.returns-then-judged-ne0
-returns-then-judged-ne0 c =
-    let p = c in
-    let s = p in
-    counts-code (counts-refused (state (goal.at.returns-then-judged-ne0 s).Start) (lent (goal.at.returns-then-judged-ne0 s).Start) _ (not-false _ p.if-not-shape.false) (judged-number (state (goal.at.returns-then-judged-ne0 s).Start) p.samples_number-judged.ensures) p.if-judged-ne0.true) c.refused_list-then-judged-ne0.ensures
+pub returns-in_err-check_samples : goal.returns-in_err-check_samples
+returns-in_err-check_samples c =
+    let p = err_from_is_err_and c.from_residual.result c.from_residual.ensures.1 in
+    rw (p.1, p.2)
+    (counts-refused (state (goal.at.returns-in_err-check_samples c).Start) (lent (goal.at.returns-in_err-check_samples c).Start) _ (not-false _ c.if-not-shape.false) (judged-number (state (goal.at.returns-in_err-check_samples c).Start) c.in_err-check_samples.ensures) (not-zero _))
 
-pub change_count-changes-requires : goal.change_count-changes-requires
-change_count-changes-requires c = let s = c in is-asked (state (goal.at.change_count-changes-requires s).Start) s.requires (not-false _ c.if-not-shape.false) c.samples_number-judged.ensures c.if-judged-ne0.false
+pub change_count-requires : goal.change_count-requires
+change_count-requires c = let s = c in is-asked (state (goal.at.change_count-requires s).Start) s.requires (not-false _ c.if-not-shape.false) c.in_ok-check_samples.ensures refl
 
 pub returns : goal.returns
 returns c =
     let p = c in
     let s = p in
-    record {
-      reply = replied c.change_count-changes.result;
-      counts = counts-set (state (goal.at.returns s).Start) s.requires (not-false _ p.if-not-shape.false) p.samples_number-judged.ensures p.if-judged-ne0.false _ c.change_count-changes.ensures;
-      code = refl;
-    }
+    counts-set (state (goal.at.returns s).Start) s.requires (not-false _ p.if-not-shape.false) p.in_ok-check_samples.ensures refl _ c.change_count.ensures

@@ -1,5 +1,7 @@
 -- `lent_questions::untimed` meets its contract: 20, the samples' number, else the answer without a time. Assumes nothing.
-use mathlib.Core.Path.{sym, ap, ◌∙◌}
+use mathlib.Core.Path.{refl, sym, ap, ◌∙◌}
+use Rattle.std.proofs.lemmas.Result.{err_from_is_err_and}
+use Rattle.definitions.proofs.Refused.{not-zero}
 use borrow.Author.Tests.{not-true, not-false}
 use Rattle.definitions.specs.ClipSet.{ClipSet}
 use Rattle.definitions.specs.Samples.{Samples}
@@ -23,16 +25,17 @@ pub returns-then-not-shape : goal.returns-then-not-shape
 unfolding ask_untimed
 returns-then-not-shape c = asked-20 _ (state (goal.at.returns-then-not-shape c).Start) (not-true _ c.if-not-shape.true)
 
-pub returns-then-number-ne0 : goal.returns-then-number-ne0
+pub returns-in_err-check_samples : goal.returns-in_err-check_samples
 unfolding ask_untimed
-returns-then-number-ne0 c =
-    let s = c in
-    plainly-refused (lent (goal.at.returns-then-number-ne0 s).Start) (λ (x : ClipSet). untimed_answer x (lent (goal.at.returns-then-number-ne0 s).Start)) (state (goal.at.returns-then-number-ne0 s).Start) (not-false _ c.if-not-shape.false) _ (judged-number (state (goal.at.returns-then-number-ne0 s).Start) c.samples_number-number.ensures) c.if-number-ne0.true
+returns-in_err-check_samples c =
+    let p = err_from_is_err_and c.from_residual.result c.from_residual.ensures.1 in
+    rw (p.1, p.2)
+    (plainly-refused (lent (goal.at.returns-in_err-check_samples c).Start) (λ (x : ClipSet). untimed_answer x (lent (goal.at.returns-in_err-check_samples c).Start)) (state (goal.at.returns-in_err-check_samples c).Start) (not-false _ c.if-not-shape.false) _ (judged-number (state (goal.at.returns-in_err-check_samples c).Start) c.in_err-check_samples.ensures) (not-zero _))
 
 pub untimed-requires : goal.untimed-requires
 untimed-requires c =
     let s = c in
-    record { fact_1 = s.requires.whole.in-numbers; fact_2 = clips-asked (is-asked (state (goal.at.untimed-requires s).Start) s.requires (not-false _ c.if-not-shape.false) c.samples_number-number.ensures c.if-number-ne0.false) }
+    record { fact_1 = s.requires.whole.in-numbers; fact_2 = clips-asked (is-asked (state (goal.at.untimed-requires s).Start) s.requires (not-false _ c.if-not-shape.false) c.in_ok-check_samples.ensures refl) }
 
 pub returns : goal.returns
 unfolding ask_untimed
@@ -42,6 +45,6 @@ returns c =
     let stands = not-false _ p.if-not-shape.false in
     ap replied
     (c.untimed.ensures
-    ∙ untimed-told (is-asked (state (goal.at.returns s).Start) s.requires stands p.samples_number-number.ensures p.if-number-ne0.false)
-    ∙ ap (λ (x : ClipSet). untimed_answer x (lent (goal.at.returns s).Start)) (lent-is (state (goal.at.returns s).Start) s.requires stands p.samples_number-number.ensures p.if-number-ne0.false))
-    ∙ plainly-replied (lent (goal.at.returns s).Start) (λ (x : ClipSet). untimed_answer x (lent (goal.at.returns s).Start)) (state (goal.at.returns s).Start) stands (sym (judged-number (state (goal.at.returns s).Start) p.samples_number-number.ensures) ∙ p.if-number-ne0.false)
+    ∙ untimed-told (is-asked (state (goal.at.returns s).Start) s.requires stands p.in_ok-check_samples.ensures refl)
+    ∙ ap (λ (x : ClipSet). untimed_answer x (lent (goal.at.returns s).Start)) (lent-is (state (goal.at.returns s).Start) s.requires stands p.in_ok-check_samples.ensures refl))
+    ∙ plainly-replied (lent (goal.at.returns s).Start) (λ (x : ClipSet). untimed_answer x (lent (goal.at.returns s).Start)) (state (goal.at.returns s).Start) stands (sym (judged-number (state (goal.at.returns s).Start) p.in_ok-check_samples.ensures) ∙ refl)

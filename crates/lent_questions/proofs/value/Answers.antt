@@ -1,6 +1,8 @@
 -- `lent_questions::value` meets its contract: 20, the samples' number, 10, else the value. Assumes nothing.
-use mathlib.Core.Path.{sym, ap, ◌∙◌, subst}
+use mathlib.Core.Path.{refl, sym, ap, ◌∙◌, subst}
 use lib.Dec.{T}
+use Rattle.std.proofs.lemmas.Result.{err_from_is_err_and}
+use Rattle.definitions.proofs.Refused.{not-zero}
 use borrow.Author.Tests.{not-true, not-false}
 use Rattle.definitions.specs.ClipSet.{ClipSet}
 use Rattle.definitions.specs.Samples.{Samples}
@@ -23,12 +25,13 @@ pub returns-then-not-shape : goal.returns-then-not-shape
 unfolding ask_value
 returns-then-not-shape c = asked-20 _ (state (goal.at.returns-then-not-shape c).Start) (not-true _ c.if-not-shape.true)
 
-pub returns-then-number-ne0 : goal.returns-then-number-ne0
+pub returns-in_err-check_samples : goal.returns-in_err-check_samples
 unfolding ask_value
-returns-then-number-ne0 c =
-    let s = c in
-    samples-refused (lent (goal.at.returns-then-number-ne0 s).Start) (λ (x : ClipSet). stage_time_number s.args.t) (λ (x : ClipSet). value_read x (lent (goal.at.returns-then-number-ne0 s).Start) s.args.t) (state (goal.at.returns-then-number-ne0 s).Start) (not-false _ c.if-not-shape.false)
-    _ (judged-number (state (goal.at.returns-then-number-ne0 s).Start) c.samples_number-number.ensures) c.if-number-ne0.true
+returns-in_err-check_samples c =
+    let p = err_from_is_err_and c.from_residual.result c.from_residual.ensures.1 in
+    rw (p.1, p.2)
+    (samples-refused (lent (goal.at.returns-in_err-check_samples c).Start) (λ (x : ClipSet). stage_time_number c.args.t) (λ (x : ClipSet). value_read x (lent (goal.at.returns-in_err-check_samples c).Start) c.args.t) (state (goal.at.returns-in_err-check_samples c).Start) (not-false _ c.if-not-shape.false)
+    _ (judged-number (state (goal.at.returns-in_err-check_samples c).Start) c.in_err-check_samples.ensures) (not-zero _))
 
 pub returns-then-not-is_finite : goal.returns-then-not-is_finite
 unfolding ask_value
@@ -37,13 +40,13 @@ returns-then-not-is_finite c =
     let s = p in
     not_finite s.args.t _ (sym c.is_finite.ensures ∙ c.if-not-is_finite.true)
     ∙ samples-passed (lent (goal.at.returns-then-not-is_finite s).Start) (λ (x : ClipSet). stage_time_number s.args.t) (λ (x : ClipSet). value_read x (lent (goal.at.returns-then-not-is_finite s).Start) s.args.t) (state (goal.at.returns-then-not-is_finite s).Start) (not-false _ p.if-not-shape.false)
-    (sym (judged-number (state (goal.at.returns-then-not-is_finite s).Start) p.samples_number-number.ensures) ∙ p.if-number-ne0.false)
+    (sym (judged-number (state (goal.at.returns-then-not-is_finite s).Start) p.in_ok-check_samples.ensures) ∙ refl)
 
 pub value-requires : goal.value-requires
 value-requires c =
     let p = c in
     let s = p in
-    record { fact_1 = is-asked (state (goal.at.value-requires s).Start) s.requires (not-false _ p.if-not-shape.false) p.samples_number-number.ensures p.if-number-ne0.false; fact_2 = subst T (sym c.if-not-is_finite.false ∙ c.is_finite.ensures) tt }
+    record { fact_1 = is-asked (state (goal.at.value-requires s).Start) s.requires (not-false _ p.if-not-shape.false) p.in_ok-check_samples.ensures refl; fact_2 = subst T (sym c.if-not-is_finite.false ∙ c.is_finite.ensures) tt }
 
 pub returns : goal.returns
 unfolding ask_value
@@ -52,7 +55,7 @@ returns c =
     let p = f in
     let s = p in
     let stands = not-false _ p.if-not-shape.false in
-    ap replied (c.value.ensures ∙ ap (λ (x : ClipSet). value_read x (lent (goal.at.returns s).Start) s.args.t) (lent-is (state (goal.at.returns s).Start) s.requires stands p.samples_number-number.ensures p.if-number-ne0.false))
+    ap replied (c.value.ensures ∙ ap (λ (x : ClipSet). value_read x (lent (goal.at.returns s).Start) s.args.t) (lent-is (state (goal.at.returns s).Start) s.requires stands p.in_ok-check_samples.ensures refl))
     ∙ is_finite s.args.t _ (sym f.is_finite.ensures ∙ f.if-not-is_finite.false)
     ∙ samples-passed (lent (goal.at.returns s).Start) (λ (x : ClipSet). stage_time_number s.args.t) (λ (x : ClipSet). value_read x (lent (goal.at.returns s).Start) s.args.t) (state (goal.at.returns s).Start) stands
-    (sym (judged-number (state (goal.at.returns s).Start) p.samples_number-number.ensures) ∙ p.if-number-ne0.false)
+    (sym (judged-number (state (goal.at.returns s).Start) p.in_ok-check_samples.ensures) ∙ refl)

@@ -4,8 +4,10 @@ use mathlib.Core.Path.{◌≡◌, refl, sym, ap, ◌∙◌}
 use mathlib.Core.Bool.{Bool, true, false, cond}
 use mathlib.Core.List.{List}
 use native.Mathlib.Omega.{arith}
-use lib.ListN.{length}
-use lib.Ieee.{Float}
+use lib.ListN.{length, take, drop}
+use lib.Ieee.{Float, nan, le}
+use Rattle.std.proofs.Common.{count_by}
+use Rattle.lists.proofs.Counted.{row-counted}
 use Rattle.definitions.specs.Reading.{by_halves, partition_point}
 use Rattle.definitions.proofs.Reading.{halves-few, halves-by, partition-within}
 use Rattle.lists.proofs.partition_point.Invariants.{at_most}
@@ -39,31 +41,16 @@ loop-n-preserved c =
 -- as many as are found
 found-is : (c : After-count_at_most) → c.loop-n.at + c.count_at_most.result ≡ partition_point c.args.times.now c.args.t
 found-is c =
-    let l = c in
-    let a = l.args in
-    ap (λ (k : ℕ). l.loop-n.at + k) c.count_at_most.ensures
-    ∙ sym (halves-few (at_most a.times.now a.t) l.loop-n.n l.loop-n.at l.loop-n.n (omega arith)) ∙ l.loop-n.invariant.1
+    let l = c.loop-n in
+    let xs = c.args.times.now in
+    let t = c.args.t in
+    let n : l.at + l.n - l.at ≡ l.n = omega arith in
+    ap (λ (k : ℕ). l.at + k)
+    (c.count_at_most.ensures ∙ ap (λ (k : ℕ). count_by (λ (x : Float). le x t) (take k (drop l.at xs))) n ∙ row-counted (λ (x : Float). le x t) xs nan l.n l.at l.invariant.0)
+    ∙ sym (halves-few (at_most xs t) l.n l.at l.n (omega arith)) ∙ l.invariant.1
 
 pub overflow_add-result : goal.overflow_add-result
 overflow_add-result c = let e = found-is c in let a = c.args in omega (arith, partition-within a.times.now a.t)
 
 pub returns : goal.returns
 returns c = found-is c
-
-pub overflow_add-mid : goal.overflow_add-mid
-overflow_add-mid c = omega arith
-
-pub offset_bounds-times-mid : goal.offset_bounds-times-mid
-offset_bounds-times-mid c = omega arith
-
-pub bounds-times-mid : goal.bounds-times-mid
-bounds-times-mid c = omega arith
-
-pub overflow_sub-n : goal.overflow_sub-n
-overflow_sub-n c = omega arith
-
-pub loop-n-smaller : goal.loop-n-smaller
-loop-n-smaller c = omega arith
-
-pub count_at_most-requires : goal.count_at_most-requires
-count_at_most-requires c = omega arith

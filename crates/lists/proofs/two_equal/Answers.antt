@@ -1,46 +1,15 @@
--- `lists::two_equal` meets its contract: the pairs that are left answer for all. Assumes nothing.
-use mathlib.Core.Path.{refl, sym, ◌∙◌}
-use native.Mathlib.Omega.{arith}
-use lib.Ieee.{nan}
-use Rattle.lists.proofs.Neighbours.{pair-here, pair-later, pair_end}
-use Rattle.lists.proofs.two_equal.Invariants.{equal}
+-- `lists::two_equal` meets its contract: each window is a pair of neighbours. Assumes nothing.
+use Rattle.std.proofs.Common.{List, rules, get_or, ap, ◌∙◌, lit<}
+use Rattle.std.specs.Slice.Iter.{windows_size, windows_rest}
+use borrow.Author.Tests.{tests}
+use lib.Ieee.{Float, nan, eq}
+use Rattle.lists.proofs.Windows.{windows-any, pairs-any}
 use Rattle.lists.proofs.two_equal.Goals as goal
-
-pub loop-i-init : goal.loop-i-init
-loop-i-init c = (omega arith, refl)
-
-pub overflow_add-i : goal.overflow_add-i
-overflow_add-i c = omega arith
-
-pub bounds-times-i : goal.bounds-times-i
-bounds-times-i c = omega arith
-
-pub overflow_add-i-in-loop-i : goal.overflow_add-i-in-loop-i
-overflow_add-i-in-loop-i c = omega arith
-
-pub bounds-times-i-in-loop-i : goal.bounds-times-i-in-loop-i
-bounds-times-i-in-loop-i c = omega arith
-
-pub returns-then-times-i : goal.returns-then-times-i
-returns-then-times-i c =
-    let k = c.loop-i in
-    let s = c in
-    sym (k.invariant.1 ∙ pair-here equal s.args.times.now k.i nan (omega arith) c.if-times-i.true)
-
-pub overflow_add-i-in-loop-i-2 : goal.overflow_add-i-in-loop-i-2
-overflow_add-i-in-loop-i-2 c = omega arith
-
-pub loop-i-smaller : goal.loop-i-smaller
-loop-i-smaller c = omega arith
-
-pub loop-i-preserved : goal.loop-i-preserved
-loop-i-preserved c =
-    let k = c.loop-i in
-    let s = c in
-    (omega arith, k.invariant.1 ∙ pair-later equal s.args.times.now k.i nan (omega arith) c.if-times-i.false)
 
 pub returns : goal.returns
 returns c =
-    let k = c.loop-i in
-    let s = c in
-    sym (k.invariant.1 ∙ pair_end equal s.args.times.now k.i (omega arith))
+    let t = c.any.ensures.runs in
+    let w = c.windows in
+    pairs-any (λ (q : Float × Float). eq q.0 q.1) c.args.times.now nan c.any.result
+    (windows-any t.0 _ _ (λ (w : List Float). eq (get_or w 0 nan) (get_or w 1 nan)) 2 c.args.times.now (λ x b q k. search (rules, tests)) c.any.result nan _ _
+    (ap windows_size t.1 ∙ w.ensures.size) (ap windows_rest t.1 ∙ w.ensures.rest) (lit< tt) (w.ensures.runs t.0 t.0.seen) t.2)

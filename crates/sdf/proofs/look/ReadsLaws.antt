@@ -1,19 +1,17 @@
 -- A clip's part of the lent lists by its two ends, and what is read of it. Assumes nothing.
-use Prim.Native.Nat.{ℕ, zero, suc, ◌+◌, ◌-◌, ◌≤◌, ◌<◌}
+use Prim.Native.Nat.{ℕ, ◌+◌, ◌-◌, ◌≤◌, ◌<◌}
 use native.Mathlib.Omega.{arith}
 use mathlib.Core.Path.{◌≡◌, refl, ap, ◌∙◌}
 use mathlib.Core.List.{List, [], ◌∷◌}
 use mathlib.Core.Option.{none, some}
-use lib.ListN.{length, get_or, drop, length-drop}
+use Rattle.std.specs.Prelude.{None, Some}
+use lib.ListN.{length, drop, length-drop}
 use lib.Seq.{length-take-le}
 use lib.Dec.{T}
-use lib.Ieee.{Float, nan, binary64, fits}
-use borrow.Author.Tests.{ne_eqb}
-use Rattle.definitions.specs.declared.Answer.TheVariants.{Value, Blocked}
+use lib.Ieee.{Float, binary64, fits}
 use Rattle.definitions.specs.declared.ClipTime.{ClipTime}
 use Rattle.definitions.specs.Timing.{last_at_most}
 use Rattle.definitions.specs.Samples.{held_place}
-use Rattle.gf.specs.Doubles.{0·0}
 use Rattle.laws.proofs.list.Places.{last-inside}
 use Rattle.sdf.specs.look.Reads.{part, Inside, Readable, marked_at, told, held_reading}
 
@@ -36,14 +34,14 @@ module _ (times : List Float) (begin end : ℕ) (t : ClipTime) where
       held (x ∷ l) h = refl
 
 module _ (times values : List Float) (marks : List ℕ) (begin end : ℕ) (t : ClipTime) where
-  pub held_none : begin ≡ end → none ≡ held_reading times values marks begin end t
+  pub held_none : begin ≡ end → None ≡ held_reading times values marks begin end t
   held_none e = ap (told values marks begin) (place_none times begin end t e)
 
   module _ (R : Readable times values marks begin end) (n : begin ≡ end → ⊥) (i : ℕ) (e : i ≡ last_at_most (part times begin end) t.0) where
     less : begin < end
     less = omega (arith, R.from, n)
 
-    pub held-some : some (i, marked_at values marks (begin + i)) ≡ held_reading times values marks begin end t
+    pub held-some : Some (i, marked_at values marks (begin + i)) ≡ held_reading times values marks begin end t
     held-some = ap (λ (j : ℕ). told values marks begin (some j)) e ∙ ap (told values marks begin) (place-some times begin end t less R.inside)
 
     -- the place lies before the end
@@ -52,16 +50,3 @@ module _ (times values : List Float) (marks : List ℕ) (begin end : ℕ) (t : C
         let l = part_length times begin end t R.inside in
         let h : begin + i < end = omega (arith, less, last-inside t.0 ft (part times begin end) R.rising (omega (arith, less))) in
         record { value = omega (arith, R.values-reach); mark = omega (arith, R.marks-reach) }
-
--- a place that a list has holds the same whatever stands in for one that it has not
-unlike : (l : List Float) (i : ℕ) (d e : Float) → i < length l → get_or l i d ≡ get_or l i e
-unlike [] i d e h = absurd (omega arith)
-unlike (x ∷ l) zero d e h = refl
-unlike (x ∷ l) (suc i) d e h = unlike l i d e (omega arith)
-
-module _ (values : List Float) (marks : List ℕ) (at : ℕ) where
-  pub marked-value : at < length values → get_or marks at 0 ≡ 0 → Value (get_or values at nan) ≡ marked_at values marks at
-  marked-value h e = rw (e, unlike values at nan 0·0 h)
-
-  pub marked-block : (get_or marks at 0 ≡ 0 → ⊥) → Blocked ≡ marked_at values marks at
-  marked-block n = rw (ne_eqb (get_or marks at 0) 0 n)

@@ -1,14 +1,14 @@
 -- A clip's part of the lent lists by its two ends, and what is read of it. Assumes nothing.
 use Rattle.std.specs.Prelude.{ℕ, ◌+◌, ◌-◌, ◌≤◌, ◌<◌, List, length, get_or, take, drop, Float}
-use Rattle.std.proofs.Math.Option.{Option, none, some}
+use Rattle.std.specs.Prelude.{Option, None, Some}
+use Rattle.std.proofs.Math.Option.{none, some}
+use Rattle.std.proofs.Math.Option as place
 use Rattle.definitions.specs.declared.Answer.{Answer}
 use Rattle.definitions.specs.declared.ClipTime.{ClipTime}
 use Rattle.definitions.specs.Samples.{held_place}
 use Rattle.definitions.specs.Value.{marked}
 use Rattle.gf.specs.Doubles.{0·0}
 use Rattle.laws.specs.list.Places.{Ascending}
-use Rattle.sdf.specs.declared.look.HeldPlace.{HeldPlace}
-use Rattle.sdf.specs.declared.look.HeldPlace.TheVariants.{At, Nothing}
 
 -- the times from one end to the other, as `clip_times` has them
 abbrev pub part : List Float → ℕ → ℕ → List Float
@@ -31,15 +31,10 @@ pub record Readable (times values : List Float) (marks : List ℕ) (begin end : 
 abbrev pub marked_at : List Float → List ℕ → ℕ → Answer
 marked_at values marks at = marked (get_or marks at 0) (get_or values at 0·0)
 
--- a held reading of the code: a place and an answer, or none
-abbrev pub held_is : HeldPlace → Option (ℕ × Answer)
-held_is (At i a) = some (i, a)
-held_is Nothing = none
-
 -- a place counted from the clip's first sample, with what the sample there says
-abbrev pub told : List Float → List ℕ → ℕ → Option ℕ → Option (ℕ × Answer)
-told values marks begin none = none
-told values marks begin (some i) = some (i, marked_at values marks (begin + i))
+abbrev pub told : List Float → List ℕ → ℕ → place.Option ℕ → Option (ℕ × Answer)
+told values marks begin none = None
+told values marks begin (some i) = Some (i, marked_at values marks (begin + i))
 
 -- the held reading at the clip time t of the samples from one end to the other
 abbrev pub held_reading : List Float → List Float → List ℕ → ℕ → ℕ → ClipTime → Option (ℕ × Answer)

@@ -1,6 +1,11 @@
 -- `set_changes::install` meets its contract: 23, else the set behind the others. Assumes nothing.
-use mathlib.Core.Path.{sym, ◌∙◌}
+use mathlib.Core.Path.{sym}
+use Rattle.std.specs.Prelude.{Result}
+use Rattle.definitions.specs.declared.refusal.Refusal.{Refusal}
+use Rattle.definitions.specs.Refusals.{number_in}
+use Rattle.clip.proofs.Preparing.{by-reason}
 use Rattle.pages.specs.Pages.{Pages, pages}
+use Rattle.set_changes.specs.Promises.{Installs}
 use Rattle.set_changes.proofs.Taken.{install-refused, installed}
 use Rattle.set_changes.proofs.install.Goals.{Start as At-start}
 use Rattle.set_changes.proofs.install.Goals as goal
@@ -8,19 +13,16 @@ use Rattle.set_changes.proofs.install.Goals as goal
 abbrev lent : At-start → Pages
 lent s = let a = s.args in pages a.starts.now a.numbers.now a.xs.now a.ys.now a.blocks.now a.defaults.now a.counts.now a.bytes.now
 
-pub returns-then-number-ne0 : goal.returns-then-number-ne0
-returns-then-number-ne0 c =
-    let s = c in
-    install-refused (lent (goal.at.returns-then-number-ne0 s).Start) s.requires.made s.args.name.now s.args.declares s.args.set _ c.name_number-number.ensures c.if-number-ne0.true
+pub returns-in_err-check_name : goal.returns-in_err-check_name
+returns-in_err-check_name c =
+    let s = (goal.at.returns-in_err-check_name c).Start in
+    by-reason (λ (r : Result (Unit {0}) Refusal). Installs (lent s) c.args.name.now c.args.declares c.args.set (number_in r) (lent s)) _ _ c.from_residual.ensures.1
+    (install-refused (lent s) c.requires.made c.args.name.now c.args.declares c.args.set _ c.in_err-check_name.ensures)
 
 pub extend-requires : goal.extend-requires
-extend-requires c =
-    let e = c in
-    let s = c in
-    record { fact_1 = s.requires.made; fact_2 = s.requires.made_set; fact_3 = sym e.name_number-number.ensures ∙ e.if-number-ne0.false }
+extend-requires c = record { fact_1 = c.requires.made; fact_2 = c.requires.made_set; fact_3 = sym c.in_ok-check_name.ensures }
 
 pub returns : goal.returns
 returns c =
-    let e = c in
-    let s = c in
-    installed (lent (goal.at.returns s).Start) s.requires.made s.args.name.now s.args.declares s.args.set _ (sym e.name_number-number.ensures ∙ e.if-number-ne0.false) c.extend.ensures
+    let s = (goal.at.returns c).Start in
+    installed (lent s) c.requires.made c.args.name.now c.args.declares c.args.set _ (sym c.in_ok-check_name.ensures) c.extend.ensures

@@ -1,23 +1,10 @@
--- `set_names::is_before` meets its contract: the bytes before the i-th are the same. Assumes nothing.
-use mathlib.Core.Path.{refl}
-use native.Mathlib.Omega.{arith}
-use Rattle.set_names.proofs.Before.{shorter, smaller, greater, level, not-longer}
+-- `set_names::is_before` meets its contract: `<` of slices goes by the first byte that differs, as the byte order does. Assumes nothing.
+use Rattle.std.proofs.Common.{arith, refl}
+use Rattle.std.proofs.lemmas.Bool.Decides.{nat_tests}
+use Rattle.std.proofs.lemmas.Cmp.{same_from_slice_cmp_tested}
+use Rattle.std.specs.Ordering.{nat_cmp, is_lt}
+use Rattle.dispatch.specs.SetOrder.{name_before}
 use Rattle.set_names.proofs.is_before.Goals as goal
 
-pub returns-then-a-i : goal.returns-then-a-i
-returns-then-a-i c = let k = c.loop-i in shorter _ _ k.i k.invariant (omega arith) (omega arith)
-
-pub returns-then-a-i-2 : goal.returns-then-a-i-2
-returns-then-a-i-2 c = let k = c.loop-i in smaller _ _ k.i k.invariant (omega arith) (omega arith) c.if-a-i-2.true
-
-pub returns-then-b-i : goal.returns-then-b-i
-returns-then-b-i c = let k = c.loop-i in greater _ _ k.i k.invariant (omega arith) (omega arith) c.if-b-i.true
-
-pub loop-i-preserved : goal.loop-i-preserved
-loop-i-preserved c = let k = c.loop-i in level _ _ k.i k.invariant (omega arith) (omega arith) c.if-a-i-2.false c.if-b-i.false
-
 pub returns : goal.returns
-returns c = let k = c.loop-i in not-longer _ _ k.i k.invariant (omega arith)
-
-pub loop-i-init : goal.loop-i-init
-loop-i-init c = refl
+returns c = same_from_slice_cmp_tested nat_cmp is_lt name_before refl (λ y ys. refl) (λ x xs. refl) (λ x y xs ys o h. grind (arith, nat_tests)) c.args.a.now c.args.b.now c.lt.result c.lt.ensures

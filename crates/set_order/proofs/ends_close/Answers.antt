@@ -1,26 +1,13 @@
--- `set_order::ends_close` meets its contract: the ends from i on answer for all. Assumes nothing.
-use mathlib.Core.Path.{refl, sym, ◌∙◌}
-use native.Mathlib.Omega.{arith}
+-- `set_order::ends_close` meets its contract: the ends from the index on answer for all. Assumes nothing.
+use Rattle.std.proofs.Common.{sym, ◌∙◌, arith}
 use Rattle.set_order.proofs.Ends.{closes_before, closes-next, closes-end}
 use Rattle.set_order.proofs.ends_close.Goals as goal
 
-pub loop-i-init : goal.loop-i-init
-loop-i-init c = (omega arith, refl)
+pub returns-then-end-begin : goal.returns-then-end-begin
+returns-then-end-begin c = let k = c.loop-end in sym (k.invariant ∙ closes_before _ k.end-index _ k.begin (omega arith) c.if-end-begin.true)
 
-pub returns-then-ends-i : goal.returns-then-ends-i
-returns-then-ends-i c =
-    let k = c.loop-i in
-    let a = c.args in
-    sym (k.invariant.1 ∙ closes_before a.ends.now k.i a.len k.end (omega arith) c.if-ends-i.true)
-
-pub loop-i-preserved : goal.loop-i-preserved
-loop-i-preserved c =
-    let k = c.loop-i in
-    let a = c.args in
-    (omega arith, k.invariant.1 ∙ closes-next a.ends.now k.i a.len k.end (omega arith) c.if-ends-i.false)
+pub loop-end-preserved : goal.loop-end-preserved
+loop-end-preserved c = let k = c.loop-end in k.invariant ∙ closes-next _ k.end-index _ k.begin (omega arith) c.if-end-begin.false
 
 pub returns : goal.returns
-returns c =
-    let k = c.loop-i in
-    let a = c.args in
-    sym (k.invariant.1 ∙ closes-end a.ends.now k.i a.len k.end (omega arith))
+returns c = let k = c.loop-end in sym (k.invariant ∙ closes-end _ k.end-index _ k.begin (omega arith))

@@ -1,52 +1,38 @@
--- `set_order::first_in_order` meets its contract: no set before the i-th of the order qualifies. Assumes nothing.
-use Prim.Native.Nat.{ℕ, ◌+◌, ◌<◌}
-use mathlib.Core.Path.{refl, sym, ap, ◌∙◌}
-use native.Mathlib.Omega.{arith}
-use lib.ListN.{length, get_or, drop}
+-- `set_order::first_in_order` meets its contract: no set before the place qualifies. Assumes nothing.
+use Rattle.std.proofs.Common.{◌≡◌, sym, ap, ◌∙◌, ◌∷◌, ℕ, ◌+◌, ◌<◌, length, get_or, drop, arith}
 use Rattle.laws.proofs.list.Every.{every-at}
 use Rattle.dispatch.specs.NamedSets.{first_qualifying}
 use Rattle.set_order.specs.Answered.{fit_in}
 use Rattle.set_order.proofs.Ends.{front, no_front}
 use Rattle.set_order.proofs.Order.{first-here, first-later, first-none}
-use Rattle.set_order.proofs.first_in_order.Goals.{In-loop-i}
+use Rattle.set_order.proofs.first_in_order.Goals.{In-loop-place}
 use Rattle.set_order.proofs.first_in_order.Goals as goal
 
--- the number at i is that of a set
-is_set : (c : In-loop-i) → get_or c.args.order.now c.loop-i.i 0 < length c.args.starts.now
-is_set c = let s = c in every-at (λ (k : ℕ). k < length s.args.starts.now) s.args.order.now c.loop-i.i 0 s.requires.fact_2 (omega arith)
+-- the number at the place is that of a set
+is_set : (c : In-loop-place) → get_or c.args.order.now c.loop-place.place 0 < length c.args.starts.now
+is_set c = every-at (λ (k : ℕ). k < length c.args.starts.now) c.args.order.now c.loop-place.place 0 c.requires.fact_2 (omega arith)
 
-pub loop-i-init : goal.loop-i-init
-loop-i-init c = (omega arith, refl)
+-- it answers, or those behind it
+on : (c : In-loop-place)
+    → let a = c.args in let place = c.loop-place.place in first_qualifying (fit_in a.starts.now a.declares.now) 0 a.order.now ≡ first_qualifying (fit_in a.starts.now a.declares.now) place (get_or a.order.now place 0 ∷ drop (place + 1) a.order.now)
+on c = let a = c.args in c.loop-place.invariant ∙ ap (first_qualifying (fit_in a.starts.now a.declares.now) c.loop-place.place) (front a.order.now c.loop-place.place (omega arith))
 
-pub qualifies-requires : goal.qualifies-requires
-qualifies-requires c = record { fact_1 = is_set (goal.at.qualifies-requires c).In-loop-i; fact_2 = c.requires.fact_1 }
+pub qualifies-requires-clause-fact_1 : goal.qualifies-requires-clause-fact_1
+qualifies-requires-clause-fact_1 c = is_set (goal.at.qualifies-requires-clause-fact_1 c).In-loop-place
 
 pub returns-then-qualifies : goal.returns-then-qualifies
 returns-then-qualifies c =
-    let n = c in
-    let k = n.loop-i in
-    let s = n in
-    let a = s.args in
-    sym
-    (k.invariant.1
-    ∙ ap (first_qualifying (fit_in a.starts.now a.declares.now) k.i) (front a.order.now k.i (omega arith))
-    ∙ first-here a.starts.now a.declares.now k.i (get_or a.order.now k.i 0) (drop (k.i + 1) a.order.now) s.requires.fact_1 (is_set (goal.at.returns-then-qualifies n).In-loop-i) (sym c.qualifies.ensures ∙ c.if-qualifies.true))
+    let at = (goal.at.returns-then-qualifies c).In-loop-place in
+    sym (on at ∙ first-here _ _ _ _ _ c.requires.fact_1 (is_set at) (sym c.qualifies.ensures ∙ c.if-qualifies.true))
 
-pub loop-i-preserved : goal.loop-i-preserved
-loop-i-preserved c =
-    let n = c in
-    let k = n.loop-i in
-    let s = n in
-    let a = s.args in (
-      omega arith,
-      k.invariant.1
-          ∙ ap (first_qualifying (fit_in a.starts.now a.declares.now) k.i) (front a.order.now k.i (omega arith))
-          ∙ first-later a.starts.now a.declares.now k.i (get_or a.order.now k.i 0) (drop (k.i + 1) a.order.now) s.requires.fact_1 (is_set (goal.at.loop-i-preserved n).In-loop-i) (sym c.qualifies.ensures ∙ c.if-qualifies.false),
-    )
+pub loop-place-preserved : goal.loop-place-preserved
+loop-place-preserved c =
+    let at = (goal.at.loop-place-preserved c).In-loop-place in
+    on at ∙ first-later _ _ _ _ _ c.requires.fact_1 (is_set at) (sym c.qualifies.ensures ∙ c.if-qualifies.false)
 
 pub returns : goal.returns
 returns c =
-    let k = c.loop-i in
     let a = c.args in
     let fits = fit_in a.starts.now a.declares.now in
-    sym (k.invariant.1 ∙ ap (first_qualifying fits k.i) (no_front a.order.now k.i (omega arith)) ∙ first-none fits k.i)
+    let place = c.loop-place.place in
+    sym (c.loop-place.invariant ∙ ap (first_qualifying fits place) (no_front a.order.now place (omega arith)) ∙ first-none fits place)

@@ -23,13 +23,11 @@ room c = let h = c.if-counted-room.true in omega arith
 
 pub write_times-count-requires : goal.write_times-count-requires
 write_times-count-requires c =
-    let k = c in
-    record { accepted_times_1 = k.requires; accepted_times_2 = k.latest_inverses-reach.ensures; ends_in_bounds = room (goal.at.write_times-count-requires k).Then-counted-room }
+    record { accepted_times_1 = c.requires; accepted_times_2 = c.latest_inverses-reach.ensures; ends_in_bounds = room (goal.at.write_times-count-requires c).Then-counted-room }
 
 pub returns-then-counted-room : goal.returns-then-counted-room
 returns-then-counted-room c =
-    let w = c in
-    (w.write_times-count.ensures.0, room (goal.at.returns-then-counted-room w).Then-counted-room, w.write_times-count.ensures.1)
+    (c.write_times-count.ensures.0, room (goal.at.returns-then-counted-room c).Then-counted-room, c.write_times-count.ensures.1)
 
 pub returns : goal.returns
 returns c = let h = c.if-counted-room.false in (omega arith, refl)

@@ -29,18 +29,16 @@ abbrev all : At-start → List Float
 all s = times_of s.args.starts.now s.args.clips.now s.args.xs.now s.args.ys.now s.args.times.now s.args.ends.now
 
 -- the shorter list has room for all
-room : (c : Then-counted-room) → let s = c in length (all (goal.at.Then-counted-room s).Start) ≤ min (length s.args.outtimes.now) (length s.args.outmarks.now)
+room : (c : Then-counted-room) → length (all (goal.at.Then-counted-room c).Start) ≤ min (length c.args.outtimes.now) (length c.args.outmarks.now)
 room c =
-    let k = c in
-    let s = k in
     let h = c.if-counted-room.true in
     omega arith
 
-times-room : (c : Then-counted-room) → let s = c in length (all (goal.at.Then-counted-room s).Start) ≤ length s.args.outtimes.now
-times-room c = let s = c in le_trans (room c) (min-le_left (length s.args.outtimes.now) (length s.args.outmarks.now))
+times-room : (c : Then-counted-room) → length (all (goal.at.Then-counted-room c).Start) ≤ length c.args.outtimes.now
+times-room c = le_trans (room c) (min-le_left (length c.args.outtimes.now) (length c.args.outmarks.now))
 
-marks-room : (c : Then-counted-room) → let s = c in length (all (goal.at.Then-counted-room s).Start) ≤ length s.args.outmarks.now
-marks-room c = let s = c in le_trans (room c) (min-le_right (length s.args.outtimes.now) (length s.args.outmarks.now))
+marks-room : (c : Then-counted-room) → length (all (goal.at.Then-counted-room c).Start) ≤ length c.args.outmarks.now
+marks-room c = le_trans (room c) (min-le_right (length c.args.outtimes.now) (length c.args.outmarks.now))
 
 pub latest_inverses-reach-requires : goal.latest_inverses-reach-requires
 latest_inverses-reach-requires c =
@@ -52,11 +50,10 @@ count_within-counted-requires c = search (rules, accepted-times)
 
 pub write_times-count-requires : goal.write_times-count-requires
 write_times-count-requires c =
-    let k = c in
-    record { accepted_times_1 = accepted-times k.requires; accepted_times_2 = k.latest_inverses-reach.ensures; ends_in_bounds = times-room (goal.at.write_times-count-requires k).Then-counted-room }
+    record { accepted_times_1 = accepted-times c.requires; accepted_times_2 = c.latest_inverses-reach.ensures; ends_in_bounds = times-room (goal.at.write_times-count-requires c).Then-counted-room }
 
 times_long : (w : After-write_times-count) → length w.write_times-count.new.out ≡ length w.args.outtimes.now
-times_long w = let s = w in ap length w.write_times-count.ensures.1 ∙ length-written (all (goal.at.After-write_times-count s).Start) s.args.outtimes.now (times-room (goal.at.After-write_times-count w).Then-counted-room)
+times_long w = ap length w.write_times-count.ensures.1 ∙ length-written (all (goal.at.After-write_times-count w).Start) w.args.outtimes.now (times-room (goal.at.After-write_times-count w).Then-counted-room)
 
 count_room : (w : After-write_times-count) → w.write_times-count.result ≤ length w.write_times-count.new.out
 count_room w = omega (arith, times_long w, times-room (goal.at.After-write_times-count w).Then-counted-room, w.write_times-count.ensures.0)
@@ -65,23 +62,18 @@ pub slice_bounds-write_marks-end : goal.slice_bounds-write_marks-end
 slice_bounds-write_marks-end c = count_room (goal.at.slice_bounds-write_marks-end c).After-write_times-count
 
 pub slice_bounds-write_marks-end-then-counted-room : goal.slice_bounds-write_marks-end-then-counted-room
-slice_bounds-write_marks-end-then-counted-room c = let w = c in sym (length-take-le w.write_times-count.result w.write_times-count.new.out (count_room (goal.at.slice_bounds-write_marks-end-then-counted-room w).After-write_times-count))
+slice_bounds-write_marks-end-then-counted-room c = sym (length-take-le c.write_times-count.result c.write_times-count.new.out (count_room (goal.at.slice_bounds-write_marks-end-then-counted-room c).After-write_times-count))
 
 pub write_marks-requires : goal.write_marks-requires
 write_marks-requires c =
-    let w = c in record { fact_1 = w.requires; fact_2 = omega (arith, length-take-le w.write_times-count.result w.write_times-count.new.out (count_room (goal.at.write_marks-requires w).After-write_times-count), marks-room (goal.at.write_marks-requires w).Then-counted-room, w.write_times-count.ensures.0) }
+    record { fact_1 = c.requires; fact_2 = omega (arith, length-take-le c.write_times-count.result c.write_times-count.new.out (count_room (goal.at.write_marks-requires c).After-write_times-count), marks-room (goal.at.write_marks-requires c).Then-counted-room, c.write_times-count.ensures.0) }
 
 pub returns-then-counted-room : goal.returns-then-counted-room
 returns-then-counted-room c =
-    let b = c in
-    let w = b in
-    let s = w in
-    samples-written (set (goal.at.returns-then-counted-room s).Start) (lent (goal.at.returns-then-counted-room s).Start) (all (goal.at.returns-then-counted-room s).Start) (stage-times s.requires) s.args.outtimes.now w.write_times-count.new.out s.args.outmarks.now _ w.write_times-count.result w.write_times-count.ensures.0 (room (goal.at.returns-then-counted-room w).Then-counted-room) w.write_times-count.ensures.1 b.write_marks.ensures
+    samples-written (set (goal.at.returns-then-counted-room c).Start) (lent (goal.at.returns-then-counted-room c).Start) (all (goal.at.returns-then-counted-room c).Start) (stage-times c.requires) c.args.outtimes.now c.write_times-count.new.out c.args.outmarks.now _ c.write_times-count.result c.write_times-count.ensures.0 (room (goal.at.returns-then-counted-room c).Then-counted-room) c.write_times-count.ensures.1 c.write_marks.ensures
 
 pub returns : goal.returns
 returns c =
-    let k = c in
-    let s = k in
     let h = c.if-counted-room.false in
-    samples-none (set (goal.at.returns s).Start) (lent (goal.at.returns s).Start) (all (goal.at.returns s).Start) (stage-times s.requires) s.args.outtimes.now s.args.outtimes.now s.args.outmarks.now s.args.outmarks.now
+    samples-none (set (goal.at.returns c).Start) (lent (goal.at.returns c).Start) (all (goal.at.returns c).Start) (stage-times c.requires) c.args.outtimes.now c.args.outtimes.now c.args.outmarks.now c.args.outmarks.now
     (omega arith) refl refl

@@ -2,4 +2,4 @@
 use Rattle.tavitrozy.proofs.tavitrozy_lent_accept.Goals as goal
 
 pub returns : goal.returns
-returns c = c.accept.ensures
+returns c = rw c.settle.ensures c.accept-after.ensures

@@ -2,4 +2,4 @@
 use Rattle.tavitrozy.proofs.tavitrozy_lent_accept_template.Goals as goal
 
 pub returns : goal.returns
-returns c = c.accept_template.ensures
+returns c = rw c.settle.ensures c.accept_template-after.ensures

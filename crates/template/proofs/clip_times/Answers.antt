@@ -24,20 +24,20 @@ few c = omega (arith, c.if-count-gt-CLIPS.false, c.promote-promoted.ensures.coun
 pub returns-then-is_unstorable : goal.returns-then-is_unstorable
 returns-then-is_unstorable c =
     let a = c.args in
-    says-2 a.times (offset_of a.times a.offset) a.out.now _ c.refused.ensures (sym c.is_unstorable.ensures ∙ c.if-is_unstorable.true)
+    says-2 a.times (offset_of a.times a.offset) a.out.now (sym c.is_unstorable.ensures ∙ c.if-is_unstorable.true)
 
 pub returns-then-is_disordered : goal.returns-then-is_disordered
 returns-then-is_disordered c =
     let p = c in
     let a = p.args in
-    says-7 a.times (offset_of a.times a.offset) a.out.now (finite (goal.at.returns-then-is_disordered p).Else-is_unstorable) _ c.refused-then-is_disordered.ensures (sym c.is_disordered.ensures ∙ c.if-is_disordered.true)
+    says-7 a.times (offset_of a.times a.offset) a.out.now (finite (goal.at.returns-then-is_disordered p).Else-is_unstorable) (sym c.is_disordered.ensures ∙ c.if-is_disordered.true)
 
 pub returns-then-count-gt-CLIPS : goal.returns-then-count-gt-CLIPS
 returns-then-count-gt-CLIPS c =
     let q = c in
     let p = q in
     let a = p.args in
-    says-8 a.times (offset_of a.times a.offset) a.out.now (finite (goal.at.returns-then-count-gt-CLIPS p).Else-is_unstorable) (ordered (goal.at.returns-then-count-gt-CLIPS q).Else-is_disordered) _ c.refused-then-count-gt-CLIPS.ensures (omega (arith, c.if-count-gt-CLIPS.true, c.promote-promoted.ensures.count))
+    says-8 a.times (offset_of a.times a.offset) a.out.now (finite (goal.at.returns-then-count-gt-CLIPS p).Else-is_unstorable) (ordered (goal.at.returns-then-count-gt-CLIPS q).Else-is_disordered) (omega (arith, c.if-count-gt-CLIPS.true, c.promote-promoted.ensures.count))
 
 pub returns-then-out-count : goal.returns-then-out-count
 returns-then-out-count c =
@@ -45,7 +45,7 @@ returns-then-out-count c =
     let q = r in
     let p = q in
     let a = p.args in
-    says-22 a.times (offset_of a.times a.offset) a.out.now (finite (goal.at.returns-then-out-count p).Else-is_unstorable) (ordered (goal.at.returns-then-out-count q).Else-is_disordered) (few (goal.at.returns-then-out-count r).Else-count-gt-CLIPS) _ c.refused-then-out-count.ensures (omega (arith, c.if-out-count.true, r.promote-promoted.ensures.count))
+    says-22 a.times (offset_of a.times a.offset) a.out.now (finite (goal.at.returns-then-out-count p).Else-is_unstorable) (ordered (goal.at.returns-then-out-count q).Else-is_disordered) (few (goal.at.returns-then-out-count r).Else-count-gt-CLIPS) (omega (arith, c.if-out-count.true, r.promote-promoted.ensures.count))
 
 clips-lent : (c : Else-out-count) → let p = c.promote-promoted in length (take p.result.count p.result.items) ≡ p.result.count
 clips-lent c = let p = c.promote-promoted in lent 256 p.result.count p.result.items p.ensures.long c.if-count-gt-CLIPS.false

@@ -14,16 +14,17 @@ use Rattle.definitions.specs.Examining.{empty_set}
 use Rattle.clip.specs.Holding.{manifest}
 use Rattle.template.specs.Expanding.{template_fields, template_fields_number, knot_count, expanded_set}
 use Rattle.clip.proofs.Laws.{all_fit, lent}
+use Rattle.clip.proofs.Preparing.{same-reason}
 use Rattle.template.proofs.Expansion.{few-knots}
 use Rattle.template.proofs.Templates.{few-blocks, template-refuses, template-beyond, template-settles}
-use Rattle.template.proofs.expand_template.Goals.{After-knot_count-m, After-shared_slice_known-2-1, Else-number-ne0, Start as At-start}
+use Rattle.template.proofs.expand_template.Goals.{After-knot_count-m, After-shared_slice_known-2-1, In_ok-check_fields, Start as At-start}
 use Rattle.template.proofs.expand_template.Goals as goal
 
 abbrev fields : At-start → TemplateFields
 fields c = template_fields c.args.template.now c.args.times c.args.offset c.args.blocks.now (manifest c.args.default c.args.interpolate)
 
-none : (c : Else-number-ne0) → template_fields_number (fields (goal.at.Else-number-ne0 c).Start) ≡ 0
-none c = sym c.fields_number-number.ensures ∙ c.if-number-ne0.false
+none : (c : In_ok-check_fields) → template_fields_number (fields (goal.at.In_ok-check_fields c).Start) ≡ 0
+none c = sym c.in_ok-check_fields.ensures
 
 -- the clips and the knots have room
 few : (c : After-knot_count-m) → c.promote-promoted.result.count ≤ 256
@@ -39,15 +40,14 @@ clips-lent c = lent 256 c.promote-promoted.result.count c.promote-promoted.resul
 fitting : (c : After-shared_slice_known-2-1) → TemplateFits (fields (goal.at.After-shared_slice_known-2-1 c).Start)
 fitting c = record { blocks = all_fit c.args.blocks.now c.shared_slice_known-2-1.given; value = subst T (sym c.well_formed.1.1.1.1.0.1.1.1.0.1) tt }
 
-pub returns-then-number-ne0 : goal.returns-then-number-ne0
-returns-then-number-ne0 c =
-    let s = c in
-    template-refuses (fields (goal.at.returns-then-number-ne0 s).Start) c.fields_number-number.result c.refused.result c.fields_number-number.ensures c.if-number-ne0.true c.refused.ensures
+pub returns-in_err-check_fields : goal.returns-in_err-check_fields
+returns-in_err-check_fields c =
+    template-refuses (fields (goal.at.returns-in_err-check_fields c).Start) _ _ (same-reason _ _ c.from_residual.ensures.1) c.in_err-check_fields.ensures
 
 pub returns-then-n-gt-CLIPS : goal.returns-then-n-gt-CLIPS
 returns-then-n-gt-CLIPS c =
     let s = c in
-    template-beyond (fields (goal.at.returns-then-n-gt-CLIPS s).Start) c.refused-then-n-gt-CLIPS.result (none (goal.at.returns-then-n-gt-CLIPS c).Else-number-ne0) (omega (arith, c.if-n-gt-CLIPS.true, c.promote-promoted.ensures.count)) c.refused-then-n-gt-CLIPS.ensures
+    template-beyond (fields (goal.at.returns-then-n-gt-CLIPS s).Start) (none (goal.at.returns-then-n-gt-CLIPS c).In_ok-check_fields) (omega (arith, c.if-n-gt-CLIPS.true, c.promote-promoted.ensures.count))
 
 pub slice_bounds-expand_lists-end : goal.slice_bounds-expand_lists-end
 slice_bounds-expand_lists-end c = sym (clips-lent (goal.at.slice_bounds-expand_lists-end c).After-knot_count-m)
@@ -88,7 +88,7 @@ expand_lists-requires c =
       for-xs = length-take-le _ _ (few-lent (goal.at.expand_lists-requires b).After-knot_count-m) ∙ k;
       for-ys = length-take-le _ _ (few-lent (goal.at.expand_lists-requires b).After-knot_count-m) ∙ k;
       few = omega (arith, t, few (goal.at.expand_lists-requires b).After-knot_count-m);
-      few-blocks = few-blocks (fields (goal.at.expand_lists-requires b).Start) (none (goal.at.expand_lists-requires b).Else-number-ne0);
+      few-blocks = few-blocks (fields (goal.at.expand_lists-requires b).Start) (none (goal.at.expand_lists-requires b).In_ok-check_fields);
     }
 
 pub returns : goal.returns
@@ -97,5 +97,5 @@ returns c =
     let s = b in
     let f = fields (goal.at.returns s).Start in
     let r = c.expand_lists in
-    template-settles f r.result (fitting (goal.at.returns b).After-shared_slice_known-2-1) (none (goal.at.returns b).Else-number-ne0) (omega (arith, b.promote-promoted.ensures.count, few (goal.at.returns b).After-knot_count-m))
+    template-settles f r.result (fitting (goal.at.returns b).After-shared_slice_known-2-1) (none (goal.at.returns b).In_ok-check_fields) (omega (arith, b.promote-promoted.ensures.count, few (goal.at.returns b).After-knot_count-m))
     (subst (λ (ts : List Float). Stores empty_set (expanded_set ts s.args.times (active_offset f) s.args.blocks.now (manifest s.args.default s.args.interpolate)) r.result) (b.promote-promoted.ensures.list (few (goal.at.returns b).After-knot_count-m)) r.ensures)

@@ -1,4 +1,5 @@
 -- A set with several starts and no knots: in a window the value at each time is the direct one, so that one cell reads it up to the next start. Assumes nothing.
+use Rattle.std.specs.Prelude.{Option, None, Some}
 use mathlib.Core.Path.{◌≡◌, refl, sym, ap, ap₂, ◌∙◌, subst}
 use mathlib.Core.Logic.{inl}
 use mathlib.Core.Bool.{Bool, true, false, not, ◌&&◌, cond}
@@ -33,8 +34,6 @@ use Rattle.laws.specs.cell.Knots as Knots
 use Rattle.laws.specs.cell.Neighbours.{IsLower}
 use Rattle.laws.specs.cell.Keys.{Keys}
 use Rattle.laws.specs.cell.Lent.{knots_of, set_of, samples_of, AcceptedLists}
-use Rattle.window.specs.declared.Bound.{Bound}
-use Rattle.window.specs.declared.Bound.TheVariants.{At, Nothing}
 use Rattle.window.specs.declared.Neighbours.{Neighbours}
 use Rattle.window.specs.Bounds.{inside, nothing, LowerIs, NeighboursAre}
 use Rattle.window.specs.Inverses.{inverses_of}
@@ -160,10 +159,10 @@ module _ {starts : List Float} {clips : List ℕ} {xs ys blocks : List Float} {m
         place : last_at_most (samples_in times w) l ≡ last_at_most (samples_in times w) t
         place = lower-place w (samples_in times w) ys (window-lent R p w W).rising t l plain-faces nears.upto (low l L) (subst (λ (k : List Float). IsLower (window_times k ys (samples_in times w) w) t l) (empty xs none) L)
 
-    held : (b d : Bound) → LowerIs (window_times xs ys (samples_in times w) w) t b → window_source xs ys times w t ≡ window_source xs ys times w (held_at xs t b d)
-    held Nothing d L = refl
-    held (At l) Nothing L = refl
-    held (At l) (At h) L = held-source l h L
+    held : (b d : Option Float) → LowerIs (window_times xs ys (samples_in times w) w) t b → window_source xs ys times w t ≡ window_source xs ys times w (held_at xs t b d)
+    held None d L = refl
+    held (Some l) None L = refl
+    held (Some l) (Some h) L = held-source l h L
 
     -- The value is the direct one
     pub plain_value : window_source xs ys times w t ≡ value_source (set_of (length ends) starts clips xs ys blocks m) (samples_of times values marks ends) (stage t)

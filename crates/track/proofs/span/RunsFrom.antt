@@ -1,4 +1,5 @@
 -- The law of a run: up to its end the value is that of the sample at the inverse time that was passed last. Assumes nothing.
+use Rattle.std.specs.Prelude.{None, Some}
 use mathlib.Core.Path.{◌≡◌, refl, sym, ap, ap₂, ◌∙◌, subst}
 use mathlib.Core.Logic.{◌⊎◌, inl, inr}
 use mathlib.Core.Bool.{Bool, true, false, not, ◌&&◌, cond}
@@ -34,7 +35,6 @@ use Rattle.laws.specs.cell.Knots as Knots
 use Rattle.laws.proofs.cell.Window.{gathered-fit}
 use Rattle.laws.proofs.cell.Zeros.{zero-direct}
 use Rattle.laws.specs.cell.Lent.{AcceptedLists, set_of, samples_of}
-use Rattle.window.specs.declared.Bound.TheVariants.{At, Nothing}
 use Rattle.window.specs.Bounds.{NeighboursAre}
 use Rattle.window.specs.SoundSegments.{SoundSegment}
 use Rattle.window.specs.Parts.{part_of}
@@ -232,16 +232,16 @@ module _ {starts : List Float} {clips : List ℕ} {xs ys blocks : List Float} {m
         finite-j = record { fitting = of_key-fits j; finitely = of_key-finite j jl g }
 
         source-held : source_at_key set s j ≡ direct_source set s (stage H.m)
-        source-held = source-on R j j (record { low = jl; order = le_of_eq refl; high = g }) (Constant (direct_source set s (stage H.m))) (At H.n) piece j (le_of_eq refl) (short-end)
+        source-held = source-on R j j (record { low = jl; order = le_of_eq refl; high = g }) (Constant (direct_source set s (stage H.m))) (Some H.n) piece j (le_of_eq refl) (short-end)
           where
-            around : NeighboursAre (gathered set s p) (of_key j) (record { lower = At H.m; upper = At H.n })
-            around = subst (λ (x : List Float). NeighboursAre x (of_key j) (record { lower = At H.m; upper = At H.n })) (sym (window-gathered R p w W)) (record { lower = H.lower; upper = H.upper })
+            around : NeighboursAre (gathered set s p) (of_key j) (record { lower = Some H.m; upper = Some H.n })
+            around = subst (λ (x : List Float). NeighboursAre x (of_key j) (record { lower = Some H.m; upper = Some H.n })) (sym (window-gathered R p w W)) (record { lower = H.lower; upper = H.upper })
 
-            is_held : held_of xs (At H.m) (At H.n) ≡ At H.m
-            is_held = ap (λ (x : Bool). cond x Nothing (At H.m)) H.level
+            is_held : held_of xs (Some H.m) (Some H.n) ≡ Some H.m
+            is_held = ap (λ (x : Bool). cond x None (Some H.m)) H.level
 
-            piece : CellAndEndIs set s (of_key j) (Constant (direct_source set s (stage H.m))) (At H.n)
-            piece = piece-constant R (of_key j) finite-j many p at (record { lower = At H.m; upper = At H.n }) around H.m (direct_source set s (stage H.m)) is_held refl
+            piece : CellAndEndIs set s (of_key j) (Constant (direct_source set s (stage H.m))) (Some H.n)
+            piece = piece-constant R (of_key j) finite-j many p at (record { lower = Some H.m; upper = Some H.n }) around H.m (direct_source set s (stage H.m)) is_held refl
 
             short-end : j ≤ min j (key H.n - 1)
             short-end =

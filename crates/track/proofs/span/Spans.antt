@@ -1,4 +1,5 @@
 -- The span of a piece: up to its last key its cell reads and says the value, and the place that it reads turns one way. Assumes nothing.
+use Rattle.std.specs.Prelude.{Option}
 use mathlib.Core.Path.{◌≡◌, refl, sym, ap, ap₂, ◌∙◌, subst}
 use mathlib.Core.Logic.{inl, inr}
 use mathlib.Core.Bool.{false}
@@ -33,7 +34,6 @@ use Rattle.laws.proofs.cell.Keys.{NonePassed, cell_place_at, source_at_key, cell
 use Rattle.laws.specs.cell.Lent.{AcceptedLists, set_of, samples_of}
 use Rattle.laws.proofs.cell.Places.{last-short}
 use Rattle.window.proofs.Parts.{ready-readable}
-use Rattle.window.specs.declared.Bound.{Bound}
 use Rattle.cell.specs.declared.step.line.Line.{Line}
 use Rattle.cell.specs.step.Lines.{line_is, place_on}
 use Rattle.run.specs.Readings.{LeftOnce, Reads, reading_at}
@@ -210,7 +210,7 @@ module _ {starts : List Float} {clips : List ℕ} {xs ys blocks : List Float} {m
   abbrev s : Samples
   s = samples_of times values marks ends
 
-  module _ (cell : Cell) (e : Bound) (P : CellAndEndIs (set_of (length ends) starts clips xs ys blocks m) (samples_of times values marks ends) (of_key k) cell e) where
+  module _ (cell : Cell) (e : Option Float) (P : CellAndEndIs (set_of (length ends) starts clips xs ys blocks m) (samples_of times values marks ends) (of_key k) cell e) where
     abbrev hi : ℕ
     hi = min top (end_key e - 1)
 

@@ -1,4 +1,5 @@
 -- The steps of a walk lead on by the value of the set: what each reads is what the set says there. Assumes nothing.
+use Rattle.std.specs.Prelude.{Option, Some}
 use mathlib.Core.Path.{◌≡◌, refl, sym, ◌∙◌, subst}
 use mathlib.Core.List.{List}
 use Prim.Native.Nat.{ℕ, ◌-◌, ◌<◌, min}
@@ -16,8 +17,6 @@ use Rattle.definitions.specs.Timing.{last_at_most}
 use Rattle.laws.specs.track.Steps.{Agree}
 use Rattle.laws.specs.cell.Keys.{Keys, entry_at_key}
 use Rattle.laws.specs.cell.Lent.{AcceptedLists, set_of, samples_of}
-use Rattle.window.specs.declared.Bound.{Bound}
-use Rattle.window.specs.declared.Bound.TheVariants.{At}
 use Rattle.window.specs.declared.search.Window.{Window}
 use Rattle.window.specs.search.Latest.{LatestOf}
 use Rattle.window.specs.search.Windowed.{samples_in}
@@ -69,7 +68,7 @@ module _ {starts : List Float} {clips : List ℕ} {xs ys blocks : List Float} {m
 
   -- ---- in a cell that reads the value up to its end
 
-  module _ (c : Cell) (e : Bound) (D : Told set s k (min top (end_key e - 1)) c) where
+  module _ (c : Cell) (e : Option Float) (D : Told set s k (min top (end_key e - 1)) c) where
     reads_at : Numbered e → k < end_key e → ReadsAt times values marks ends c e k
     reads_at n l = record {
       point = point;
@@ -98,7 +97,7 @@ module _ {starts : List Float} {clips : List ℕ} {xs ys blocks : List Float} {m
 
   -- ---- in the cell that is found
 
-  module _ (c : Cell) (e : Bound) (F : CellIn starts xs ys times w (of_key k) c e) where
+  module _ (c : Cell) (e : Option Float) (F : CellIn starts xs ys times w (of_key k) c e) where
     piece : CellAndEndIs set s (of_key k) c e
     piece = cell-is R (of_key k) finite-key at.start w A c e F
 
@@ -123,14 +122,14 @@ module _ {starts : List Float} {clips : List ℕ} {xs ys blocks : List Float} {m
 
     -- without knots
     module _ (none : length xs ≡ 0) where
-      told : Told set s k (min top (end_key (At at.window.max) - 1)) (knotless_cell at.window)
+      told : Told set s k (min top (end_key (Some at.window.max) - 1)) (knotless_cell at.window)
       told = plain-told R none many at.start w window k top K placed
 
-      pub knotless-asks : ReadsAt times values marks ends (knotless_cell at.window) (At at.window.max) k
-      knotless-asks = reads_at (knotless_cell w) (At w.max) told (plain-number R none many at.start w window k top K placed) (plain-later R none many at.start w window k top K placed)
+      pub knotless-asks : ReadsAt times values marks ends (knotless_cell at.window) (Some at.window.max) k
+      knotless-asks = reads_at (knotless_cell w) (Some w.max) told (plain-number R none many at.start w window k top K placed) (plain-later R none many at.start w window k top K placed)
 
-      pub knotless-steps : (r : Step) → CellStep m times values marks ends (knotless_cell at.window) (At at.window.max) at k top r → StepIs starts clips xs ys blocks m times values marks ends k top r
-      knotless-steps r S = told-step (knotless_cell w) (At w.max) told r S
+      pub knotless-steps : (r : Step) → CellStep m times values marks ends (knotless_cell at.window) (Some at.window.max) at k top r → StepIs starts clips xs ys blocks m times values marks ends k top r
+      knotless-steps r S = told-step (knotless_cell w) (Some w.max) told r S
 
     -- past a run
     module _ (full : at.window.begin < at.window.end) (latest : List Float) (i : ℕ) (l h : Float) (O : RunFrom xs ys latest (samples_in times at.window) at.window (of_key k) i l h) where

@@ -1,5 +1,5 @@
 -- The steps of a walk, each by what it reads: of a window, and of the lists of its clip. Assumes nothing.
-use Rattle.std.specs.Prelude.{◌≡◌, not, List, ℕ, ◌+◌, ◌-◌, ◌≤◌, ◌<◌, min, T, length, Float}
+use Rattle.std.specs.Prelude.{◌≡◌, not, List, ℕ, ◌+◌, ◌-◌, ◌≤◌, ◌<◌, min, T, length, Float, Option}
 use Rattle.std.specs.Float.Ieee.{is_nan}
 use Rattle.gf.specs.Doubles.{key, of_key}
 use Rattle.definitions.specs.declared.Missing.{Missing}
@@ -9,7 +9,6 @@ use Rattle.definitions.specs.Track.{written_entry}
 use Rattle.laws.specs.list.Places.{Ascending}
 use Rattle.laws.specs.cell.Keys.{Keys}
 use Rattle.lists.specs.Segments.{segment_at}
-use Rattle.window.specs.declared.Bound.{Bound}
 use Rattle.window.specs.declared.search.Window.{Window}
 use Rattle.window.specs.search.Latest.{segment_of}
 use Rattle.value.specs.Answers.{answer_in, Answerable}
@@ -39,7 +38,7 @@ Readable times ends (Constant r) = Unit {0}
 Readable times ends (Reading c line) = ReadPart times ends c
 
 -- the cell can be read at the key k, what it reads lies in the lists, and its end e is above k
-pub record ReadsAt (times values : List Float) (marks ends : List ℕ) (cell : Cell) (e : Bound) (k : ℕ) : Type 0 where
+pub record ReadsAt (times values : List Float) (marks ends : List ℕ) (cell : Cell) (e : Option Float) (k : ℕ) : Type 0 where
   pub point : Keys k k
   pub read : Readable times ends cell
   pub said : Answerable (length values) ends (read_on times ends cell k)
@@ -48,7 +47,7 @@ pub record ReadsAt (times values : List Float) (marks ends : List ℕ) (cell : C
   pub later : k < end_key e
 
 -- the step from k on in the cell, up to top or to the key before its end e; the place of the walk stays in its window
-pub record CellStep (m : Missing) (times values : List Float) (marks ends : List ℕ) (cell : Cell) (e : Bound) (at : WindowPlace) (k top : ℕ) (r : Step) : Type 0 where
+pub record CellStep (m : Missing) (times values : List Float) (marks ends : List ℕ) (cell : Cell) (e : Option Float) (at : WindowPlace) (k top : ℕ) (r : Step) : Type 0 where
   pub way : r.span.way ≡ ByCell cell
   pub here : entry_is r.span.here ≡ written_entry (answer_in m values marks ends (read_on times ends cell k))
   pub upto : r.span.hi ≡ min top (end_key e - 1)
@@ -61,11 +60,11 @@ pub record CellStep (m : Missing) (times values : List Float) (marks ends : List
 pub record CellStepAsks (starts xs ys times values latest : List Float) (marks ends : List ℕ) (w : Window) (k : ℕ) : Type 0 where
   pub point : Keys k k
   pub search : CellAsks starts xs ys times latest w (of_key k)
-  pub reads : (c : Cell) (e : Bound) → CellIn starts xs ys times w (of_key k) c e → ReadsAt times values marks ends c e k
+  pub reads : (c : Cell) (e : Option Float) → CellIn starts xs ys times w (of_key k) c e → ReadsAt times values marks ends c e k
 
 pub record FoundStep (starts xs ys : List Float) (m : Missing) (times values : List Float) (marks ends : List ℕ) (at : WindowPlace) (k top : ℕ) (r : Step) : Type 0 where
   pub cell : Cell
-  pub end : Bound
+  pub end : Option Float
   pub found : CellIn starts xs ys times at.window (of_key k) cell end
   pub step : CellStep m times values marks ends cell end at k top r
 

@@ -78,12 +78,10 @@ pub fn fill_in(
     requires room { Room room n (outputs outtimes.old outvalues.old outmarks.old) }
     ensures { Walked (entry_by times.now values.now marks.now ends.now s.way (entry_is s.here)) k s.hi room n (outputs outtimes.old outvalues.old outmarks.old) (outputs outtimes.new outvalues.new outmarks.new) result }
 {
-    let way = s.way;
-    let here = s.here;
-    let hi = s.hi;
-    match way {
+    match s.way {
         ReadBy::ByCell(cell) => fill_cell(
-            times, values, marks, ends, cell, here, k, hi, room, n, outtimes, outvalues, outmarks,
+            times, values, marks, ends, cell, s.here, k, s.hi, room, n, outtimes, outvalues,
+            outmarks,
         ),
         ReadBy::ByRun(clip, _, segment, near) => {
             let a = clip_begin(ends, clip);
@@ -93,10 +91,10 @@ pub fn fill_in(
                 &values[a..b],
                 &marks[a..b],
                 segment,
-                here,
+                s.here,
                 near,
                 k,
-                hi,
+                s.hi,
                 room,
                 n,
                 outtimes,

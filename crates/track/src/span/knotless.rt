@@ -10,10 +10,7 @@ use window::search::Window;
 pub fn is_knotless(starts: &[f64], xs: &[f64]) -> bool
     ensures { result ≡ (ltb 1 (length starts.now) && eqb (length xs.now) 0) }
 {
-    if starts.len() < 2 {
-        return false;
-    }
-    xs.len() == 0
+    1 < starts.len() && xs.len() == 0
 }
 
 // The clip's samples, at the stage time itself, or what stands in for them.
@@ -23,6 +20,5 @@ pub fn knotless_cell(w: Window) -> Cell
     if w.begin < w.end {
         return Cell::Reading(w.clip, Line::Identity);
     }
-    let gap = w.gap;
-    Cell::Constant(gap)
+    Cell::Constant(w.gap)
 }

@@ -1,8 +1,9 @@
 -- What a reading of a clip is in the definitions' terms, and the search for a missing value start by start. Assumes nothing.
 use mathlib.Core.Path.{◌≡◌, refl, sym, ap, ◌∙◌}
-use mathlib.Core.Bool.{Bool, true, false, cond}
+use mathlib.Core.Bool.{Bool, true, false, cond, true≢false}
 use mathlib.Core.List.{List, [], ◌∷◌, reverse, reverse-append}
 use mathlib.Core.Option.{Option, none, some}
+use Rattle.std.specs.Prelude.{Some, None, is_some}
 use Prim.Native.Nat.{ℕ, suc, ◌+◌, ◌-◌, ◌≤◌, ◌<◌}
 use native.Mathlib.Omega.{arith}
 use lib.ListN.{length, get_or, take, drop}
@@ -11,14 +12,13 @@ use lib.Ieee.{Float, nan, eq}
 use Rattle.definitions.specs.declared.Missing.{Missing}
 use Rattle.definitions.specs.declared.Start.{Start}
 use Rattle.definitions.specs.declared.StageTime.{StageTime}
-use Rattle.definitions.specs.declared.Answer.{Answer}
 use Rattle.definitions.specs.declared.Source.{Source}
 use Rattle.definitions.specs.declared.Source.TheVariants.{Sample as sample}
 use Rattle.definitions.specs.Lists.{any}
 use Rattle.definitions.specs.ClipSet.{ClipSet, stage}
 use Rattle.definitions.specs.Timing.{last_at_most, map_stage_to_clip}
-use Rattle.definitions.specs.Samples.{Samples, clip_begin, clip_end, clip_times, held_place}
-use Rattle.definitions.specs.Value.{blocked_at, sample_of, read_clip, first_reading}
+use Rattle.definitions.specs.Samples.{Samples, clip_begin, clip_end, clip_times}
+use Rattle.definitions.specs.Value.{SampleRead, blocked_at, sample_of, read_clip, first_reading}
 use Rattle.laws.specs.cell.Lent.{start, active_of, knots_of, set_of, samples_of, AcceptedLists}
 use Rattle.laws.proofs.list.Every.{zip-at}
 use Rattle.laws.proofs.cell.Lent.{zip_length}
@@ -28,9 +28,13 @@ use Rattle.window.proofs.Parts.{ready-clip, ready-readable}
 use Rattle.sdf.specs.look.Reads.{marked_at, told}
 use Rattle.sdf.proofs.look.ReadsLaws.{place_none, place-some}
 use Rattle.sdf.specs.look.Reads as look
-use Rattle.value.specs.direct.Reads.{held_part, read_part, read_start, first_of, first_read, SearchAsks}
+use Rattle.value.specs.direct.Reads.{reading_is, read_part, read_start, first_of, first_read, SearchAsks}
 
 -- ---- a reading of the code
+
+pub none-read : (r : SampleRead) → is_some r ≡ false → none ≡ reading_is r
+none-read None e = refl
+none-read (Some x) e = absurd (true≢false e)
 
 module _ (xs ys times : List Float) (ends : List ℕ) (c : ℕ) (t : StageTime) where
   pub read_none : clip_begin ends c ≡ clip_end ends c → none ≡ read_part xs ys times ends c t
@@ -41,20 +45,6 @@ module _ (xs ys times : List Float) (ends : List ℕ) (c : ℕ) (t : StageTime) 
   read_some R h n = ap (sample_of c) (place-some times (clip_begin ends c) (clip_end ends c) (map_stage_to_clip (knots_of xs ys) t) (omega (arith, R.from c h, n)) (R.inside c h))
 
 module _ (xs ys times values : List Float) (marks ends : List ℕ) (c : ℕ) (t : StageTime) where
-  pub part-read : (i : ℕ) (a : Answer) → some (i, a) ≡ held_part xs ys times values marks ends c t → some (sample c i) ≡ read_part xs ys times ends c t
-  part-read i a e = go (held_place (part_of times ends c) (map_stage_to_clip (knots_of xs ys) t)) e
-    where
-      go : (o : Option ℕ) → some (i, a) ≡ told values marks (clip_begin ends c) o → some (sample c i) ≡ sample_of c o
-      go none e = let z : ◌≡◌ {A = ℕ} 0 1 = cc in absurd (omega arith)
-      go (some j) e = let z : ◌≡◌ {A = ℕ × Answer} (i, a) (j, marked_at values marks (clip_begin ends c + j)) = cc in ap (λ (x : ℕ × Answer). some (sample c x.0)) z
-
-  pub part_none : none ≡ held_part xs ys times values marks ends c t → none ≡ read_part xs ys times ends c t
-  part_none e = go (held_place (part_of times ends c) (map_stage_to_clip (knots_of xs ys) t)) e
-    where
-      go : (o : Option ℕ) → none ≡ told values marks (clip_begin ends c) o → none ≡ sample_of c o
-      go none e = refl
-      go (some j) e = let z : ◌≡◌ {A = ℕ} 0 1 = cc in absurd (omega arith)
-
   -- a clip's two ends, as a look asks for them
   pub part-looked : Readable xs ys times ends → c < length ends → length values ≡ length times → length marks ≡ length times
       → (begin end : ℕ) → begin ≡ clip_begin ends c → end ≡ clip_end ends c → look.Readable times values marks begin end
@@ -110,8 +100,10 @@ module _ (blocks xs ys times : List Float) (ends : List ℕ) where
     front-is h =
         first-front (active_of starts clips) i (at i) (omega (arith, active-length)) ∙ ap (λ (a : Start). first_of (read a) (first (drop (i + 1) (active_of starts clips)))) (active-at i h)
 
-    pub from_found : i < length starts → (q : Source) → some q ≡ read_start blocks xs ys times ends (start (get_or starts i nan) (get_or clips i 0)) → first_read blocks xs ys times ends (drop i (active_of starts clips)) ≡ some q
-    from_found h q e = front-is h ∙ ap (λ (o : Option Source). first_of o (first (drop (i + 1) (active_of starts clips)))) (sym e)
+    pub from_found : i < length starts → (r : SampleRead) → is_some r ≡ true → reading_is r ≡ read_start blocks xs ys times ends (start (get_or starts i nan) (get_or clips i 0))
+        → reading_is r ≡ first_read blocks xs ys times ends (drop i (active_of starts clips))
+    from_found h None s e = absurd (true≢false (sym s))
+    from_found h (Some x) s e = sym (front-is h ∙ ap (λ (o : Option Source). first_of o (first (drop (i + 1) (active_of starts clips)))) (sym e))
 
     pub from_on : i < length starts → none ≡ read_start blocks xs ys times ends (start (get_or starts i nan) (get_or clips i 0))
         → first_read blocks xs ys times ends (drop i (active_of starts clips)) ≡ first_read blocks xs ys times ends (drop (i + 1) (active_of starts clips))
@@ -127,9 +119,10 @@ module _ (blocks xs ys times : List Float) (ends : List ℕ) where
         ∙ first_back (active_of starts clips) (i - 1) (at (i - 1)) (omega (arith, active-length))
         ∙ ap (λ (a : Start). first_of (read a) (first (reverse (take (i - 1) (active_of starts clips))))) (active-at (i - 1) (omega arith))
 
-    pub back_found : 0 < i → i ≤ length starts → (q : Source) → some q ≡ read_start blocks xs ys times ends (start (get_or starts (i - 1) nan) (get_or clips (i - 1) 0))
-        → first_read blocks xs ys times ends (reverse (take i (active_of starts clips))) ≡ some q
-    back_found p h q e = back_is p h ∙ ap (λ (o : Option Source). first_of o (first (reverse (take (i - 1) (active_of starts clips))))) (sym e)
+    pub back_found : 0 < i → i ≤ length starts → (r : SampleRead) → is_some r ≡ true → reading_is r ≡ read_start blocks xs ys times ends (start (get_or starts (i - 1) nan) (get_or clips (i - 1) 0))
+        → reading_is r ≡ first_read blocks xs ys times ends (reverse (take i (active_of starts clips)))
+    back_found p h None s e = absurd (true≢false (sym s))
+    back_found p h (Some x) s e = sym (back_is p h ∙ ap (λ (o : Option Source). first_of o (first (reverse (take (i - 1) (active_of starts clips))))) (sym e))
 
     pub back_on : 0 < i → i ≤ length starts → none ≡ read_start blocks xs ys times ends (start (get_or starts (i - 1) nan) (get_or clips (i - 1) 0))
         → first_read blocks xs ys times ends (reverse (take i (active_of starts clips))) ≡ first_read blocks xs ys times ends (reverse (take (i - 1) (active_of starts clips)))

@@ -1,5 +1,7 @@
 -- What a reading of a clip is in the definitions' terms, and the search for a missing value start by start. Assumes nothing.
 use Rattle.std.specs.Prelude.{◌≡◌, cond, List, [], ◌∷◌, ℕ, ◌<◌, length, get_or, Float}
+use Rattle.std.specs.Prelude.{Some, None}
+use Rattle.std.specs.Prelude as std
 use Rattle.std.proofs.Math.Option.{Option, none, some}
 use Rattle.std.specs.Float.Ieee.{eq}
 use Rattle.definitions.specs.declared.Start.{Start}
@@ -11,21 +13,19 @@ use Rattle.definitions.specs.Lists.{any}
 use Rattle.definitions.specs.ClipSet.{stage}
 use Rattle.definitions.specs.Timing.{map_stage_to_clip}
 use Rattle.definitions.specs.Samples.{clip_begin, clip_end, held_place}
-use Rattle.definitions.specs.Value.{sample_of}
+use Rattle.definitions.specs.Value.{SampleRead, sample_of}
 use Rattle.laws.specs.cell.Lent.{knots_of}
 use Rattle.window.specs.Parts.{part_of, Readable}
 use Rattle.sdf.specs.look.Reads.{held_reading}
-use Rattle.definitions.specs.declared.SampleRead.{SampleRead}
-use Rattle.definitions.specs.declared.SampleRead.TheVariants.{Of, Nothing}
 
 -- ---- a reading of the code
 
 abbrev pub reading_is : SampleRead → Option Source
-reading_is (Of c i) = some (sample c i)
-reading_is Nothing = none
+reading_is (Some (c, i)) = some (sample c i)
+reading_is None = none
 
 -- its place, with what the sample there says
-abbrev pub held_part : List Float → List Float → List Float → List Float → List ℕ → List ℕ → ℕ → StageTime → Option (ℕ × Answer)
+abbrev pub held_part : List Float → List Float → List Float → List Float → List ℕ → List ℕ → ℕ → StageTime → std.Option (ℕ × Answer)
 held_part xs ys times values marks ends c t = held_reading times values marks (clip_begin ends c) (clip_end ends c) (map_stage_to_clip (knots_of xs ys) t)
 
 -- the reading of clip c at a stage time

@@ -1,4 +1,5 @@
 -- The times of an ascending list on either side of a time stand for all of them. Assumes nothing.
+use Rattle.std.specs.Prelude.{Option, None, Some}
 use mathlib.Core.Path.{◌≡◌, refl, ◌∙◌, subst}
 use mathlib.Core.Bool.{Bool, true, false, cond}
 use mathlib.Core.List.{List, [], ◌∷◌}
@@ -20,8 +21,6 @@ use Rattle.laws.specs.list.Every.{Every}
 use Rattle.laws.proofs.list.Every.{every-at, every-by, every-kept}
 use Rattle.laws.specs.list.Places.{Ascending, Number, Fits}
 use Rattle.laws.proofs.list.Places.{at_most, at-most-length, beyond, last-is, key-at-most, key_above}
-use Rattle.window.specs.declared.Bound.{Bound}
-use Rattle.window.specs.declared.Bound.TheVariants.{At, Nothing}
 use Rattle.window.specs.declared.Neighbours.{Neighbours}
 use Rattle.window.specs.Bounds.{In, inside}
 use Rattle.window.proofs.Inverses.{every-if}
@@ -44,13 +43,13 @@ facing w t f a b h k =
     let m = le-no-nan t w.max (lt→le t w.max k) in
     record { time = (f, n.1); min = (a, n.0); max = (b, m.1); from = le→key w.min t a f n.0 n.1 h; upto = lt→key t w.max f b m.0 m.1 k }
 
-lower-down : (b : Bound) (x y : Float) → key x ≤ key y → LowerMet b y → LowerMet b x
-lower-down (At l) x y h m = omega arith
-lower-down Nothing x y h m = m
+lower-down : (b : Option Float) (x y : Float) → key x ≤ key y → LowerMet b y → LowerMet b x
+lower-down (Some l) x y h m = omega arith
+lower-down None x y h m = m
 
-upper-up : (b : Bound) (x y : Float) → key y ≤ key x → UpperMet b y → UpperMet b x
-upper-up (At l) x y h m = omega arith
-upper-up Nothing x y h m = m
+upper-up : (b : Option Float) (x y : Float) → key y ≤ key x → UpperMet b y → UpperMet b x
+upper-up (Some l) x y h m = omega arith
+upper-up None x y h m = m
 
 module _ (w : Interval) (t : Float) (F : TimeInside w t) (r : Neighbours) (x y : Float) (nx : Number x) (ny : Number y) where
   -- what lies up to a time that is known, on the same side of t

@@ -3,7 +3,7 @@ use mathlib.Core.Path.{◌≡◌, refl, sym, ◌∙◌, subst}
 use mathlib.Core.Logic.{inl, inr}
 use mathlib.Core.Bool.{Bool, true, false, ◌&&◌, cond}
 use mathlib.Core.List.{List, [], ◌∷◌}
-use Prim.Native.Nat.{ℕ, suc, ◌+◌, ◌-◌, ◌≤◌, ◌<◌}
+use Prim.Native.Nat.{ℕ, suc, ◌-◌, ◌≤◌, ◌<◌}
 use native.Mathlib.Omega.{arith}
 use native.Mathlib.Decide.{dec_le}
 use lib.Dec.{T, ltb, leb}
@@ -35,13 +35,6 @@ use Rattle.window.proofs.nearest.Beside.{meet_below, meet-above, number_at, clim
 use Rattle.window.specs.nearest.Crossings.{is_beyond, Crossing, sample_at}
 
 -- ---- where the inverse times pass t
-
-pub turn-next : (p : Float → Bool) (cs : List Float) (n : ℕ) → n < length cs → p (get_or cs n nan) ≡ false → (n + 1 < length cs → p (get_or cs (n + 1) nan) ≡ true) → Crossing p cs (n + 1)
-turn-next p cs n l e h = record {
-  upto = omega arith;
-  before = λ i q. let z : n ≡ i = omega arith in subst (λ (j : ℕ). p (get_or cs j nan) ≡ false) z e;
-  here = h;
-}
 
 abbrev pub sample_before : List Float → Knot × Knot → ℕ → List Float
 sample_before cs q n = cond (ltb 0 n) (sample_at cs q (n - 1)) []
@@ -243,12 +236,6 @@ module _ (t : Float) (w : Interval) (h : Neighbours) (c : Float) (q : Knot × Kn
 
 -- at a place
 module _ (t : Float) (w : Interval) (h : Neighbours) (cs : List Float) (q : Knot × Knot) (i : ℕ) where
-  pub sample-here : {r : Neighbours} → i < length cs → Searched t (keep (inside w) (on_pair (get_or cs i nan) q)) h r → Searched t (keep (inside w) (sample_at cs q i)) h r
-  sample-here {r} l S = subst (λ (b : Bool). Searched t (keep (inside w) (cond b (on_pair (get_or cs i nan) q) [])) h r) (sym (lt-ltb i (length cs) l)) S
-
-  pub sample-none : length cs ≤ i → Searched t (keep (inside w) (sample_at cs q i)) h h
-  sample-none l = subst (λ (b : Bool). Searched t (keep (inside w) (cond b (on_pair (get_or cs i nan) q) [])) h h) (sym (le-ltb i (length cs) l)) (searched-none t h)
-
   pub before_here : {r : Neighbours} → 0 < i → Searched t (keep (inside w) (sample_at cs q (i - 1))) h r → Searched t (keep (inside w) (sample_before cs q i)) h r
   before_here {r} l S = subst (λ (b : Bool). Searched t (keep (inside w) (cond b (sample_at cs q (i - 1)) [])) h r) (sym (lt-ltb 0 i l)) S
 

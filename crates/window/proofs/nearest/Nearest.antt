@@ -1,5 +1,6 @@
 -- The neighbours of a time by candidates: of equal times any one will do, so plain comparisons are enough. What a search promises that looks at a few of the
 -- times and knows that the others lie beyond them. The order is that of the keys. Assumes nothing.
+use Rattle.std.specs.Prelude.{Option, None, Some}
 use mathlib.Core.Path.{◌≡◌, refl, sym, ◌∙◌}
 use mathlib.Core.Bool.{Bool, true, false, cond}
 use mathlib.Core.List.{List, [], ◌∷◌, ◌++◌}
@@ -15,34 +16,12 @@ use Rattle.definitions.specs.Lists.{keep}
 use Rattle.laws.specs.list.Every.{Every}
 use Rattle.laws.proofs.list.Every.{every_map, every-zip, every_append, every-left, every-right}
 use Rattle.laws.specs.list.Places.{Number}
-use Rattle.window.specs.declared.Bound.{Bound}
-use Rattle.window.specs.declared.Bound.TheVariants.{At, Nothing}
 use Rattle.window.specs.declared.Neighbours.{Neighbours}
 use Rattle.window.specs.Bounds.{In, inside, nothing, with_lower, with_upper, LowerIs, UpperIs, NeighboursAre}
 use Rattle.window.proofs.BoundsLaws.{in-every, every_in, in-any}
 use Rattle.window.specs.nearest.Nearest.{greater_of, lesser_of, with_near, with_inside, LowerMet, UpperMet, Met, LowerIn, UpperIn, Sided, Nearer, Searched}
 
 -- ---- one time more
-
--- the cases of the program
-module _ (b : Bound) (x : Float) where
-  pub greater-keeps : (y : Float) → b ≡ At y → le x y ≡ true → At y ≡ greater_of b x
-  greater-keeps y e h = rw e (rw h)
-
-  pub greater-takes : (y : Float) → b ≡ At y → le x y ≡ false → At x ≡ greater_of b x
-  greater-takes y e h = rw e (rw h)
-
-  pub greater-first : b ≡ Nothing → At x ≡ greater_of b x
-  greater-first e = rw e
-
-  pub lesser-keeps : (y : Float) → b ≡ At y → le y x ≡ true → At y ≡ lesser_of b x
-  lesser-keeps y e h = rw e (rw h)
-
-  pub lesser-takes : (y : Float) → b ≡ At y → le y x ≡ false → At x ≡ lesser_of b x
-  lesser-takes y e h = rw e (rw h)
-
-  pub lesser-first : b ≡ Nothing → At x ≡ lesser_of b x
-  lesser-first e = rw e
 
 -- ---- one after the other
 
@@ -73,27 +52,27 @@ module _ (t : Float) where
   -- ---- one time
 
   module _ (nt : Number t) where
-    greater-near : (g : List Float) (N : Every Number g) (b : Bound) (x : Float) → Number x → In x g → key x ≤ key t → LowerIn g t b
+    greater-near : (g : List Float) (N : Every Number g) (b : Option Float) (x : Float) → Number x → In x g → key x ≤ key t → LowerIn g t b
         → LowerIn g t (greater_of b x) × LowerMet (greater_of b x) x × ((y : Float) → LowerMet b y → LowerMet (greater_of b x) y)
-    greater-near g N Nothing x nx i h s = ((i, h), omega arith, λ y m. absurd m)
-    greater-near g N (At l) x nx i h s = go (le x l) refl
+    greater-near g N None x nx i h s = ((i, h), omega arith, λ y m. absurd m)
+    greater-near g N (Some l) x nx i h s = go (le x l) refl
       where
         nl : Number l
         nl = in-every Number l g N s.0
 
-        go : (c : Bool) → le x l ≡ c → LowerIn g t (cond c (At l) (At x)) × LowerMet (cond c (At l) (At x)) x × ((y : Float) → key y ≤ key l → LowerMet (cond c (At l) (At x)) y)
+        go : (c : Bool) → le x l ≡ c → LowerIn g t (cond c (Some l) (Some x)) × LowerMet (cond c (Some l) (Some x)) x × ((y : Float) → key y ≤ key l → LowerMet (cond c (Some l) (Some x)) y)
         go true e = (s, leb-true (key x) (key l) (sym (le_is x l nx.0 nl.0 nx.1 nl.1) ∙ e), λ y m. m)
         go false e = let k = leb-false (key x) (key l) (sym (le_is x l nx.0 nl.0 nx.1 nl.1) ∙ e) in ((i, h), omega arith, λ y m. omega arith)
 
-    lesser-near : (g : List Float) (N : Every Number g) (b : Bound) (x : Float) → Number x → In x g → key t < key x → UpperIn g t b
+    lesser-near : (g : List Float) (N : Every Number g) (b : Option Float) (x : Float) → Number x → In x g → key t < key x → UpperIn g t b
         → UpperIn g t (lesser_of b x) × UpperMet (lesser_of b x) x × ((y : Float) → UpperMet b y → UpperMet (lesser_of b x) y)
-    lesser-near g N Nothing x nx i h s = ((i, h), omega arith, λ y m. absurd m)
-    lesser-near g N (At l) x nx i h s = go (le l x) refl
+    lesser-near g N None x nx i h s = ((i, h), omega arith, λ y m. absurd m)
+    lesser-near g N (Some l) x nx i h s = go (le l x) refl
       where
         nl : Number l
         nl = in-every Number l g N s.0
 
-        go : (c : Bool) → le l x ≡ c → UpperIn g t (cond c (At l) (At x)) × UpperMet (cond c (At l) (At x)) x × ((y : Float) → key l ≤ key y → UpperMet (cond c (At l) (At x)) y)
+        go : (c : Bool) → le l x ≡ c → UpperIn g t (cond c (Some l) (Some x)) × UpperMet (cond c (Some l) (Some x)) x × ((y : Float) → key l ≤ key y → UpperMet (cond c (Some l) (Some x)) y)
         go true e = (s, leb-true (key l) (key x) (sym (le_is l x nl.0 nx.0 nl.1 nx.1) ∙ e), λ y m. m)
         go false e = let k = leb-false (key l) (key x) (sym (le_is l x nl.0 nx.0 nl.1 nx.1) ∙ e) in ((i, h), omega arith, λ y m. omega arith)
 
@@ -132,10 +111,10 @@ module _ (t : Float) (nt : Number t) (l : List Float) (N : Every Number l) where
   itself : (x : Float) → Number x → T (eq x x)
   itself x n = let r = le_refl x n.0 n.1 in le-both x x n.0 n.0 r r
 
-  lower_of : (b : Bound) → LowerIn l t b → Every (λ (x : Float). key x ≤ key t → LowerMet b x) l → LowerIs l t b
-  lower_of Nothing m k =
+  lower_of : (b : Option Float) → LowerIn l t b → Every (λ (x : Float). key x ≤ key t → LowerMet b x) l → LowerIs l t b
+  lower_of None m k =
       every-zip Number (λ (x : Float). key x ≤ key t → ⊥) (λ (x : Float). T (le x t) → ⊥) (λ y n c u. c (le→key y t n.0 nt.0 n.1 nt.1 u)) l N k
-  lower_of (At x) m k =
+  lower_of (Some x) m k =
       let n = in-every Number x l N m.0 in
       record {
         fits = n.0;
@@ -144,10 +123,10 @@ module _ (t : Float) (nt : Number t) (l : List Float) (N : Every Number l) where
         last = every-zip Number (λ (y : Float). key y ≤ key t → key y ≤ key x) (λ (y : Float). T (le y t) → T (le y x)) (λ y o c u. key→le y x o.0 n.0 o.1 n.1 (c (le→key y t o.0 nt.0 o.1 nt.1 u))) l N k;
       }
 
-  upper_of : (b : Bound) → UpperIn l t b → Every (λ (x : Float). key t < key x → UpperMet b x) l → UpperIs l t b
-  upper_of Nothing m k =
+  upper_of : (b : Option Float) → UpperIn l t b → Every (λ (x : Float). key t < key x → UpperMet b x) l → UpperIs l t b
+  upper_of None m k =
       every-zip Number (λ (x : Float). key t < key x → ⊥) (λ (x : Float). T (lt t x) → ⊥) (λ y n c u. c (lt→key t y nt.0 n.0 nt.1 n.1 u)) l N k
-  upper_of (At x) m k =
+  upper_of (Some x) m k =
       let n = in-every Number x l N m.0 in
       record {
         fits = n.0;

@@ -3,23 +3,23 @@ use mathlib.Core.Path.{◌≡◌, sym, ap₂, ◌∙◌, subst}
 use mathlib.Core.Logic.{inl, inr}
 use mathlib.Core.Bool.{true, false, ◌&&◌}
 use mathlib.Core.List.{List}
-use Prim.Native.Nat.{ℕ, ◌+◌, ◌≤◌, ◌<◌}
+use Prim.Native.Nat.{ℕ, ◌+◌, ◌<◌}
 use native.Mathlib.Omega.{arith}
 use native.Mathlib.Decide.{dec_le}
 use lib.Dec.{T}
 use lib.ListN.{length, get_or, set, length-set}
 use lib.Seq.{get_or-set_same, get_or-set_other}
-use lib.Ieee.{Float, nan, eq, lt, le}
-use borrow.Author.Tests.{ltb-false, eqb-true, eqb-false}
+use lib.Ieee.{Float, binary64, fits, nan, eq, lt, le}
+use borrow.Author.Tests.{eqb-true, eqb-false}
 use Rattle.gf.specs.Doubles.{key}
-use Rattle.gf.proofs.KeyLaws.{lt→key, key→lt, key→le, lt-is, eq_is, le_refl, le_trans, le-no-nan, lt→le, finite-no-nan}
+use Rattle.gf.proofs.KeyLaws.{lt→key, key→lt, key→le, eq_is, le_refl, le_trans, le-no-nan, finite-no-nan}
 use Rattle.gf.proofs.Exactly.{within-finite}
 use Rattle.definitions.specs.declared.Knot.{Knot}
 use Rattle.definitions.specs.Lists.{pairs}
 use Rattle.definitions.specs.ClipSet.{max_knots}
 use Rattle.definitions.specs.Explicit.{knot}
 use Rattle.definitions.specs.Value.{spans, inverse}
-use Rattle.laws.proofs.list.Tests.{holds, both, both_l, or_l, or_r, or_split}
+use Rattle.laws.proofs.list.Tests.{both, both_l, or_l, or_r, or_split}
 use Rattle.laws.specs.list.Every.{Every}
 use Rattle.laws.specs.list.Places.{Number}
 use Rattle.laws.specs.cell.Lent.{knots_of}
@@ -79,21 +79,16 @@ module _ (q : Knot × Knot) (s : SoundSegment q) (top : Float) (nt : Number top)
               (both (lt q.1.y q.0.y && le q.1.y q.1.y) (le q.1.y q.0.y) (both (lt q.1.y q.0.y) (le q.1.y q.1.y) (key→lt q.1.y q.0.y nb.0 na.0 nb.1 na.1 (omega arith)) itself) (key→le q.1.y q.0.y nb.0 na.0 nb.1 na.1 (omega arith)))
         ]
 
-    last-number : Number (top_of q)
+    pub last-number : Number (top_of q)
     last-number = (inverse-fits q q.1.y, (le-no-nan q.0.x (top_of q) (range q s q.1.y spans-second).0).1)
 
-    pub top-higher : lt top (top_of q) ≡ true → LaterInverse q top (top_of q)
-    top-higher l = record { number = last-number; over = lt→le top (top_of q) (holds (lt top (top_of q)) l); reach = λ c h. (range q s c h).1 }
-
-    pub top-lower : lt top (top_of q) ≡ false → LaterInverse q top top
-    top-lower l =
-        let n = last-number in
-        let k = ltb-false (key top) (key (top_of q)) (sym (lt-is top (top_of q) nt.0 n.0 nt.1 n.1) ∙ l) in
-        record {
-          number = nt;
-          over = le_refl top nt.0 nt.1;
-          reach = λ c h. le_trans (inverse q.0 q.1 c) (top_of q) top (inverse-fits q c) n.0 nt.0 (range q s c h).1 (key→le (top_of q) top n.0 nt.0 n.1 nt.1 k);
-        }
+  -- what is below neither the top nor the last inverse time
+  pub top-over : (r : Float) → T (fits binary64 r) → T (le top r) → T (le (top_of q) r) → LaterInverse q top r
+  top-over r fr a b = record {
+    number = (fr, (le-no-nan top r a).1);
+    over = a;
+    reach = λ c h. le_trans (inverse q.0 q.1 c) (top_of q) r (inverse-fits q c) (inverse-fits q q.1.y) fr (range q s c h).1 b;
+  }
 
 -- ---- segment by segment
 
@@ -132,6 +127,3 @@ module _ (xs ys : List Float) where
       | no p ↦ subst (LatestBefore xs ys (k + 1)) (sym (get_or-set_other items i k r nan (λ e. absurd (omega arith)))) (A.above k (omega arith))
     ];
   }
-
-  pub latest-all : (items : List Float) (top : Float) (i : ℕ) → length xs ≤ i + 1 → TopsTo items top i → LatestOf xs ys items
-  latest-all items top i h A = record { above = λ k b d. A.above k (omega arith) }

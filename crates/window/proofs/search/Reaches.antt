@@ -1,5 +1,6 @@
 -- The inverse times of all segments by those of the segment of t: behind it they are not below the next knot, before it they are not above the knot of t, but
 -- for rounding. Assumes nothing.
+use Rattle.std.specs.Prelude.{Option, None, Some}
 use mathlib.Core.Path.{◌≡◌, sym, ap, ap₂, ◌∙◌, subst}
 use mathlib.Core.Bool.{Bool, true, false, cond}
 use mathlib.Core.List.{List, [], ◌∷◌, ◌++◌}
@@ -24,8 +25,6 @@ use Rattle.laws.proofs.list.Every.{every-at, every-by, every-kept, every_map, ev
 use Rattle.laws.specs.list.Places.{Ascending, Number}
 use Rattle.laws.proofs.set.Stored.{length_pairs, pairs-at}
 use Rattle.laws.specs.cell.Lent.{knots_of}
-use Rattle.window.specs.declared.Bound.{Bound}
-use Rattle.window.specs.declared.Bound.TheVariants.{At, Nothing}
 use Rattle.window.specs.declared.Neighbours.{Neighbours}
 use Rattle.window.specs.Bounds.{In, inside}
 use Rattle.window.proofs.BoundsLaws.{in-every}
@@ -40,18 +39,10 @@ use Rattle.window.specs.search.Latest.{segment_of, LatestBefore}
 use Rattle.window.proofs.search.LatestLaws.{segment-here}
 use Rattle.window.specs.search.Reaches.{PastAll, times_of, Reached, Around}
 
--- ---- what a search among knots and samples asks
-
-pub past_all : (b : Bound) (l top : Float) → b ≡ At l → le top l ≡ true → PastAll b top
-past_all b l top e h = rw e (subst T (sym h) tt)
-
 -- ---- what a search among segments promises
 
 module _ (t : Float) (w : Interval) (xs ys cs : List Float) where
   -- ---- segment by segment, downward
-
-  pub reached-none : (i : ℕ) (h : Neighbours) → Reached t w xs ys cs i i h h
-  reached-none i h = record { run = λ nt g N e s. record { among = s; known = λ j a b. absurd (omega arith); kept = λ x m. m } }
 
   pub reached-one : (j k to : ℕ) {h m r : Neighbours} → suc k ≡ j → Reached t w xs ys cs j to h m → Searched t (times_of w xs ys cs k) m r → k < to → Reached t w xs ys cs k to h r
   reached-one j k to {h} {m} {r} e A B l = record {
@@ -116,9 +107,9 @@ module _ (t : Float) (w : Interval) (xs ys cs : List Float) where
           };
     }
       where
-        past : (b : Bound) (g : List Float) → Every Number g → LowerIn g t b → PastAll b top → (x : Float) → Number x → T (le x top) → (key x ≤ key t → LowerMet b x) × (key t < key x → UpperMet r.upper x)
-        past Nothing g N m e x n k = absurd e
-        past (At l) g N m e x n k =
+        past : (b : Option Float) (g : List Float) → Every Number g → LowerIn g t b → PastAll b top → (x : Float) → Number x → T (le x top) → (key x ≤ key t → LowerMet b x) × (key t < key x → UpperMet r.upper x)
+        past None g N m e x n k = absurd e
+        past (Some l) g N m e x n k =
             let nl = in-every Number l g N m.0 in
             let v = le→key x l n.0 nl.0 n.1 nl.1 (le_trans x top l n.0 O.number.0 nl.0 k e) in
             (λ _. v, λ y. absurd (omega (arith, m.1)))

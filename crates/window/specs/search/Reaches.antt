@@ -1,5 +1,5 @@
 -- The inverse times of the segments from one place to another, and what a search among them promises. Assumes nothing.
-use Rattle.std.specs.Prelude.{◌≡◌, List, ℕ, ◌≤◌, ◌<◌, T, length, Float}
+use Rattle.std.specs.Prelude.{◌≡◌, List, ℕ, ◌≤◌, ◌<◌, T, length, Float, Option, None, Some}
 use Rattle.std.specs.Float.Ieee.{le}
 use Rattle.gf.specs.declared.interval.Interval.{Interval}
 use Rattle.definitions.specs.Lists.{keep, pairs}
@@ -7,8 +7,6 @@ use Rattle.definitions.specs.Doubles.{FiniteDouble}
 use Rattle.laws.specs.list.Every.{Every}
 use Rattle.laws.specs.list.Places.{Ascending, Number}
 use Rattle.laws.specs.cell.Lent.{knots_of}
-use Rattle.window.specs.declared.Bound.{Bound}
-use Rattle.window.specs.declared.Bound.TheVariants.{At, Nothing}
 use Rattle.window.specs.declared.Neighbours.{Neighbours}
 use Rattle.window.specs.Bounds.{In, inside}
 use Rattle.window.specs.Inverses.{on_segment, inverses_of}
@@ -28,9 +26,9 @@ pub record Searchable (xs ys cs : List Float) (w : Interval) (t : Float) : Type 
   pub faces : TimeInside w t
 
 -- no time up to `top` is above the lower neighbour
-abbrev pub PastAll : Bound → Float → Type 0
-PastAll (At l) top = T (le top l)
-PastAll Nothing top = ⊥
+abbrev pub PastAll : Option Float → Float → Type 0
+PastAll (Some l) top = T (le top l)
+PastAll None top = ⊥
 
 -- ---- what a search among segments promises
 

@@ -3,50 +3,42 @@
 ghost use Rattle.std.specs.Prelude.{◌≡◌};
 ghost use Rattle.window.specs.nearest.Nearest.{greater_of, lesser_of, with_near, with_inside};
 
-use crate::{Bound, Neighbours};
+use crate::Neighbours;
 use gf::interval::Interval;
 
 // The later of what is known and `x`.
-fn greater(known: Bound, x: f64) -> Bound
+fn greater(known: Option<f64>, x: f64) -> Option<f64>
     ensures { result ≡ greater_of known x }
 {
-    if let Bound::At(y) = known {
-        if x <= y {
-            return known;
-        }
+    match known {
+        Some(y) if x <= y => known,
+        _ => Some(x),
     }
-    Bound::At(x)
 }
 
 // The earlier.
-fn lesser(known: Bound, x: f64) -> Bound
+fn lesser(known: Option<f64>, x: f64) -> Option<f64>
     ensures { result ≡ lesser_of known x }
 {
-    if let Bound::At(y) = known {
-        if y <= x {
-            return known;
-        }
+    match known {
+        Some(y) if y <= x => known,
+        _ => Some(x),
     }
-    Bound::At(x)
 }
 
 // The neighbours of `t` with `x`, which is a number.
 pub fn with_near(known: Neighbours, x: f64, t: f64) -> Neighbours
     ensures { result ≡ with_near t known x }
 {
-    let lower = known.lower;
-    let upper = known.upper;
     if x <= t {
-        let near = greater(lower, x);
         return Neighbours {
-            lower: near,
-            upper: upper,
+            lower: greater(known.lower, x),
+            upper: known.upper,
         };
     }
-    let near = lesser(upper, x);
     Neighbours {
-        lower: lower,
-        upper: near,
+        lower: known.lower,
+        upper: lesser(known.upper, x),
     }
 }
 

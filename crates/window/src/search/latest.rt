@@ -32,15 +32,10 @@ fn later_inverse(top: f64, s: Segment) -> f64
     requires fact_2 { Number top }
     ensures { LaterInverse (s.a, s.b) top result }
 {
-    let cb = s.b.y;
-    if s.a.y == cb {
+    if s.a.y == s.b.y {
         return top;
     }
-    let last = stage_time(s, cb);
-    if top < last {
-        return last;
-    }
-    top
+    top.max(stage_time(s, s.b.y))
 }
 
 // A time that no inverse time of the segments before the knot at `i` is above.
@@ -50,11 +45,9 @@ fn latest_inverse(xs: &[f64], ys: &[f64], i: usize) -> f64
     requires fact_3 { i < length xs.now }
     ensures { LatestBefore xs.now ys.now i result }
 {
-    let mut top = -1.0 / 0.0;
-    let mut k: usize = 0;
-    while k < i {
+    let mut top = f64::NEG_INFINITY;
+    for k in 0..i {
         top = later_inverse(top, segment_at(xs, ys, k));
-        k += 1;
     }
     top
 }
@@ -68,9 +61,8 @@ pub fn latest_before(xs: &[f64], ys: &[f64], latest: &[f64], i: usize) -> f64
     requires fact_5 { 0 < i }
     ensures { LatestBefore xs.now ys.now i result }
 {
-    let last = i - 1;
-    if last < latest.len() {
-        return latest[last];
+    if i - 1 < latest.len() {
+        return latest[i - 1];
     }
     latest_inverse(xs, ys, i)
 }
@@ -83,12 +75,10 @@ pub fn latest_inverses(xs: &[f64], ys: &[f64]) -> LatestInverses
     ensures { LatestOf xs.now ys.now result.items }
 {
     let mut items = some_times();
-    let mut top = -1.0 / 0.0;
-    let mut i: usize = 0;
-    while i + 1 < xs.len() {
-        top = later_inverse(top, segment_at(xs, ys, i));
-        items[i] = top;
-        i += 1;
+    let mut top = f64::NEG_INFINITY;
+    for i in 1..xs.len() {
+        top = later_inverse(top, segment_at(xs, ys, i - 1));
+        items[i - 1] = top;
     }
     LatestInverses { items }
 }

@@ -1,57 +1,49 @@
 // The walk of a line that calls the dispatcher, or lends what its questions look at.
 use crate::lines::fault::{
-    Kind, Walk, begun, called, explicit, list, past, slot, slots, step, template,
+    Kind, called, explicit, list, past, samples, slot, slots, step, template, two_doubles,
 };
 use crate::lines::limits::{COUNTS, ORDER, PARTED, PARTED_ENDS, SLOTS};
 use crate::lines::named_calls::{NamedChange, NamedQuestion, change_of, question_of};
+use crate::text::after;
 
 // A name, and whether its set declares.
-fn naming(line: &[u8], at: usize) -> Walk {
-    let w = step(line, begun(at), Kind::SetName);
-    step(line, w, Kind::Flag)
+fn naming(line: &[u8], at: usize) -> Result<usize, usize> {
+    let at = step(line, at, Kind::SetName)?;
+    step(line, at, Kind::Flag)
 }
 
-fn retime(line: &[u8], at: usize) -> Walk {
-    let w = step(line, begun(at), Kind::SetName);
-    let w = step(line, w, Kind::Double);
-    step(line, w, Kind::Double)
-}
-
-pub(super) fn order(line: &[u8], at: usize) -> Walk {
-    let absent = past(line, begun(at), b"none");
-    if !absent.stuck {
-        return absent;
+pub(super) fn order(line: &[u8], at: usize) -> Result<usize, usize> {
+    if let Some(absent) = after(line, at, b"none") {
+        return Ok(absent);
     }
-    let w = list(line, begun(at), b"ends", Kind::Number, ORDER);
-    let w = past(line, w, b"bytes");
-    step(line, w, Kind::Listed)
+    let at = list(line, at, b"ends", Kind::Number, ORDER)?;
+    let at = past(line, at, b"bytes")?;
+    step(line, at, Kind::Listed)
 }
 
-pub(super) fn parted(line: &[u8], at: usize) -> Walk {
-    let w = list(line, begun(at), b"counts", Kind::Number, COUNTS);
-    let w = list(line, w, b"ends", Kind::Number, PARTED_ENDS);
-    let w = list(line, w, b"t", Kind::Double, PARTED);
-    let w = list(line, w, b"v", Kind::Double, PARTED);
-    list(line, w, b"m", Kind::Byte, PARTED)
+pub(super) fn parted(line: &[u8], at: usize) -> Result<usize, usize> {
+    let at = list(line, at, b"counts", Kind::Number, COUNTS)?;
+    let at = list(line, at, b"ends", Kind::Number, PARTED_ENDS)?;
+    samples(line, at, PARTED)
 }
 
-fn asking(line: &[u8]) -> Walk {
+fn asking(line: &[u8]) -> Result<usize, usize> {
     match question_of(line) {
-        NamedQuestion::Value(_, at) => step(line, begun(at), Kind::Double),
-        NamedQuestion::Track(at) => slots(line, begun(at), SLOTS),
-        NamedQuestion::Sets(at) => begun(at),
-        NamedQuestion::Dump(at) => step(line, begun(at), Kind::SetName),
-        NamedQuestion::Nothing => called(line),
+        Some(NamedQuestion::Value(_, at)) => step(line, at, Kind::Double),
+        Some(NamedQuestion::Track(at)) => slots(line, at, SLOTS),
+        Some(NamedQuestion::Sets(at)) => Ok(at),
+        Some(NamedQuestion::Dump(at)) => step(line, at, Kind::SetName),
+        None => called(line),
     }
 }
 
 // How far the line can be read.
-pub(super) fn changing(line: &[u8]) -> Walk {
+pub(super) fn changing(line: &[u8]) -> Result<usize, usize> {
     match change_of(line) {
-        NamedChange::Explicit(at) => explicit(line, naming(line, at)),
-        NamedChange::Template(at) => template(line, naming(line, at)),
-        NamedChange::Retime(at) => retime(line, at),
-        NamedChange::Install(at) => slot(line, naming(line, at)),
-        NamedChange::Nothing => asking(line),
+        Some(NamedChange::Explicit(at)) => explicit(line, naming(line, at)?),
+        Some(NamedChange::Template(at)) => template(line, naming(line, at)?),
+        Some(NamedChange::Retime(at)) => two_doubles(line, step(line, at, Kind::SetName)?),
+        Some(NamedChange::Install(at)) => slot(line, naming(line, at)?),
+        None => asking(line),
     }
 }

@@ -6,18 +6,15 @@ use Rattle.cell.proofs.Gaps.{window_on}
 use Rattle.cell.proofs.place.window_after.Goals as goal
 
 pub follows-requires : goal.follows-requires
-follows-requires c = let a = c in ready-clip a.requires.accepted_lists a.args.p a.requires.p_in_bounds
+follows-requires c = ready-clip c.requires.accepted_lists c.args.p c.requires.p_in_bounds
 
 pub clip_begin-begin-requires : goal.clip_begin-begin-requires
-clip_begin-begin-requires c = let a = c in ready-clip a.requires.accepted_lists a.args.p a.requires.p_in_bounds
+clip_begin-begin-requires c = ready-clip c.requires.accepted_lists c.args.p c.requires.p_in_bounds
 
 pub returns-then-follows : goal.returns-then-follows
 returns-then-follows c =
-    let t = c in
-    let f = t in
-    let a = f in
-    let F = f.follows.ensures t.if-follows.true in
+    let F = c.follows.ensures c.if-follows.true in
     let n = F.next in
-    let h = a.requires.p_in_bounds in
-    window_on a.requires.accepted_lists a.args.place.start a.args.place.window (a.requires.place_is.window (omega arith)) F.none_before (a.requires.place_is.gap (omega arith) F.none_before) a.args.p F.next h F.none_here
+    let h = c.requires.p_in_bounds in
+    window_on c.requires.accepted_lists c.args.place.start c.args.place.window (c.requires.place_is.window (omega arith)) F.none_before (c.requires.place_is.gap (omega arith) F.none_before) c.args.p F.next h F.none_here
     _ refl refl c.window_min.ensures c.window_max.ensures c.clip_begin-begin.ensures refl refl

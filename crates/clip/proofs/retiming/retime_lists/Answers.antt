@@ -1,16 +1,15 @@
 -- `clip::retiming::retime_lists` meets its contract. Assumes nothing.
-use mathlib.Core.Path.{◌≡◌, refl, sym, ap, subst, ◌∙◌}
+use mathlib.Core.Path.{◌≡◌, sym, ap, subst, ◌∙◌}
 use native.Mathlib.Omega.{arith}
 use Rattle.definitions.specs.ClipSet as Definitions
 use Rattle.laws.specs.cell.Lent.{set_of}
-use Rattle.clip.specs.Holding.{clip_set_of, manifest_of}
-use Rattle.clip.specs.Preparing.{HandsBack}
-use Rattle.clip.specs.Storing.{Fitting, settle_number}
+use Rattle.clip.specs.Holding.{IsHeld, clip_set_of, manifest_of}
+use Rattle.clip.specs.Storing.{Fitting, lists_number, settle_number}
 use Rattle.clip.specs.Retiming.{moved_and_sorted}
 use Rattle.clip.proofs.Moved.{turned-is}
-use Rattle.clip.proofs.Preparing.{hands, hands-kept}
+use Rattle.clip.proofs.Preparing.{hands, hands-not, same-reason}
 use Rattle.clip.proofs.Stored.{lists-number-is}
-use Rattle.clip.proofs.retiming.retime_lists.Goals.{After-lists_number-number, After-sort_turned, Start as At-start}
+use Rattle.clip.proofs.retiming.retime_lists.Goals.{After-sort_turned, Start as At-start}
 use Rattle.clip.proofs.retiming.retime_lists.Goals as goal
 
 abbrev retimed : At-start → Definitions.ClipSet
@@ -39,19 +38,15 @@ fitting c =
     let blocks = c.unpack_moved.auto.blocks ∙ c.requires.fact_2.blocks in
     record { starts = times ∙ sym numbers; knots = xs ∙ sym ys; few-starts = omega (arith, c.requires.fact_1.active.few); few-knots = omega (arith, c.requires.fact_1.knots.few); few-blocks = omega (arith, c.requires.fact_1.blocks.few) }
 
-number_is : (c : After-lists_number-number) → c.lists_number-number.result ≡ settle_number (retimed (goal.at.After-lists_number-number c).Start)
+number_is : (c : After-sort_turned) → lists_number c.sort_turned.new.times c.sort_turned.new.xs c.unpack_moved.new.blocks c.args.set.default ≡ settle_number (retimed (goal.at.After-sort_turned c).Start)
 number_is c =
     let set = c.args.set in
-    c.lists_number-number.ensures ∙ lists-number-is set.clips c.sort_turned.new.times c.sort_turned.new.numbers c.sort_turned.new.xs c.sort_turned.new.ys c.unpack_moved.new.blocks (manifest_of set) (fitting (goal.at.After-lists_number-number c).After-sort_turned) ∙ ap settle_number (lists-are (goal.at.After-lists_number-number c).After-sort_turned)
+    lists-number-is set.clips c.sort_turned.new.times c.sort_turned.new.numbers c.sort_turned.new.xs c.sort_turned.new.ys c.unpack_moved.new.blocks (manifest_of set) (fitting c) ∙ ap settle_number (lists-are c)
 
-pub returns-then-number-ne0 : goal.returns-then-number-ne0
-returns-then-number-ne0 c =
-    let n = c in
-    let s = n in
-    hands-kept (clip_set_of s.args.set) (retimed (goal.at.returns-then-number-ne0 s).Start) _ n.lists_number-number.result (settle_number (retimed (goal.at.returns-then-number-ne0 s).Start)) (number_is (goal.at.returns-then-number-ne0 n).After-lists_number-number) c.if-number-ne0.true (record { number = refl; set = refl; held = s.requires.fact_1 })
-
-pub store-requires : goal.store-requires
-store-requires c = fitting (goal.at.store-requires c).After-sort_turned
+pub returns-in_err-check_lists : goal.returns-in_err-check_lists
+returns-in_err-check_lists c =
+    let r = retimed (goal.at.returns-in_err-check_lists c).Start in
+    hands-not (clip_set_of c.args.set) r _ _ (settle_number r) (same-reason _ _ c.from_residual.ensures.1) (c.in_err-check_lists.ensures ∙ number_is (goal.at.returns-in_err-check_lists c).After-sort_turned)
 
 pub shape_of-times : goal.shape_of-times
 shape_of-times c = c.sort_turned.auto.times ∙ c.unpack_moved.auto.times
@@ -70,7 +65,6 @@ shape_of-blocks c = c.unpack_moved.auto.blocks
 
 pub returns : goal.returns
 returns c =
-    let n = c in
-    let s = n in
-    hands (clip_set_of s.args.set) (retimed (goal.at.returns s).Start) c.store.result 0 (settle_number (retimed (goal.at.returns s).Start)) (sym c.if-number-ne0.false ∙ number_is (goal.at.returns n).After-lists_number-number)
-    (subst (λ (set : Definitions.ClipSet). HandsBack 0 set c.store.result) (lists-are (goal.at.returns n).After-sort_turned) c.store.ensures)
+    let r = retimed (goal.at.returns c).Start in
+    hands (clip_set_of c.args.set) r c.store.result (settle_number r) (c.in_ok-check_lists.ensures ∙ number_is (goal.at.returns c).After-sort_turned)
+    (subst (λ (set : Definitions.ClipSet). IsHeld set c.store.result) (lists-are (goal.at.returns c).After-sort_turned) c.store.ensures)

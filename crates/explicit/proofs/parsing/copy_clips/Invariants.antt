@@ -1,14 +1,7 @@
 -- `explicit::parsing::copy_clips` meets its contract: the first i indices are written. Assumes nothing.
-use Prim.Native.Nat.{◌-◌}
-use mathlib.Core.Path.{◌≡◌}
-use mathlib.Core.List.{map}
-use lib.ListN.{length}
+use Rattle.std.proofs.Common.{◌≡◌, map, take}
 use Rattle.gf.specs.Doubles.{truncated}
-use Rattle.lists.proofs.Filled.{Filled}
 use Rattle.explicit.proofs.parsing.copy_clips.Given as goal
 
 abbrev pub invariant-loop-i : goal.invariant-loop-i
-invariant-loop-i l = Filled (map truncated l.numbers) l.to l.i × (length l.to ≡ length l.numbers)
-
-abbrev pub decreases-loop-i : goal.decreases-loop-i
-decreases-loop-i l = length l.numbers - l.i
+invariant-loop-i l = take l.i l.to ≡ map truncated (take l.i l.numbers)

@@ -24,22 +24,22 @@ copy_clips-requires c =
     let s = c in
     record { fact_1 = clips-indexed s.args.clips s.args.numbers.now (omega arith) (fields-clips (fields (goal.at.copy_clips-requires s).Start) s.requires.fact_1); fact_2 = s.requires.fact_2.for-indices ∙ (limits (goal.at.copy_clips-requires s).Start).starts-paired }
 
-pub copy-requires-3 : goal.copy-requires-3
-copy-requires-3 c = let s = c in s.requires.fact_2.for-ys ∙ (limits (goal.at.copy-requires-3 s).Start).knots-paired
+pub copy_from_slice-requires-3 : goal.copy_from_slice-requires-3
+copy_from_slice-requires-3 c = let s = c in s.requires.fact_2.for-ys ∙ (limits (goal.at.copy_from_slice-requires-3 s).Start).knots-paired
 
 -- lists of their lengths
 fitting : (c : After-sort_lists-arg-4-1) → let w = c in let v = w in let k = v in let h = k in
-    Fitting h.copy.new.to k.copy_clips.new.to v.copy-2.new.to w.copy-3.new.to h.args.blocks.now
+    Fitting h.copy_from_slice.new.self k.copy_clips.new.to v.copy_from_slice-2.new.self w.copy_from_slice-3.new.self h.args.blocks.now
 fitting c =
     let w = c in
     let v = w in
     let k = v in
     let h = k in
     let s = h in
-    let t = h.copy.auto.to ∙ s.requires.fact_2.for-times in
+    let t = h.copy_from_slice.auto.self ∙ s.requires.fact_2.for-times in
     let i = k.copy_clips.auto.to ∙ s.requires.fact_2.for-indices in
-    let x = v.copy-2.auto.to ∙ s.requires.fact_2.for-xs in
-    let y = w.copy-3.auto.to ∙ s.requires.fact_2.for-ys in
+    let x = v.copy_from_slice-2.auto.self ∙ s.requires.fact_2.for-xs in
+    let y = w.copy_from_slice-3.auto.self ∙ s.requires.fact_2.for-ys in
     let l = limits (goal.at.After-sort_lists-arg-4-1 s).Start in
     record { starts = t ∙ sym i; knots = x ∙ sym y; few-starts = omega arith; few-knots = omega arith; few-blocks = l.blocks }
 
@@ -58,27 +58,27 @@ check_and_store-requires c =
     }
 
 pub shape_of-times : goal.shape_of-times
-shape_of-times c = c.sort_lists.auto.times ∙ c.copy.auto.to
+shape_of-times c = c.sort_lists.auto.times ∙ c.copy_from_slice.auto.self
 
 pub shape_of-indices : goal.shape_of-indices
 shape_of-indices c = c.sort_lists.auto.numbers ∙ c.copy_clips.auto.to
 
 pub shape_of-us : goal.shape_of-us
-shape_of-us c = c.sort_lists.auto.xs ∙ c.copy-2.auto.to
+shape_of-us c = c.sort_lists.auto.xs ∙ c.copy_from_slice-2.auto.self
 
 pub shape_of-vs : goal.shape_of-vs
-shape_of-vs c = c.sort_lists.auto.ys ∙ c.copy-3.auto.to
+shape_of-vs c = c.sort_lists.auto.ys ∙ c.copy_from_slice-3.auto.self
 
 pub returns : goal.returns
 returns c =
     let o = c.sort_lists in
-    let y = c.copy-3 in
-    let x = c.copy-2 in
+    let y = c.copy_from_slice-3 in
+    let x = c.copy_from_slice-2 in
     let i = c.copy_clips in
-    let t = c.copy in
+    let t = c.copy_from_slice in
     let r = c.check_and_store in
     let a = c.args in
     subst (λ (set : Definitions.ClipSet). Stores empty_set set r.result)
-    (sorted-is a.clips t.new.to o.new.times i.new.to o.new.numbers x.new.to y.new.to o.new.xs o.new.ys a.blocks.now a.manifest o.ensures.numbers_value o.ensures.ys_value
-    ∙ explicit-is a.clips a.starts.now t.new.to a.numbers.now i.new.to a.xs.now x.new.to a.ys.now y.new.to a.blocks.now a.manifest t.ensures i.ensures x.ensures y.ensures)
+    (sorted-is a.clips t.new.self o.new.times i.new.to o.new.numbers x.new.self y.new.self o.new.xs o.new.ys a.blocks.now a.manifest o.ensures.numbers_value o.ensures.ys_value
+    ∙ explicit-is a.clips a.starts.now t.new.self a.numbers.now i.new.to a.xs.now x.new.self a.ys.now y.new.self a.blocks.now a.manifest t.ensures.after i.ensures x.ensures.after y.ensures.after)
     r.ensures

@@ -1,12 +1,11 @@
 -- `gf::class::is_whole` meets its contract: zero and the class of the whole numbers are what has no part below 1. Assumes nothing.
-use Rattle.std.proofs.Common.{◌≡◌, ℕ, zero, suc, ◌*◌, ◌%◌, Bool, true, false, cond, eqb, sym, refl, ap, ◌∙◌, zero-mul}
+use Rattle.std.proofs.Common.{◌≡◌, ℕ, zero, suc, ◌*◌, ◌%◌, Bool, true, false, cond, eqb, sym, refl, ap, ◌∙◌, ◌⊎◌, inl, inr, zero-mul}
 use native.Mathlib.Nat.{zero-mod}
 use lib.Dec.{eqb-suc-zero}
 use lib.Ieee.{Float, nan, inf, fin, up, down}
 use Rattle.gf.specs.declared.class.Class.{Class}
 use Rattle.gf.specs.declared.class.Class.TheVariants.{Zero, Fraction, Whole, NotFinite}
 use Rattle.gf.specs.Doubles.{is_whole, class_of}
-use Rattle.gf.proofs.class.is_whole.Goals.{After-classify-c}
 use Rattle.gf.proofs.class.is_whole.Goals as goal
 
 abbrev whole_class : Class → Bool
@@ -26,17 +25,18 @@ by-class (fin s (suc m) e) = rw (eqb-suc-zero m) (either (eqb (suc m * up e % do
     either true = refl
     either false = refl
 
-told : (c : After-classify-c) (k : Class) → c.classify-c.result ≡ k → whole_class k ≡ is_whole c.args.x
-told c k e = sym (by-class c.args.x ∙ ap whole_class (sym c.classify-c.ensures ∙ e))
+either : (k : Class) → (k ≡ Zero) ⊎ (k ≡ Whole) → whole_class k ≡ true
+either k (inl e) = ap whole_class e
+either k (inr e) = ap whole_class e
+
+neither : (k : Class) → (k ≡ Zero → ⊥) → (k ≡ Whole → ⊥) → whole_class k ≡ false
+neither Zero z w = absurd (z refl)
+neither Fraction z w = refl
+neither Whole z w = absurd (w refl)
+neither NotFinite z w = refl
 
 pub returns-in-Zero : goal.returns-in-Zero
-returns-in-Zero c = told c.before Zero c.in-Zero.is
+returns-in-Zero c = sym (by-class c.args.x ∙ ap whole_class (sym c.classify.ensures) ∙ either c.classify.result c.in-Zero.is)
 
-pub returns-in-Fraction : goal.returns-in-Fraction
-returns-in-Fraction c = told c.before Fraction c.in-Fraction.is
-
-pub returns-in-Whole : goal.returns-in-Whole
-returns-in-Whole c = told c.before Whole c.in-Whole.is
-
-pub returns-in-NotFinite : goal.returns-in-NotFinite
-returns-in-NotFinite c = told c.before NotFinite c.in-NotFinite.is
+pub returns-in_default : goal.returns-in_default
+returns-in_default c = sym (by-class c.args.x ∙ ap whole_class (sym c.classify.ensures) ∙ neither c.classify.result c.in_default.not-Zero c.in_default.not-Whole)

@@ -1,13 +1,15 @@
--- `gf::magnitude::abs` meets its contract. Assumes nothing.
-use Rattle.std.proofs.Common.{T, sym, ap, ◌∙◌, subst}
-use lib.Ieee.Compare.{differs_from_itself}
+-- `gf::magnitude::abs` meets its contract: std's magnitude is the same. Assumes nothing.
+use Rattle.std.proofs.Common.{◌≡◌, false, refl, ◌∙◌}
+use Rattle.std.specs.Float.{float_with_sign}
+use lib.Ieee.{Float, nan, inf, fin}
 use Rattle.gf.specs.Doubles.{abs}
-use Rattle.gf.proofs.Tests.{not-nan}
 use Rattle.gf.proofs.magnitude.abs.Goals as goal
 
-pub returns-then-x : goal.returns-then-x
-unfolding abs
-returns-then-x c = let e = differs_from_itself c.args.x (subst T (sym c.if-x.true) tt) in e ∙ ap abs (sym e)
+same : (x : Float) → float_with_sign false x ≡ abs x
+unfolding float_with_sign abs
+same nan = refl
+same (inf s) = refl
+same (fin s m e) = refl
 
-pub without_sign-requires : goal.without_sign-requires
-without_sign-requires c = not-nan c.args.x c.if-x.false
+pub returns : goal.returns
+returns c = c.abs.ensures.value ∙ same c.args.x

@@ -24,6 +24,6 @@ pub returns : goal.returns
 returns c =
     let d = c in
     let s = d in
-    with-fraction s.args.width s.args.k s.args.x d.measure-m.result.negative d.decimals-n.result c.power_of_ten-ten.result c.wider.result
-    s.requires.1 d.measure-m.ensures.sign (rounded (goal.at.returns d).After-decimals-n) c.power_of_ten-ten.ensures
-    (c.wider.ensures ∙ ap (max s.args.width) c.places.ensures.0)
+    with-fraction s.args.width s.args.k s.args.x d.measure-m.result.negative d.decimals-n.result c.pow-ten.result c.max.result
+    s.requires.1 d.measure-m.ensures.sign (rounded (goal.at.returns d).After-decimals-n) c.pow-ten.ensures
+    (c.max.ensures ∙ ap (max s.args.width) c.places.ensures.0)

@@ -1,28 +1,15 @@
--- `names::digits::places` meets its contract: the digits counted, and those of what is left, are one more than those of n. Assumes nothing.
-use Prim.Native.Nat.{◌≤◌}
-use native.Mathlib.Omega.{arith}
+-- `names::digits::places` meets its contract: 0 has the one digit of 1. Assumes nothing.
+use Rattle.std.proofs.Common.{arith, ◌≡◌, ◌∙◌, sym, ap, ℕ, zero, suc, max}
 use Rattle.definitions.specs.Names.{places}
-use Rattle.names.proofs.DigitLaws.{places-one, places-more, places-pos, places-le}
-use Rattle.names.proofs.digits.places.Goals.{Start as At-start}
+use Rattle.names.proofs.DigitLaws.{places-between, places-one}
 use Rattle.names.proofs.digits.places.Goals as goal
 
--- 2 ^ 64 is below 10 ^ 20
-few : (c : At-start) → places c.args.n ≤ 20
-few c = places-le 19 c.args.n (omega arith)
-
-pub loop-left-init : goal.loop-left-init
-loop-left-init c = omega arith
-
-pub overflow_add-count : goal.overflow_add-count
-overflow_add-count c = omega (arith, few (goal.at.overflow_add-count c).Start, places-pos c.loop-left.left)
-
-pub loop-left-smaller : goal.loop-left-smaller
-loop-left-smaller c = omega arith
-
-pub loop-left-preserved : goal.loop-left-preserved
-loop-left-preserved c = omega (arith, places-more c.loop-left.left c.loop-left-test.true)
+at-least-one : (n : ℕ) → places (max n 1) ≡ places n
+at-least-one zero = places-one 1 (omega arith) ∙ sym (places-one 0 (omega arith))
+at-least-one (suc n) = let e : max (suc n) 1 ≡ suc n = omega arith in ap places e
 
 pub returns : goal.returns
 returns c =
-    let e = places-one c.loop-left.left c.loop-left-test.false in
-    (omega arith, omega (arith, few (goal.at.returns c).Start))
+    let r = c.ilog10.ensures in
+    let e = places-between _ _ r.power_le r.next_power_gt in
+    (sym e ∙ ap places c.max.ensures ∙ at-least-one c.args.n, omega (arith, r.bound))

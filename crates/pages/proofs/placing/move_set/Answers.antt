@@ -3,7 +3,8 @@ use mathlib.Core.Path.{◌≡◌, refl, sym, subst}
 use native.Mathlib.Omega.{arith}
 use lib.ListN.{length, take, drop}
 use Rattle.resolver.specs.declared.Resolver.{Resolver}
-use Rattle.resolver.specs.State.{Made, lent_state}
+use Rattle.definitions.specs.Refusals.{number_in}
+use Rattle.resolver.specs.State.{Made, left, lent_state}
 use Rattle.resolver.specs.Promises as desk
 use Rattle.pages.specs.Pages.{page_state}
 use Rattle.pages.proofs.Parts.{part-to}
@@ -51,10 +52,10 @@ returns c =
     let w = k.ensures.made.whole in
     let a = s.args.i * 256 in
     let b = s.args.i * 512 in
-    let own : Resolver = lent_state k.result.shape k.new.starts k.new.numbers k.new.xs k.new.ys k.new.blocks in
+    let own : Resolver = lent_state (left s.args.shape k.result) k.new.starts k.new.numbers k.new.xs k.new.ys k.new.blocks in
     record {
       own = own;
-      retimes = subst (λ (x : Resolver). desk.Retimes x s.args.o (record { number = k.result.number; resolver = own })) (lent-is (goal.at.returns s).Start) k.ensures;
+      retimes = subst (λ (x : Resolver). desk.Retimes x s.args.o (number_in k.result) own) (lent-is (goal.at.returns s).Start) k.ensures;
       is = refl;
       starts-after = back a 256 s.args.starts.now (in-starts (goal.at.returns s).Start) k.new.starts w.in-starts.long;
       numbers_after = back a 256 s.args.numbers.now (in-numbers (goal.at.returns s).Start) k.new.numbers w.in-numbers.long;

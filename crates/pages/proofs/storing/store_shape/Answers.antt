@@ -37,4 +37,4 @@ bounds-bytes-i-2 c =
 pub returns : goal.returns
 returns c =
     let s = c in
-    record { defaults-after = refl; counts-after = refl; bytes_after = ap (λ (b : ℕ). set (set s.args.bytes.now (4096 + s.args.i) s.args.shape.manifest.default.mark) (4112 + s.args.i) b) c.bit_of.ensures }
+    record { defaults-after = refl; counts-after = refl; bytes_after = ap (λ (b : ℕ). set (set s.args.bytes.now (4096 + s.args.i) s.args.shape.manifest.default.mark) (4112 + s.args.i) b) c.from.ensures }

@@ -10,10 +10,8 @@ use Rattle.run.proofs.begin.last_before.Goals as goal
 
 pub returns-then-h-ceil : goal.returns-then-h-ceil
 returns-then-h-ceil c =
-    let i = c in
-    let sp = i in
     let a = c.args in
-    let k : Knot × Knot = (a.s.a, a.s.b) in (
-      subst (λ (h : Float). In h (on_segment a.cs.now k)) (sym i.stage_time-h.ensures) (in-segment a.cs.now k _ sp.if-i-cs.true (holds _ (sym sp.spans.ensures ∙ i.if-spans.true))),
-      holds (lt i.stage_time-h.result a.ceil) c.if-h-ceil.true,
+    let q : Knot × Knot = (a.s.a, a.s.b) in (
+      subst (λ (h : Float). In h (on_segment a.cs.now q)) (sym c.stage_time-h.ensures) (in-segment a.cs.now q _ c.if-i-cs.true (holds _ (sym c.spans.ensures ∙ c.if-spans.true))),
+      holds (lt c.stage_time-h.result a.ceil) c.if-h-ceil.true,
     )

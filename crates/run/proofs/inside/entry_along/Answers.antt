@@ -16,7 +16,7 @@ place c =
     c.last_at_most_near-place.ensures ∙ ap (last_at_most a.cs.now) (c.along.ensures ∙ ap (Knots.along (line_is a.line)) c.of_key.ensures)
 
 pub entry_of_sample-requires : goal.entry_of_sample-requires
-entry_of_sample-requires c = let a = c in let parts = place-slots a.requires.reads a.args.line c.last_at_most_near-place.result a.args.k (place c) in record { place_in_bounds = parts.0; place_in_bounds_2 = parts.1 }
+entry_of_sample-requires c = let parts = place-slots c.requires.reads c.args.line c.last_at_most_near-place.result c.args.k (place c) in record { place_in_bounds = parts.0; place_in_bounds_2 = parts.1 }
 
 pub returns : goal.returns
 returns c = let a = c.args in c.entry_of_sample.ensures ∙ ap (entry_at a.vs.now a.ms.now) (place (goal.at.returns c).After-last_at_most_near-place)

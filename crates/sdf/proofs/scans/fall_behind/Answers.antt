@@ -1,16 +1,14 @@
 -- `sdf::scans::fall_behind` meets its contract. Assumes nothing.
-use mathlib.Core.Path.{sym, ◌∙◌}
+use mathlib.Core.Path.{sym}
 use native.Mathlib.Omega.{arith}
-use Rattle.sdf.proofs.Falls.{behind-none, behind-last, behind-here}
+use Rattle.sdf.proofs.Falls.{behind-none, behind-last}
+use Rattle.sdf.proofs.scans.fall_behind.Goals.{then-begin-end-via-then-begin-end, then-begin-end-via-else-begin-end+then-end-times}
 use Rattle.sdf.proofs.scans.fall_behind.Goals as goal
 
 pub returns-then-begin-end : goal.returns-then-begin-end
-returns-then-begin-end c = let a = c.args in sym (behind-none a.times.now a.begin a.end (omega (arith, c.if-begin-end.true)))
-
-pub returns-then-end-times : goal.returns-then-end-times
-returns-then-end-times c = let a = c.args in sym (behind-last a.times.now a.begin a.end (omega (arith, c.if-end-times.true)))
-
-pub returns : goal.returns
-returns c =
+returns-then-begin-end c =
     let a = c.args in
-    c.fall.ensures ∙ sym (behind-here a.times.now a.begin a.end (omega arith) (omega arith))
+    elim c.then-begin-end.branch [
+      | then-begin-end-via-then-begin-end w ↦ sym (behind-none a.times.now a.begin a.end (omega arith))
+      | then-begin-end-via-else-begin-end+then-end-times w ↦ sym (behind-last a.times.now a.begin a.end (omega arith))
+    ]

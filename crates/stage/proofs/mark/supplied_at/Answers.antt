@@ -1,11 +1,10 @@
 -- `stage::mark::supplied_at` meets its contract. Assumes nothing.
-use mathlib.Core.Path.{sym, ap, ◌∙◌}
+use mathlib.Core.Path.{sym, ◌∙◌}
 use Prim.Native.Nat.{◌<◌}
 use native.Mathlib.Omega.{arith}
 use lib.ListN.{length}
 use Rattle.laws.proofs.cell.Places.{last-short}
 use Rattle.window.proofs.Parts.{ready-starts, ready-clip, ready-readable}
-use Rattle.sdf.specs.look.Reads.{held_is}
 use Rattle.stage.proofs.Marks.{mark-none, mark-read, mark-gap}
 use borrow.Author.Rules.{rules}
 use Rattle.stage.proofs.mark.supplied_at.Goals.{After-last_at_most-p}
@@ -33,20 +32,14 @@ read_clip-own-requires c =
     let R = k.requires in
     record { readable_1 = ready-readable R; readable_2 = ready-clip R k.last_at_most-p.result (active (goal.at.read_clip-own-requires k).After-last_at_most-p); values_len_1 = R.accepted.values; values_len_2 = R.accepted.marks }
 
-pub returns-in-At : goal.returns-in-At
-returns-in-At c =
-    let o = c in
-    let r = o in
-    let k = r in
-    let s = k in
+pub returns-in-Some : goal.returns-in-Some
+returns-in-Some c =
+    let a = c.args in
     c.sample_mark.ensures
-    ∙ mark-read s.requires s.args.t k.last_at_most-p.result k.last_at_most-p.ensures (active (goal.at.returns-in-At k).After-last_at_most-p) o.in-At.field-0 o.in-At.answer (sym (ap held_is o.in-At.is) ∙ r.read_clip-own.ensures)
+    ∙ mark-read c.requires a.t c.last_at_most-p.result c.last_at_most-p.ensures (active (goal.at.returns-in-Some c).After-last_at_most-p) _ _ (sym c.in-Some.is ∙ c.read_clip-own.ensures)
 
-pub returns : goal.returns
-returns c =
-    let b = c in
-    let r = b in
-    let k = r in
-    let s = k in
-    c.gap_mark-2.ensures
-    ∙ mark-gap s.requires s.args.t k.last_at_most-p.result k.last_at_most-p.ensures (active (goal.at.returns k).After-last_at_most-p) (sym (ap held_is b.in_default.is) ∙ r.read_clip-own.ensures)
+pub returns-in-None : goal.returns-in-None
+returns-in-None c =
+    let a = c.args in
+    c.gap_mark-in-None.ensures
+    ∙ mark-gap c.requires a.t c.last_at_most-p.result c.last_at_most-p.ensures (active (goal.at.returns-in-None c).After-last_at_most-p) (sym c.in-None.is ∙ c.read_clip-own.ensures)

@@ -34,10 +34,10 @@ pub clip_end-end-requires : goal.clip_end-end-requires
 clip_end-end-requires c = named (goal.at.clip_end-end-requires c).After-last_at_most-p
 
 order : (c : After-clip_end-end) → c.clip_begin-begin.result ≤ c.clip_end-end.result
-order c = let k = c in omega (arith, k.requires.order _ (named (goal.at.After-clip_end-end k).After-last_at_most-p), c.clip_begin-begin.ensures, c.clip_end-end.ensures)
+order c = omega (arith, c.requires.order _ (named (goal.at.After-clip_end-end c).After-last_at_most-p), c.clip_begin-begin.ensures, c.clip_end-end.ensures)
 
 upto : (c : After-clip_end-end) → c.clip_end-end.result ≤ length c.args.times.now
-upto c = let k = c in omega (arith, k.requires.inside _ (named (goal.at.After-clip_end-end k).After-last_at_most-p), c.clip_end-end.ensures)
+upto c = omega (arith, c.requires.inside _ (named (goal.at.After-clip_end-end c).After-last_at_most-p), c.clip_end-end.ensures)
 
 pub offset_bounds-times-begin : goal.offset_bounds-times-begin
 offset_bounds-times-begin c = let l = order c in let u = upto c in search rules
@@ -54,6 +54,4 @@ slice_bounds-has_minus_zero-end c = let l = order c in let u = upto c in search 
 pub returns : goal.returns
 unfolding of_bits neg
 returns c =
-    let e = c in
-    let k = e in
-    rw (c.has_minus_zero.ensures, e.clip_end-end.ensures, e.clip_begin-begin.ensures, k.last_at_most-p.ensures)
+    rw (c.has_minus_zero.ensures, c.clip_end-end.ensures, c.clip_begin-begin.ensures, c.last_at_most-p.ensures)

@@ -1,10 +1,10 @@
 -- `standing::questions::active_clip` meets its contract. Assumes nothing.
+use Rattle.std.specs.Prelude.{Some}
 use Prim.Native.Nat.{ℕ, ◌<◌}
 use mathlib.Core.Path.{ap, ◌∙◌}
 use native.Mathlib.Omega.{arith}
 use borrow.Author.Rules.{rules}
 use lib.ListN.{get_or}
-use Rattle.standing.specs.declared.questions.ActiveClip.TheVariants.{Clip}
 use Rattle.standing.proofs.Arrays.{front}
 use Rattle.standing.proofs.Timed.{place-within, none-active, active-is}
 use Rattle.standing.proofs.questions.active_clip.Goals.{After-last_at_most-position}
@@ -30,5 +30,5 @@ bounds-numbers-position c = let s = c in omega (arith, inside (goal.at.bounds-nu
 pub returns : goal.returns
 returns c =
     let s = c in
-    ap (λ (p : ℕ). Clip (get_or s.args.numbers.now p 0)) c.last_at_most-position.ensures
+    ap (λ (p : ℕ). Some (get_or s.args.numbers.now p 0)) c.last_at_most-position.ensures
     ∙ active-is s.args.n s.args.starts.now s.args.numbers.now s.requires.fact_1 s.requires.fact_2 s.args.t (omega arith)

@@ -13,7 +13,7 @@ use Rattle.template.proofs.expanding.expand_lists.Goals as goal
 
 -- lists of their lengths
 fitting : (c : After-sort_lists-arg-4-1) → let w = c in let v = w in let k = v in let h = k in
-    Fitting h.write_starts.new.to k.write_numbers.new.to v.write_knots.new.xs w.copy.new.to h.args.blocks.now
+    Fitting h.write_starts.new.to k.write_numbers.new.to v.write_knots.new.xs w.copy_from_slice.new.self h.args.blocks.now
 fitting c =
     let w = c in
     let v = w in
@@ -23,7 +23,7 @@ fitting c =
     let t = h.write_starts.auto.to ∙ s.requires.for-times in
     let n = k.write_numbers.auto.to ∙ s.requires.for-numbers in
     let x = v.write_knots.auto.xs ∙ s.requires.for-xs in
-    let y = w.copy.auto.to ∙ s.requires.for-ys in
+    let y = w.copy_from_slice.auto.self ∙ s.requires.for-ys in
     record { starts = t ∙ sym n; knots = x ∙ sym y; few-starts = omega (arith, s.requires.few); few-knots = omega (arith, few-knots s.args.offset (length s.args.ts.now) s.requires.few); few-blocks = s.requires.few-blocks }
 
 pub sort_lists-requires : goal.sort_lists-requires
@@ -50,12 +50,12 @@ pub shape_of-xs : goal.shape_of-xs
 shape_of-xs c = c.sort_lists.auto.xs ∙ c.write_knots.auto.xs
 
 pub shape_of-ys : goal.shape_of-ys
-shape_of-ys c = c.sort_lists.auto.ys ∙ c.copy.auto.to
+shape_of-ys c = c.sort_lists.auto.ys ∙ c.copy_from_slice.auto.self
 
 pub returns : goal.returns
 returns c =
     let o = c.sort_lists in
-    let y = c.copy in
+    let y = c.copy_from_slice in
     let x = c.write_knots in
     let n = c.write_numbers in
     let t = c.write_starts in
@@ -63,7 +63,7 @@ returns c =
     let a = s.args in
     let r = c.check_and_store in
     subst (λ (set : Definitions.ClipSet). Stores empty_set set r.result)
-    (sorted-is (length a.ts.now) t.new.to o.new.times n.new.to o.new.numbers x.new.xs y.new.to o.new.xs o.new.ys a.blocks.now a.manifest o.ensures.numbers_value o.ensures.ys_value
-    ∙ expanded-is a.times (offset_of a.times a.offset) a.ts.now t.new.to n.new.to a.numbers.now x.new.xs y.new.to a.blocks.now a.manifest
-    t.ensures n.ensures s.requires.for-numbers x.ensures y.ensures)
+    (sorted-is (length a.ts.now) t.new.to o.new.times n.new.to o.new.numbers x.new.xs y.new.self o.new.xs o.new.ys a.blocks.now a.manifest o.ensures.numbers_value o.ensures.ys_value
+    ∙ expanded-is a.times (offset_of a.times a.offset) a.ts.now t.new.to n.new.to a.numbers.now x.new.xs y.new.self a.blocks.now a.manifest
+    t.ensures n.ensures s.requires.for-numbers x.ensures y.ensures.after)
     r.ensures

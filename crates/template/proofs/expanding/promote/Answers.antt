@@ -1,10 +1,10 @@
 -- `template::expanding::promote` meets its contract: the times before t are written, and t begins the rest. Assumes nothing.
 use Prim.Native.Nat.{ℕ}
-use mathlib.Core.Path.{◌≡◌, sym, ap, ◌∙◌}
+use mathlib.Core.Path.{◌≡◌, refl, sym, ap, ◌∙◌}
 use native.Mathlib.Omega.{arith}
-use lib.ListN.{take}
+use lib.ListN.{take, replicate}
 use lib.Ieee.{of_bits}
-use Rattle.gf.specs.Doubles.{◌⊕◌, ◌⊗◌, 0·5, 10000·0}
+use Rattle.gf.specs.Doubles.{◌⊕◌, ◌⊗◌, 0·0, 0·5, 10000·0}
 use Rattle.template.proofs.Promotion.{promote-start, promote-next, promote-ends, promote-length, promote-more, promotes}
 use Rattle.template.proofs.expanding.promote.Goals as goal
 
@@ -12,7 +12,7 @@ pub loop-i-init : goal.loop-i-init
 unfolding of_bits
 loop-i-init c =
     let x = c.args.times in
-    promote-start (x.start ⊗ 10000·0) (x.stride ⊗ 10000·0) (x.end ⊗ 10000·0 ⊕ 0·5) c.no_blocks-none.result.items c.no_blocks-none.ensures.room.long
+    promote-start (x.start ⊗ 10000·0) (x.stride ⊗ 10000·0) (x.end ⊗ 10000·0 ⊕ 0·5) (replicate 256 0·0) refl
 
 pub loop-i-preserved : goal.loop-i-preserved
 unfolding of_bits

@@ -1,33 +1,9 @@
 -- `template::expanding::write_clip_times` meets its contract: the first i entries are written. Assumes nothing.
-use mathlib.Core.Path.{sym, ◌∙◌}
-use mathlib.Core.List.{map}
-use native.Mathlib.Omega.{arith}
-use lib.ListN.{length-set, length-map}
-use lib.Ieee.{Float, nan, of_bits}
-use Rattle.gf.specs.Doubles.{◌⊘◌, 10000·0}
-use Rattle.lists.proofs.Filled.{fill_start, fill-next, fill-whole}
-use Rattle.clip.proofs.Laws.{mapped_at}
+use Rattle.std.proofs.Common.{arith}
+use Rattle.std.proofs.lemmas.Grind.{common_steps}
+use lib.Ieee.{of_bits}
 use Rattle.template.proofs.expanding.write_clip_times.Goals as goal
-
-pub loop-i-init : goal.loop-i-init
-loop-i-init c =
-    let s = c in
-    (fill_start (map (λ (t : Float). t ⊘ 10000·0) s.args.ts.now) s.args.to.now (omega (arith, length-map s.args.ts.now (λ (t : Float). t ⊘ 10000·0), s.requires)), s.requires)
-
-pub bounds-ts-i : goal.bounds-ts-i
-bounds-ts-i c = omega arith
 
 pub loop-i-preserved : goal.loop-i-preserved
 unfolding of_bits
-loop-i-preserved c =
-    let k = c.loop-i in
-    let s = c in
-    let n = length-map s.args.ts.now (λ (t : Float). t ⊘ 10000·0) in
-    (fill-next (map (λ (t : Float). t ⊘ 10000·0) s.args.ts.now) k.to k.i _ nan k.invariant.0 (omega arith) (mapped_at (λ (t : Float). t ⊘ 10000·0) s.args.ts.now k.i nan nan (omega arith)), length-set k.to k.i _ ∙ k.invariant.1)
-
-pub returns : goal.returns
-returns c =
-    let k = c.loop-i in
-    let s = c in
-    let n = length-map s.args.ts.now (λ (t : Float). t ⊘ 10000·0) in
-    fill-whole (map (λ (t : Float). t ⊘ 10000·0) s.args.ts.now) k.to k.i k.invariant.0 (omega arith) (k.invariant.1 ∙ sym n)
+loop-i-preserved c = grind (arith, common_steps)

@@ -6,14 +6,11 @@ use Rattle.track.proofs.bake.bake.Goals as goal
 
 pub bake_from_least-requires : goal.bake_from_least-requires
 bake_from_least-requires c =
-    let s = c in
-    record { accepted_lists = s.requires; latest_of = no-latest _ _ }
+    record { accepted_lists = c.requires; latest_of = no-latest _ _ }
 
 pub latest_inverses-latest-requires : goal.latest_inverses-latest-requires
-latest_inverses-latest-requires c = let a = c in record { fact_1 = a.requires.knots-paired; fact_2 = few-knots a.requires; fact_3 = (ready-readable a.requires).segments }
+latest_inverses-latest-requires c = record { fact_1 = c.requires.knots-paired; fact_2 = few-knots c.requires; fact_3 = (ready-readable c.requires).segments }
 
 pub bake_from_least-requires-2 : goal.bake_from_least-requires-2
 bake_from_least-requires-2 c =
-    let l = c in
-    let s = l in
-    record { accepted_lists = s.requires; latest_of = l.latest_inverses-latest.ensures }
+    record { accepted_lists = c.requires; latest_of = c.latest_inverses-latest.ensures }

@@ -1,5 +1,5 @@
 -- `bake::bake_by_pages` meets its contract: the changes are counted, and only where there is room for them written. Assumes nothing.
-use mathlib.Core.Path.{◌≡◌, sym, ap, ◌∙◌, subst}
+use mathlib.Core.Path.{◌≡◌, ap, ◌∙◌}
 use Prim.Native.Nat.{ℕ, ◌+◌, ◌-◌, ◌≤◌, ◌<◌, min}
 use native.Mathlib.Omega.{arith}
 use lib.ListN.{length}
@@ -13,8 +13,6 @@ use Rattle.laws.specs.cell.Lent.{set_of, samples_of}
 use Rattle.cell.specs.step.Entries.{entry_is}
 use Rattle.run.proofs.Filling.{Long}
 use Rattle.track.specs.span.Changes.{changes_of}
-use Rattle.track.specs.declared.bake.Baked.{Baked}
-use Rattle.track.specs.Bakes.{BakeIs}
 use Rattle.track.proofs.Walks.{slots-is, slots-long, room_of, filled-total, filled-done, filled-all}
 use Rattle.track.proofs.Baking.{page-copied, bake-refused, bake-done}
 use Rattle.track.proofs.bake.bake_by_pages.Goals.{After-fill-first, Start as At-start}
@@ -46,60 +44,47 @@ page-long : (f : After-fill-first) → let a = f.args in Long (outputs a.pagetim
 page-long f = record { times = f.fill-first.auto.outtimes; values = f.fill-first.auto.outvalues; marks = f.fill-first.auto.outmarks }
 
 pub fill-first-requires : goal.fill-first-requires
-fill-first-requires c = let a = c in record { accepted_lists = a.requires.accepted_lists; latest_of = a.requires.latest_of; cursor_is = a.requires.cursor_is_1 }
+fill-first-requires c = record { accepted_lists = c.requires.accepted_lists; latest_of = c.requires.latest_of; cursor_is = c.requires.cursor_is_1 }
 
 pub returns-then-room-count : goal.returns-then-room-count
 returns-then-room-count c =
-    let f = c in
-    let a = f in
     let h = c.if-room-count.true in
-    let t = total (goal.at.returns-then-room-count f).After-fill-first in
-    let less : room (goal.at.returns-then-room-count a).Start < count (goal.at.returns-then-room-count a).Start = omega arith in
-    subst (λ (b : Baked). BakeIs (set (goal.at.returns-then-room-count a).Start) (lent (goal.at.returns-then-room-count a).Start) (outputs a.args.outtimes.now a.args.outvalues.now a.args.outmarks.now) (outputs a.args.outtimes.now a.args.outvalues.now a.args.outmarks.now) b) (sym c.refused.ensures)
-    (bake-refused (set (goal.at.returns-then-room-count a).Start) (lent (goal.at.returns-then-room-count a).Start) a.args.outtimes.now a.args.outvalues.now a.args.outmarks.now less)
+    let t = total (goal.at.returns-then-room-count c).After-fill-first in
+    let less : room (goal.at.returns-then-room-count c).Start < count (goal.at.returns-then-room-count c).Start = omega arith in
+    bake-refused (set (goal.at.returns-then-room-count c).Start) (lent (goal.at.returns-then-room-count c).Start) c.args.outtimes.now c.args.outvalues.now c.args.outmarks.now less
 
 pub write_page-requires : goal.write_page-requires
 write_page-requires c =
-    let f = c in
-    let a = f in
-    let l = page-long (goal.at.write_page-requires f).After-fill-first in
-    let s = slots-is a.args.pagetimes.now a.args.pagevalues.now a.args.pagemarks.now in
-    let n = f.fill-first.ensures.fits in
+    let l = page-long (goal.at.write_page-requires c).After-fill-first in
+    let s = slots-is c.args.pagetimes.now c.args.pagevalues.now c.args.pagemarks.now in
+    let n = c.fill-first.ensures.fits in
     let h = c.if-room-count.false in
     record { fact_1 = room_of _ _ _ _ (omega (arith, l.times, l.values, l.marks)); fact_2 = room_of _ _ _ _ (omega arith) }
 
 pub returns-then-first : goal.returns-then-first
 returns-then-first c =
-    let f = c in
-    let a = f in
-    let d = filled-done _ _ least _ _ _ f.fill-first.ensures a.requires.cursor_is_2 c.if-first.true in
+    let d = filled-done _ _ least _ _ _ c.fill-first.ensures c.requires.cursor_is_2 c.if-first.true in
     let h = c.if-room-count.false in
-    let n : f.fill-first.result.count ≡ count (goal.at.returns-then-first a).Start = d.0 in
-    let fits : count (goal.at.returns-then-first a).Start ≤ room (goal.at.returns-then-first a).Start = omega arith in
-    bake-done (set (goal.at.returns-then-first a).Start) (lent (goal.at.returns-then-first a).Start) a.args.outtimes.now a.args.outvalues.now a.args.outmarks.now _ _ _ _ fits (head-is (goal.at.returns-then-first a).Start) d.0
-    (c.write_page.ensures ∙ page-copied (changes_of (set (goal.at.returns-then-first a).Start) (lent (goal.at.returns-then-first a).Start) least most) (outputs a.args.pagetimes.now a.args.pagevalues.now a.args.pagemarks.now) (outputs f.fill-first.new.outtimes f.fill-first.new.outvalues f.fill-first.new.outmarks) (outputs a.args.outtimes.now a.args.outvalues.now a.args.outmarks.now) f.fill-first.result.count d.0 d.1)
+    let n : c.fill-first.result.count ≡ count (goal.at.returns-then-first c).Start = d.0 in
+    let fits : count (goal.at.returns-then-first c).Start ≤ room (goal.at.returns-then-first c).Start = omega arith in
+    bake-done (set (goal.at.returns-then-first c).Start) (lent (goal.at.returns-then-first c).Start) c.args.outtimes.now c.args.outvalues.now c.args.outmarks.now _ _ _ _ fits (head-is (goal.at.returns-then-first c).Start) d.0
+    (c.write_page.ensures ∙ page-copied (changes_of (set (goal.at.returns-then-first c).Start) (lent (goal.at.returns-then-first c).Start) least most) (outputs c.args.pagetimes.now c.args.pagevalues.now c.args.pagemarks.now) (outputs c.fill-first.new.outtimes c.fill-first.new.outvalues c.fill-first.new.outmarks) (outputs c.args.outtimes.now c.args.outvalues.now c.args.outmarks.now) c.fill-first.result.count d.0 d.1)
 
 pub count_within-rest-requires : goal.count_within-rest-requires
 count_within-rest-requires c =
-    let f = c in
-    let a = f in
-    record { accepted_lists = a.requires.accepted_lists; latest_of = a.requires.latest_of; cursor_is = f.fill-first.ensures.passed.cursor; nonzero = slots-long (page-long (goal.at.count_within-rest-requires f).After-fill-first) a.requires.nonzero }
+    record { accepted_lists = c.requires.accepted_lists; latest_of = c.requires.latest_of; cursor_is = c.fill-first.ensures.passed.cursor; nonzero = slots-long (page-long (goal.at.count_within-rest-requires c).After-fill-first) c.requires.nonzero }
 
 pub returns-then-left-rest : goal.returns-then-left-rest
 returns-then-left-rest c =
-    let f = c in
-    let a = f in
-    let k = c in
     let h = c.if-room-count.false in
-    let t = total (goal.at.returns-then-left-rest f).After-fill-first in
+    let t = total (goal.at.returns-then-left-rest c).After-fill-first in
     let b = c.if-left-rest.true in
-    let n : f.shortest-room.result - f.fill-first.result.count < length (changes_of (set (goal.at.returns-then-left-rest a).Start) (lent (goal.at.returns-then-left-rest a).Start) f.fill-first.result.cursor.key most) = omega arith in
-    let less : room (goal.at.returns-then-left-rest a).Start < count (goal.at.returns-then-left-rest a).Start = omega arith in
-    subst (λ (b : Baked). BakeIs (set (goal.at.returns-then-left-rest a).Start) (lent (goal.at.returns-then-left-rest a).Start) (outputs a.args.outtimes.now a.args.outvalues.now a.args.outmarks.now) (outputs a.args.outtimes.now a.args.outvalues.now a.args.outmarks.now) b) (sym c.refused-then-left-rest.ensures)
-    (bake-refused (set (goal.at.returns-then-left-rest a).Start) (lent (goal.at.returns-then-left-rest a).Start) a.args.outtimes.now a.args.outvalues.now a.args.outmarks.now less)
+    let n : c.shortest-room.result - c.fill-first.result.count < length (changes_of (set (goal.at.returns-then-left-rest c).Start) (lent (goal.at.returns-then-left-rest c).Start) c.fill-first.result.cursor.key most) = omega arith in
+    let less : room (goal.at.returns-then-left-rest c).Start < count (goal.at.returns-then-left-rest c).Start = omega arith in
+    bake-refused (set (goal.at.returns-then-left-rest c).Start) (lent (goal.at.returns-then-left-rest c).Start) c.args.outtimes.now c.args.outvalues.now c.args.outmarks.now less
 
 pub fill-filled-requires : goal.fill-filled-requires
-fill-filled-requires c = let a = c in record { accepted_lists = a.requires.accepted_lists; latest_of = a.requires.latest_of; cursor_is = a.requires.cursor_is_1 }
+fill-filled-requires c = record { accepted_lists = c.requires.accepted_lists; latest_of = c.requires.latest_of; cursor_is = c.requires.cursor_is_1 }
 
 pub shape_of-pagetimes : goal.shape_of-pagetimes
 shape_of-pagetimes c = c.count_within-rest.auto.pagetimes ∙ c.fill-first.auto.outtimes
@@ -112,15 +97,12 @@ shape_of-pagemarks c = c.count_within-rest.auto.pagemarks ∙ c.fill-first.auto.
 
 pub returns : goal.returns
 returns c =
-    let f = c in
-    let a = f in
-    let k = c in
     let h = c.if-room-count.false in
-    let t = total (goal.at.returns f).After-fill-first in
+    let t = total (goal.at.returns c).After-fill-first in
     let b = c.if-left-rest.false in
-    let n : length (changes_of (set (goal.at.returns a).Start) (lent (goal.at.returns a).Start) f.fill-first.result.cursor.key most) ≤ f.shortest-room.result - f.fill-first.result.count = omega arith in
-    let q = slots-is a.args.outtimes.now a.args.outvalues.now a.args.outmarks.now in
-    let l : count (goal.at.returns a).Start ≤ slots (outputs a.args.outtimes.now a.args.outvalues.now a.args.outmarks.now) = omega arith in
-    let d = filled-all _ _ least _ _ _ c.fill-filled.ensures a.requires.cursor_is_2 l in
-    let fits : count (goal.at.returns a).Start ≤ room (goal.at.returns a).Start = omega arith in
-    bake-done (set (goal.at.returns a).Start) (lent (goal.at.returns a).Start) a.args.outtimes.now a.args.outvalues.now a.args.outmarks.now _ _ _ _ fits (head-is (goal.at.returns a).Start) d.0 d.1
+    let n : length (changes_of (set (goal.at.returns c).Start) (lent (goal.at.returns c).Start) c.fill-first.result.cursor.key most) ≤ c.shortest-room.result - c.fill-first.result.count = omega arith in
+    let q = slots-is c.args.outtimes.now c.args.outvalues.now c.args.outmarks.now in
+    let l : count (goal.at.returns c).Start ≤ slots (outputs c.args.outtimes.now c.args.outvalues.now c.args.outmarks.now) = omega arith in
+    let d = filled-all _ _ least _ _ _ c.fill-filled.ensures c.requires.cursor_is_2 l in
+    let fits : count (goal.at.returns c).Start ≤ room (goal.at.returns c).Start = omega arith in
+    bake-done (set (goal.at.returns c).Start) (lent (goal.at.returns c).Start) c.args.outtimes.now c.args.outvalues.now c.args.outmarks.now _ _ _ _ fits (head-is (goal.at.returns c).Start) d.0 d.1

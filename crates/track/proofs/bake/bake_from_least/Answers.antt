@@ -4,6 +4,4 @@ use Rattle.track.proofs.bake.bake_from_least.Goals as goal
 
 pub bake_by_pages-requires : goal.bake_by_pages-requires
 bake_by_pages-requires c =
-    let n = c in
-    let a = n in
-    record { accepted_lists = a.requires.accepted_lists; latest_of = a.requires.latest_of; cursor_is_1 = n.least_cursor-from.ensures.0; cursor_is_2 = n.least_cursor-from.ensures.1; nonzero = slots-some _ _ _ _ _ _ }
+    record { accepted_lists = c.requires.accepted_lists; latest_of = c.requires.latest_of; cursor_is_1 = c.least_cursor-from.ensures.0; cursor_is_2 = c.least_cursor-from.ensures.1; nonzero = slots-some _ _ _ _ _ _ }

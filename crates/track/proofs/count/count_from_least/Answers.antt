@@ -7,14 +7,10 @@ use Rattle.track.proofs.count.count_from_least.Goals as goal
 
 pub count_within-requires : goal.count_within-requires
 count_within-requires c =
-    let l = c in
-    let a = l in
-    record { accepted_lists = a.requires.accepted_lists; latest_of = a.requires.latest_of; cursor_is = l.least_cursor-from.ensures.0; nonzero = slots-some _ _ _ _ _ _ }
+    record { accepted_lists = c.requires.accepted_lists; latest_of = c.requires.latest_of; cursor_is = c.least_cursor-from.ensures.0; nonzero = slots-some _ _ _ _ _ _ }
 
 pub returns : goal.returns
 returns c =
-    let w = c in
-    let l = w in
-    let a = l.args in
+    let a = c.args in
     count-all (set_of (length a.ends.now) a.starts.now a.clips.now a.xs.now a.ys.now a.blocks.now a.m) (samples_of a.times.now a.values.now a.marks.now a.ends.now)
-    _ _ l.least_cursor-from.ensures.1 w.count_within.ensures
+    _ _ c.least_cursor-from.ensures.1 c.count_within.ensures

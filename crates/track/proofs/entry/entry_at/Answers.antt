@@ -13,8 +13,7 @@ use Rattle.track.proofs.entry.entry_at.Goals as goal
 
 pub value_in_set-requires : goal.value_in_set-requires
 value_in_set-requires c =
-    let a = c in
-    record { fact_1 = a.requires.accepted_lists; fact_2 = subst (λ (t : Float). T (finite t)) (sym c.of_key-t.ensures) (of_key-finite a.args.k a.requires.le_k.0 a.requires.le_k.1) }
+    record { fact_1 = c.requires.accepted_lists; fact_2 = subst (λ (t : Float). T (finite t)) (sym c.of_key-t.ensures) (of_key-finite c.args.k c.requires.le_k.0 c.requires.le_k.1) }
 
 pub returns : goal.returns
 returns c =

@@ -16,7 +16,7 @@ use Rattle.run.proofs.Filling.{Long}
 use Rattle.run.proofs.Walking.{Reaches, stands-first, stands-long, stands-room, stands-next, stands-full, full, walked_all, walked-full, walked-agree, walked-wider, walked-join}
 use Rattle.cell.proofs.Lent.{sound, samples, numbers}
 use Rattle.track.proofs.Walks.{next-key, slots-room, slots-is, filled}
-use Rattle.track.proofs.fill.fill.Goals.{After-fill_in-went, After-offer-slot, After-reached-1, At-loop-at, Else-at-top, Else-room-slot, Start as At-start, Then-at-top, Then-room-slot}
+use Rattle.track.proofs.fill.fill.Goals.{After-fill_in-went, After-offer-slot, Then-not-went, At-loop-at, Else-at-top, Else-room-slot, Start as At-start, Then-at-top, Then-room-slot}
 use Rattle.track.proofs.fill.fill.Goals as goal
 
 -- the set and the samples that are lent, the value, the outputs
@@ -56,7 +56,7 @@ long b o at e c S = stands-long (v (goal.at.At-loop-at b).Start) b.args.from.key
 
 -- the next key
 reaches : (b : At-loop-at) → Reaches (v (goal.at.At-loop-at b).Start) b.loop-at.at (b.loop-at.at + 1)
-reaches b = let a = b in next-key (set (goal.at.At-loop-at a).Start) (lent (goal.at.At-loop-at a).Start) (sound a.requires.accepted_lists) (samples a.requires.accepted_lists) (numbers a.requires.accepted_lists) b.loop-at.at
+reaches b = next-key (set (goal.at.At-loop-at b).Start) (lent (goal.at.At-loop-at b).Start) (sound b.requires.accepted_lists) (samples b.requires.accepted_lists) (numbers b.requires.accepted_lists) b.loop-at.at
 
 below : (c : Else-at-top) → c.loop-at.at < c.args.top
 below c = let h = c.loop-at.invariant.0 in let n = c.if-at-top.false in omega arith
@@ -67,36 +67,30 @@ next_keys c = let K = keys (goal.at.Else-at-top c).Start in let l = below c in l
 abbrev after : After-offer-slot → Outputs
 after c = outputs c.offer-slot.new.outtimes c.offer-slot.new.outvalues c.offer-slot.new.outmarks
 
-refused : (c : Then-room-slot) → let g = c in let b = g in At (goal.at.Then-room-slot b).At-loop-at (after (goal.at.Then-room-slot g).After-offer-slot) b.loop-at.at (entry_is b.loop-at.last) b.loop-at.count
+refused : (c : Then-room-slot) → At (goal.at.Then-room-slot c).At-loop-at (after (goal.at.Then-room-slot c).After-offer-slot) c.loop-at.at (entry_is c.loop-at.last) c.loop-at.count
 refused c =
-    let g = c in
-    let b = g in
-    stands-full (v (goal.at.Then-room-slot b).Start) b.args.from.key (room (goal.at.Then-room-slot b).At-loop-at) 0 (outs (goal.at.Then-room-slot b).Start) (has (goal.at.Then-room-slot b).At-loop-at) b.loop-at.invariant.2 (reaches (goal.at.Then-room-slot b).At-loop-at) g.span_at-step.ensures.span.here g.offer-slot.ensures c.if-room-slot.true
+    stands-full (v (goal.at.Then-room-slot c).Start) c.args.from.key (room (goal.at.Then-room-slot c).At-loop-at) 0 (outs (goal.at.Then-room-slot c).Start) (has (goal.at.Then-room-slot c).At-loop-at) c.loop-at.invariant.2 (reaches (goal.at.Then-room-slot c).At-loop-at) c.span_at-step.ensures.span.here c.offer-slot.ensures c.if-room-slot.true
 
-taken : (c : Else-room-slot) → let g = c in let b = g in At (goal.at.Else-room-slot b).At-loop-at (after (goal.at.Else-room-slot g).After-offer-slot) (b.loop-at.at + 1) (entry_is g.span_at-step.result.span.here) g.offer-slot.result
+taken : (c : Else-room-slot) → At (goal.at.Else-room-slot c).At-loop-at (after (goal.at.Else-room-slot c).After-offer-slot) (c.loop-at.at + 1) (entry_is c.span_at-step.result.span.here) c.offer-slot.result
 taken c =
-    let g = c in
-    let b = g in
     let h = c.if-room-slot.false in
-    stands-next (v (goal.at.Else-room-slot b).Start) b.args.from.key (room (goal.at.Else-room-slot b).At-loop-at) 0 (outs (goal.at.Else-room-slot b).Start) (has (goal.at.Else-room-slot b).At-loop-at) b.loop-at.invariant.2 (reaches (goal.at.Else-room-slot b).At-loop-at) g.span_at-step.ensures.span.here g.offer-slot.ensures (omega arith)
+    stands-next (v (goal.at.Else-room-slot c).Start) c.args.from.key (room (goal.at.Else-room-slot c).At-loop-at) 0 (outs (goal.at.Else-room-slot c).Start) (has (goal.at.Else-room-slot c).At-loop-at) c.loop-at.invariant.2 (reaches (goal.at.Else-room-slot c).At-loop-at) c.span_at-step.ensures.span.here c.offer-slot.ensures (omega arith)
 
 abbrev behind : After-fill_in-went → Outputs
 behind c = outputs c.fill_in-went.new.outtimes c.fill_in-went.new.outvalues c.fill_in-went.new.outmarks
 
-walked : (c : After-fill_in-went) → let b = c in
-    Walked (v (goal.at.After-fill_in-went b).Start) b.args.from.key c.span_at-step.result.span.hi (room (goal.at.After-fill_in-went b).At-loop-at) 0 (outs (goal.at.After-fill_in-went b).Start) (behind c) c.fill_in-went.result
+walked : (c : After-fill_in-went) → Walked (v (goal.at.After-fill_in-went c).Start) c.args.from.key c.span_at-step.result.span.hi (room (goal.at.After-fill_in-went c).At-loop-at) 0 (outs (goal.at.After-fill_in-went c).Start) (behind c) c.fill_in-went.result
 walked c =
-    let b = c in
-    walked-join (v (goal.at.After-fill_in-went b).Start) b.args.from.key c.span_at-step.result.span.hi (room (goal.at.After-fill_in-went b).At-loop-at) 0 (outs (goal.at.After-fill_in-went b).Start) (has (goal.at.After-fill_in-went b).At-loop-at) (taken (goal.at.After-fill_in-went c).Else-room-slot) (walked-agree c.span_at-step.ensures.span.says c.fill_in-went.ensures)
+    walked-join (v (goal.at.After-fill_in-went c).Start) c.args.from.key c.span_at-step.result.span.hi (room (goal.at.After-fill_in-went c).At-loop-at) 0 (outs (goal.at.After-fill_in-went c).Start) (has (goal.at.After-fill_in-went c).At-loop-at) (taken (goal.at.After-fill_in-went c).Else-room-slot) (walked-agree c.span_at-step.ensures.span.says c.fill_in-went.ensures)
 
 within : (c : After-fill_in-went) → (c.loop-at.at < c.span_at-step.result.span.hi) × (c.span_at-step.result.span.hi ≤ c.args.top)
 within c = let S = c.span_at-step.ensures.span in (let o = S.keys.order in omega arith, S.within)
 
 long-full : (c : Then-room-slot) → Long (outs (goal.at.Then-room-slot c).Start) (after (goal.at.Then-room-slot c).After-offer-slot)
-long-full c = let b = c in long (goal.at.Then-room-slot b).At-loop-at _ _ _ _ (refused c)
+long-full c = long (goal.at.Then-room-slot c).At-loop-at _ _ _ _ (refused c)
 
-long-stop : (c : After-reached-1) → Long (outs (goal.at.After-reached-1 c).Start) (behind (goal.at.After-reached-1 c).After-fill_in-went)
-long-stop c = let i = c in long (goal.at.After-reached-1 i).At-loop-at _ _ _ _ (walked (goal.at.After-reached-1 i).After-fill_in-went).stands
+long-stop : (c : Then-not-went) → Long (outs (goal.at.Then-not-went c).Start) (behind (goal.at.Then-not-went c).After-fill_in-went)
+long-stop c = long (goal.at.Then-not-went c).At-loop-at _ _ _ _ (walked (goal.at.Then-not-went c).After-fill_in-went).stands
 
 long-end : (c : Then-at-top) → Long (outs (goal.at.Then-at-top c).Start) (now (goal.at.Then-at-top c).At-loop-at)
 long-end c = long (goal.at.Then-at-top c).At-loop-at _ _ _ _ c.loop-at.invariant.2
@@ -106,9 +100,8 @@ shortest-room-requires c = tt
 
 pub loop-at-init : goal.loop-at-init
 loop-at-init c =
-    let a = c in
     let r = c.shortest-room in
-    ((keys (goal.at.loop-at-init a).Start).order, a.requires.cursor_is.place, stands-first (v (goal.at.loop-at-init a).Start) a.args.from.key r.result 0 (outs (goal.at.loop-at-init a).Start) (slots-room a.args.outtimes.now a.args.outvalues.now a.args.outmarks.now r.result r.ensures) (entry_is a.args.from.last) a.requires.cursor_is.last)
+    ((keys (goal.at.loop-at-init c).Start).order, c.requires.cursor_is.place, stands-first (v (goal.at.loop-at-init c).Start) c.args.from.key r.result 0 (outs (goal.at.loop-at-init c).Start) (slots-room c.args.outtimes.now c.args.outvalues.now c.args.outmarks.now r.result r.ensures) (entry_is c.args.from.last) c.requires.cursor_is.last)
 
 pub shape_of-outtimes-then-at-top : goal.shape_of-outtimes-then-at-top
 shape_of-outtimes-then-at-top c = (long-end c).times
@@ -121,22 +114,18 @@ shape_of-outmarks-then-at-top c = (long-end c).marks
 
 pub returns-then-at-top : goal.returns-then-at-top
 returns-then-at-top c =
-    let b = c in
-    let a = b in
-    filled a.args.from.key a.args.top (room (goal.at.returns-then-at-top b).At-loop-at) (keys (goal.at.returns-then-at-top a).Start) (outs (goal.at.returns-then-at-top a).Start) (now (goal.at.returns-then-at-top b).At-loop-at) (all (goal.at.returns-then-at-top b).At-loop-at) _ (walked_all b.loop-at.invariant.2 c.if-at-top.true) b.loop-at.place b.loop-at.invariant.1
+    filled c.args.from.key c.args.top (room (goal.at.returns-then-at-top c).At-loop-at) (keys (goal.at.returns-then-at-top c).Start) (outs (goal.at.returns-then-at-top c).Start) (now (goal.at.returns-then-at-top c).At-loop-at) (all (goal.at.returns-then-at-top c).At-loop-at) _ (walked_all c.loop-at.invariant.2 c.if-at-top.true) c.loop-at.place c.loop-at.invariant.1
 
 pub overflow_add-k : goal.overflow_add-k
 overflow_add-k c = let l = below c in let K = keys (goal.at.overflow_add-k c).Start in omega (arith, K.high)
 
 pub span_at-step-requires : goal.span_at-step-requires
-span_at-step-requires c = let a = c in record { accepted_lists = a.requires.accepted_lists; latest_of = a.requires.latest_of; place_is = c.loop-at.invariant.1; keys = next_keys c }
+span_at-step-requires c = record { accepted_lists = c.requires.accepted_lists; latest_of = c.requires.latest_of; place_is = c.loop-at.invariant.1; keys = next_keys c }
 
 pub offer-slot-requires : goal.offer-slot-requires
 offer-slot-requires c =
-    let e = c in
-    let b = e in
-    let K = next_keys (goal.at.offer-slot-requires e).Else-at-top in
-    record { le_k = (K.low, omega (arith, K.order, K.high)); room = stands-room (v (goal.at.offer-slot-requires b).Start) b.args.from.key (room (goal.at.offer-slot-requires b).At-loop-at) 0 (outs (goal.at.offer-slot-requires b).Start) (has (goal.at.offer-slot-requires b).At-loop-at) b.loop-at.invariant.2 }
+    let K = next_keys (goal.at.offer-slot-requires c).Else-at-top in
+    record { le_k = (K.low, omega (arith, K.order, K.high)); room = stands-room (v (goal.at.offer-slot-requires c).Start) c.args.from.key (room (goal.at.offer-slot-requires c).At-loop-at) 0 (outs (goal.at.offer-slot-requires c).Start) (has (goal.at.offer-slot-requires c).At-loop-at) c.loop-at.invariant.2 }
 
 pub shape_of-outtimes-then-room-slot : goal.shape_of-outtimes-then-room-slot
 shape_of-outtimes-then-room-slot c = (long-full c).times
@@ -149,44 +138,33 @@ shape_of-outmarks-then-room-slot c = (long-full c).marks
 
 pub returns-then-room-slot : goal.returns-then-room-slot
 returns-then-room-slot c =
-    let g = c in
-    let b = g in
-    let a = b in
-    let l = below (goal.at.returns-then-room-slot g).Else-at-top in
-    filled a.args.from.key a.args.top (room (goal.at.returns-then-room-slot b).At-loop-at) (keys (goal.at.returns-then-room-slot a).Start) (outs (goal.at.returns-then-room-slot a).Start) (after (goal.at.returns-then-room-slot g).After-offer-slot) (all (goal.at.returns-then-room-slot b).At-loop-at) _
-    (walked-full (refused c) b.loop-at.invariant.0
-    (full (v (goal.at.returns-then-room-slot a).Start) a.args.from.key (room (goal.at.returns-then-room-slot b).At-loop-at) 0 (outs (goal.at.returns-then-room-slot a).Start) (has (goal.at.returns-then-room-slot b).At-loop-at) b.loop-at.invariant.2 (reaches (goal.at.returns-then-room-slot b).At-loop-at) g.span_at-step.ensures.span.here g.offer-slot.ensures (omega arith) c.if-room-slot.true))
-    b.loop-at.place b.loop-at.invariant.1
+    let l = below (goal.at.returns-then-room-slot c).Else-at-top in
+    filled c.args.from.key c.args.top (room (goal.at.returns-then-room-slot c).At-loop-at) (keys (goal.at.returns-then-room-slot c).Start) (outs (goal.at.returns-then-room-slot c).Start) (after (goal.at.returns-then-room-slot c).After-offer-slot) (all (goal.at.returns-then-room-slot c).At-loop-at) _
+    (walked-full (refused c) c.loop-at.invariant.0
+    (full (v (goal.at.returns-then-room-slot c).Start) c.args.from.key (room (goal.at.returns-then-room-slot c).At-loop-at) 0 (outs (goal.at.returns-then-room-slot c).Start) (has (goal.at.returns-then-room-slot c).At-loop-at) c.loop-at.invariant.2 (reaches (goal.at.returns-then-room-slot c).At-loop-at) c.span_at-step.ensures.span.here c.offer-slot.ensures (omega arith) c.if-room-slot.true))
+    c.loop-at.place c.loop-at.invariant.1
 
 pub fill_in-went-requires : goal.fill_in-went-requires
 fill_in-went-requires c =
-    let e = c in
-    let g = e in
-    let b = g in
-    let S = g.span_at-step.ensures.span in
-    record { keys = S.keys; span_is = S.runs; room = stands-room (v (goal.at.fill_in-went-requires b).Start) b.args.from.key (room (goal.at.fill_in-went-requires b).At-loop-at) 0 (outs (goal.at.fill_in-went-requires b).Start) (has (goal.at.fill_in-went-requires b).At-loop-at) (taken (goal.at.fill_in-went-requires e).Else-room-slot) }
+    let S = c.span_at-step.ensures.span in
+    record { keys = S.keys; span_is = S.runs; room = stands-room (v (goal.at.fill_in-went-requires c).Start) c.args.from.key (room (goal.at.fill_in-went-requires c).At-loop-at) 0 (outs (goal.at.fill_in-went-requires c).Start) (has (goal.at.fill_in-went-requires c).At-loop-at) (taken (goal.at.fill_in-went-requires c).Else-room-slot) }
 
 pub shape_of-outtimes-then-not-went : goal.shape_of-outtimes-then-not-went
-shape_of-outtimes-then-not-went c = (long-stop c).times
+shape_of-outtimes-then-not-went c = (long-stop (goal.at.shape_of-outtimes-then-not-went c).Then-not-went).times
 
 pub shape_of-outvalues-then-not-went : goal.shape_of-outvalues-then-not-went
-shape_of-outvalues-then-not-went c = (long-stop c).values
+shape_of-outvalues-then-not-went c = (long-stop (goal.at.shape_of-outvalues-then-not-went c).Then-not-went).values
 
 pub shape_of-outmarks-then-not-went : goal.shape_of-outmarks-then-not-went
-shape_of-outmarks-then-not-went c = (long-stop c).marks
+shape_of-outmarks-then-not-went c = (long-stop (goal.at.shape_of-outmarks-then-not-went c).Then-not-went).marks
 
 pub returns-then-not-went : goal.returns-then-not-went
 returns-then-not-went c =
-    let i = c in
-    let b = i in
-    let a = b in
-    filled a.args.from.key a.args.top (room (goal.at.returns-then-not-went b).At-loop-at) (keys (goal.at.returns-then-not-went a).Start) (outs (goal.at.returns-then-not-went a).Start) (behind (goal.at.returns-then-not-went i).After-fill_in-went) (all (goal.at.returns-then-not-went b).At-loop-at) _ (walked-wider (within (goal.at.returns-then-not-went i).After-fill_in-went).1 (not-true i.fill_in-went.result.done c.if-not-went.true) (walked (goal.at.returns-then-not-went i).After-fill_in-went)) i.span_at-step.result.place i.span_at-step.ensures.place
+    filled c.args.from.key c.args.top (room (goal.at.returns-then-not-went c).At-loop-at) (keys (goal.at.returns-then-not-went c).Start) (outs (goal.at.returns-then-not-went c).Start) (behind (goal.at.returns-then-not-went c).After-fill_in-went) (all (goal.at.returns-then-not-went c).At-loop-at) _ (walked-wider (within (goal.at.returns-then-not-went c).After-fill_in-went).1 (not-true c.fill_in-went.result.done c.if-not-went.true) (walked (goal.at.returns-then-not-went c).After-fill_in-went)) c.span_at-step.result.place c.span_at-step.ensures.place
 
 pub loop-at-smaller : goal.loop-at-smaller
-loop-at-smaller c = let i = c in let h = within (goal.at.loop-at-smaller i).After-fill_in-went in let l = i.loop-at.invariant.0 in omega (arith, h.0, h.1)
+loop-at-smaller c = let h = within (goal.at.loop-at-smaller c).After-fill_in-went in let l = c.loop-at.invariant.0 in omega (arith, h.0, h.1)
 
 pub loop-at-preserved : goal.loop-at-preserved
 loop-at-preserved c =
-    let i = c in
-    let b = i in
-    ((within (goal.at.loop-at-preserved i).After-fill_in-went).1, i.span_at-step.ensures.place, subst (λ (j : ℕ). At (goal.at.loop-at-preserved b).At-loop-at (behind (goal.at.loop-at-preserved i).After-fill_in-went) j (entry_is i.fill_in-went.result.last) i.fill_in-went.result.count) ((walked (goal.at.loop-at-preserved i).After-fill_in-went).whole (not-false i.fill_in-went.result.done c.if-not-went.false)) (walked (goal.at.loop-at-preserved i).After-fill_in-went).stands)
+    ((within (goal.at.loop-at-preserved c).After-fill_in-went).1, c.span_at-step.ensures.place, subst (λ (j : ℕ). At (goal.at.loop-at-preserved c).At-loop-at (behind (goal.at.loop-at-preserved c).After-fill_in-went) j (entry_is c.fill_in-went.result.last) c.fill_in-went.result.count) ((walked (goal.at.loop-at-preserved c).After-fill_in-went).whole (not-false c.fill_in-went.result.done c.if-not-went.false)) (walked (goal.at.loop-at-preserved c).After-fill_in-went).stands)

@@ -5,8 +5,7 @@ use Rattle.cell.proofs.Lent.{no-place-is}
 use Rattle.track.proofs.fill.least_cursor.Goals as goal
 
 pub returns : goal.returns
-returns c =
-    let a = c in (
-      record { keys = record { low = lit≤ tt; order = lit≤ tt; high = lit≤ tt }; last = c.entry_at-last.ensures; place = no-place-is a.requires c.no_place-place.result c.no_place-place.ensures },
-      refl,
-    )
+returns c = (
+  record { keys = record { low = lit≤ tt; order = lit≤ tt; high = lit≤ tt }; last = c.entry_at-last.ensures; place = no-place-is c.requires c.no_place.result c.no_place.ensures },
+  refl,
+)

@@ -27,19 +27,17 @@ lent s = track_of_lists s.args.value s.args.mark s.args.times.now s.args.values.
 -- as many of its changes are found
 found-is : (p : After-partition_point-found) → p.partition_point-found.result ≡ partition_point (change_times (lent (goal.at.After-partition_point-found p).Start).changes) p.args.t
 found-is p =
-    let s = p in
     p.partition_point-found.ensures
-    ∙ ap (λ (l : List Float). partition_point l s.args.t)
-    (ap (λ (n : ℕ). take n s.args.times.now) (shortest-is (goal.at.After-partition_point-found p).After-shortest-n) ∙ sym (front-times s.args.times.now s.args.values.now s.args.marks.now))
+    ∙ ap (λ (l : List Float). partition_point l p.args.t)
+    (ap (λ (n : ℕ). take n p.args.times.now) (shortest-is (goal.at.After-partition_point-found p).After-shortest-n) ∙ sym (front-times p.args.times.now p.args.values.now p.args.marks.now))
 
 -- at most as many as the shortest list has
 found_within : (p : After-partition_point-found) → p.partition_point-found.result ≤ p.shortest-n.result
 found_within p =
-    let s = p in
     let n = p.shortest-n.result in
-    let w = partition-within (take n s.args.times.now) s.args.t in
-    let f : p.partition_point-found.result ≡ partition_point (take n s.args.times.now) s.args.t = p.partition_point-found.ensures in
-    let l = length-take-le n s.args.times.now (let q = shortest-is (goal.at.After-partition_point-found p).After-shortest-n in omega arith) in
+    let w = partition-within (take n p.args.times.now) p.args.t in
+    let f : p.partition_point-found.result ≡ partition_point (take n p.args.times.now) p.args.t = p.partition_point-found.ensures in
+    let l = length-take-le n p.args.times.now (let q = shortest-is (goal.at.After-partition_point-found p).After-shortest-n in omega arith) in
     omega arith
 
 -- what is read after a number of changes
@@ -67,9 +65,8 @@ bounds-marks-last c = let i = inside (goal.at.bounds-marks-last c).Else-found-eq
 
 pub returns : goal.returns
 returns c =
-    let p = c in
-    let a = p.args in
-    let k = p.partition_point-found.result - 1 in
+    let a = c.args in
+    let k = c.partition_point-found.result - 1 in
     let i = inside (goal.at.returns c).Else-found-eq0 in
-    let q = shortest-is (goal.at.returns p).After-shortest-n in
-    reads (goal.at.returns p).After-partition_point-found (suc k) _ (omega arith) (sym (held_at a.times.now a.values.now a.marks.now (entry a.value a.mark) k (omega arith)))
+    let q = shortest-is (goal.at.returns c).After-shortest-n in
+    reads (goal.at.returns c).After-partition_point-found (suc k) _ (omega arith) (sym (held_at a.times.now a.values.now a.marks.now (entry a.value a.mark) k (omega arith)))

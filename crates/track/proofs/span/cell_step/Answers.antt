@@ -21,38 +21,33 @@ reads c = c.requires.reads c.cell_at-piece.result.cell c.cell_at-piece.result.en
 
 pub cell_at-piece-requires : goal.cell_at-piece-requires
 cell_at-piece-requires c =
-    let a = c in
-    subst (CellAsks a.args.starts.now a.args.xs.now a.args.ys.now a.args.times.now a.args.latest.now a.args.at.window) (sym c.of_key.ensures) a.requires.search
+    subst (CellAsks c.args.starts.now c.args.xs.now c.args.ys.now c.args.times.now c.args.latest.now c.args.at.window) (sym c.of_key.ensures) c.requires.search
 
-pub end_key-e-requires : goal.end_key-e-requires
-end_key-e-requires c = (reads c).number
+pub end_key-requires : goal.end_key-requires
+end_key-requires c = (reads c).number
 
-pub overflow_sub-e : goal.overflow_sub-e
-overflow_sub-e c = omega (arith, (reads (goal.at.overflow_sub-e c).After-cell_at-piece).later, c.end_key-e.ensures)
+pub overflow_sub-end_key : goal.overflow_sub-end_key
+overflow_sub-end_key c = omega (arith, (reads (goal.at.overflow_sub-end_key c).After-cell_at-piece).later, c.end_key.ensures)
 
 pub read_on-source-requires : goal.read_on-source-requires
 read_on-source-requires c = let A = reads (goal.at.read_on-source-requires c).After-cell_at-piece in record { keys = A.point; readable = A.read }
 
 pub answer_of-requires : goal.answer_of-requires
 answer_of-requires c =
-    let q = c in
-    let a = q.args in
-    record { fact_1 = subst (Answerable (length a.values.now) a.ends.now) (sym c.read_on-source.ensures) (reads (goal.at.answer_of-requires q).After-cell_at-piece).said; fact_2 = (reads (goal.at.answer_of-requires q).After-cell_at-piece).flagged }
+    let a = c.args in
+    record { fact_1 = subst (Answerable (length a.values.now) a.ends.now) (sym c.read_on-source.ensures) (reads (goal.at.answer_of-requires c).After-cell_at-piece).said; fact_2 = (reads (goal.at.answer_of-requires c).After-cell_at-piece).flagged }
 
 pub returns : goal.returns
 returns c =
-    let x = c in
-    let l = x in
-    let q = l in
-    let a = q.args in
+    let a = c.args in
     record {
-      cell = q.cell_at-piece.result.cell;
-      end = q.cell_at-piece.result.end;
-      found = found (goal.at.returns q).After-cell_at-piece;
+      cell = c.cell_at-piece.result.cell;
+      end = c.cell_at-piece.result.end;
+      found = found (goal.at.returns c).After-cell_at-piece;
       step = record {
         way = refl;
-        here = x.entry_of-here.ensures ∙ ap written_entry (x.answer_of.ensures ∙ ap (answer_in a.m a.values.now a.marks.now a.ends.now) x.read_on-source.ensures);
-        upto = l.lesser-hi.ensures ∙ ap (λ (e : ℕ). min a.top (e - 1)) l.end_key-e.ensures;
+        here = c.entry_of-here.ensures ∙ ap written_entry (c.answer_of.ensures ∙ ap (answer_in a.m a.values.now a.marks.now a.ends.now) c.read_on-source.ensures);
+        upto = c.min-hi.ensures ∙ ap (λ (e : ℕ). min a.top (e - 1)) c.end_key.ensures;
         start = refl;
         window = refl;
       };

@@ -17,7 +17,7 @@ use Rattle.track.proofs.span.read_on.Goals as goal
 
 -- the clip's part can be read
 read : (c : In-Reading) → ReadPart c.args.times.now c.args.ends.now c.in-Reading.clip
-read c = let a = c in subst (Readable a.args.times.now a.args.ends.now) c.in-Reading.is a.requires.readable
+read c = subst (Readable c.args.times.now c.args.ends.now) c.in-Reading.is c.requires.readable
 
 part-inside : (c : After-clip_end-b) → (c.clip_begin-a.result ≤ c.clip_end-b.result) × (c.clip_end-b.result ≤ length c.args.times.now)
 part-inside c =
@@ -47,12 +47,10 @@ slice_bounds-place_on-end c = let h = part-inside c in search rules
 
 pub place_on-requires : goal.place_on-requires
 place_on-requires c =
-    let a = c in
-    record { ascending = subst Ascending (sym (part-is (goal.at.place_on-requires c).After-clip_end-b)) (read (goal.at.place_on-requires c).In-Reading).rising; le_k = (a.requires.keys.low, a.requires.keys.high) }
+    record { ascending = subst Ascending (sym (part-is (goal.at.place_on-requires c).After-clip_end-b)) (read (goal.at.place_on-requires c).In-Reading).rising; le_k = (c.requires.keys.low, c.requires.keys.high) }
 
 pub returns-in-Reading : goal.returns-in-Reading
 returns-in-Reading c =
-    let t = c in
-    let a = t.args in
-    ap (Sample t.in-Reading.clip) (c.place_on.ensures ∙ ap (λ (l : List Float). place_on l t.in-Reading.line a.k) (part-is (goal.at.returns-in-Reading c).After-clip_end-b))
-    ∙ sym (ap (λ (d : Cell). read_on a.times.now a.ends.now d a.k) t.in-Reading.is)
+    let a = c.args in
+    ap (Sample c.in-Reading.clip) (c.place_on.ensures ∙ ap (λ (l : List Float). place_on l c.in-Reading.line a.k) (part-is (goal.at.returns-in-Reading c).After-clip_end-b))
+    ∙ sym (ap (λ (d : Cell). read_on a.times.now a.ends.now d a.k) c.in-Reading.is)

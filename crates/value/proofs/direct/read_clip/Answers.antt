@@ -14,8 +14,8 @@ returns-then-begin-end c =
     let a = k.args in
     held_none a.times.now a.values.now a.marks.now _ _ _ (sym k.clip_begin-begin.ensures ∙ c.if-begin-end.true ∙ k.clip_end-end.ensures)
 
-pub read_clip-requires : goal.read_clip-requires
-read_clip-requires c =
+pub read-requires : goal.read-requires
+read-requires c =
     let k = c in
     let s = k in
     let a = s.args in
@@ -26,6 +26,6 @@ pub returns : goal.returns
 returns c =
     let k = c in
     let a = k.args in
-    c.read_clip.ensures
-    ∙ ap (held_reading a.times.now a.values.now a.marks.now k.clip_begin-begin.result k.clip_end-end.result) c.map_time-c.ensures
+    c.read.ensures
+    ∙ ap (held_reading a.times.now a.values.now a.marks.now k.clip_begin-begin.result k.clip_end-end.result) c.map_time.ensures
     ∙ ap₂ (λ (b e : ℕ). held_reading a.times.now a.values.now a.marks.now b e (map_stage_to_clip (knots_of a.xs.now a.ys.now) a.t)) k.clip_begin-begin.ensures k.clip_end-end.ensures

@@ -10,6 +10,3 @@ use Rattle.value.proofs.jump.is_jump.Given as goal
 
 abbrev pub invariant-loop-i : goal.invariant-loop-i
 invariant-loop-i l = (l.i ≤ last_at_most l.xs l.upper) × ((j : ℕ) → l.i ≤ j → j + 1 < length l.xs → jumps_at l.lower l.upper (get_or l.xs j nan, get_or l.xs (j + 1) nan) ≡ false)
-
-abbrev pub decreases-loop-i : goal.decreases-loop-i
-decreases-loop-i l = l.i

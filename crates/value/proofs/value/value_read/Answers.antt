@@ -7,13 +7,9 @@ use Rattle.value.proofs.value.value_read.Goals as goal
 
 pub answer_of-answer-requires : goal.answer_of-answer-requires
 answer_of-answer-requires c =
-    let s = c in
-    let a = s.args in
-    record { fact_1 = subst (Answerable (length a.values.now) a.ends.now) (sym c.value_source-source.ensures) (value_in s.requires.fact_1 a.t); fact_2 = ready-marks s.requires.fact_1 }
+    let a = c.args in
+    record { fact_1 = subst (Answerable (length a.values.now) a.ends.now) (sym c.value_source-source.ensures) (value_in c.requires.fact_1 a.t); fact_2 = ready-marks c.requires.fact_1 }
 
 pub returns : goal.returns
 returns c =
-    let w = c in
-    let v = w in
-    let s = v in
-    reads-value s.requires.fact_1 s.args.t v.value_source-source.result v.value_source-source.ensures w.answer_of-answer.result c.sample_read-sample.result w.answer_of-answer.ensures c.sample_read-sample.ensures
+    reads-value c.requires.fact_1 c.args.t c.value_source-source.result c.value_source-source.ensures c.answer_of-answer.result c.sample_read-sample.result c.answer_of-answer.ensures c.sample_read-sample.ensures

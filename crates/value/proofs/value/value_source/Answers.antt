@@ -19,40 +19,30 @@ held : (s : At-start) → T (fits binary64 s.args.t.0)
 held s = search rules
 
 active : (k : After-last_at_most-p) → k.last_at_most-p.result < length k.args.starts.now
-active k = let s = k in omega (arith, last-short s.args.starts.now s.args.t.0 (omega arith))
+active k = omega (arith, last-short k.args.starts.now k.args.t.0 (omega arith))
 
 pub returns-then-starts-eq0 : goal.returns-then-starts-eq0
-returns-then-starts-eq0 c = let s = c in reads-absent s.requires.fact_1 s.args.t.0 c.if-starts-eq0.true ∙ value-few s.requires.fact_1 s.args.t.0 (held (goal.at.returns-then-starts-eq0 s).Start) s.requires.fact_2 (omega arith)
+returns-then-starts-eq0 c = reads-absent c.requires.fact_1 c.args.t.0 c.if-starts-eq0.true ∙ value-few c.requires.fact_1 c.args.t.0 (held (goal.at.returns-then-starts-eq0 c).Start) c.requires.fact_2 (omega arith)
 
 pub last_at_most-p-requires : goal.last_at_most-p-requires
 last_at_most-p-requires c = ready-starts c.requires.fact_1
 
 pub window_of-w-requires : goal.window_of-w-requires
-window_of-w-requires c = let s = c in record { fact_1 = s.requires.fact_1; fact_2 = active c }
+window_of-w-requires c = record { fact_1 = c.requires.fact_1; fact_2 = active c }
 
 pub source_in-requires : goal.source_in-requires
 source_in-requires c =
-    let k = c in
-    let A = k.requires.fact_1 in
-    record { fact_1 = (ready-readable A).knots; fact_2 = A.knots-paired; fact_3 = window-lent A k.last_at_most-p.result c.window_of-w.result c.window_of-w.ensures }
+    let A = c.requires.fact_1 in
+    record { fact_1 = (ready-readable A).knots; fact_2 = A.knots-paired; fact_3 = window-lent A c.last_at_most-p.result c.window_of-w.result c.window_of-w.ensures }
 
 pub returns-then-starts-lt2 : goal.returns-then-starts-lt2
 returns-then-starts-lt2 c =
-    let w = c in
-    let k = w in
-    let s = k in
-    c.source_in.ensures ∙ sym (w.window_of-w.ensures.direct s.args.t.0 (sym k.last_at_most-p.ensures)) ∙ value-few s.requires.fact_1 s.args.t.0 (held (goal.at.returns-then-starts-lt2 s).Start) s.requires.fact_2 c.if-starts-lt2.true
+    c.source_in.ensures ∙ sym (c.window_of-w.ensures.direct c.args.t.0 (sym c.last_at_most-p.ensures)) ∙ value-few c.requires.fact_1 c.args.t.0 (held (goal.at.returns-then-starts-lt2 c).Start) c.requires.fact_2 c.if-starts-lt2.true
 
 pub value_in-requires : goal.value_in-requires
 value_in-requires c =
-    let w = c in
-    let k = w in
-    let s = k in
-    value-asks s.requires.fact_1 s.args.t.0 (held (goal.at.value_in-requires s).Start) s.requires.fact_2 c.if-starts-lt2.false k.last_at_most-p.result k.last_at_most-p.ensures w.window_of-w.result w.window_of-w.ensures
+    value-asks c.requires.fact_1 c.args.t.0 (held (goal.at.value_in-requires c).Start) c.requires.fact_2 c.if-starts-lt2.false c.last_at_most-p.result c.last_at_most-p.ensures c.window_of-w.result c.window_of-w.ensures
 
 pub returns : goal.returns
 returns c =
-    let w = c in
-    let k = w in
-    let s = k in
-    value_in s.requires.fact_1 s.args.t.0 (held (goal.at.returns s).Start) s.requires.fact_2 c.if-starts-lt2.false k.last_at_most-p.result k.last_at_most-p.ensures w.window_of-w.result w.window_of-w.ensures c.value_in.result c.value_in.ensures
+    value_in c.requires.fact_1 c.args.t.0 (held (goal.at.returns c).Start) c.requires.fact_2 c.if-starts-lt2.false c.last_at_most-p.result c.last_at_most-p.ensures c.window_of-w.result c.window_of-w.ensures c.value_in.result c.value_in.ensures

@@ -24,10 +24,8 @@ segment_at-requires c = record { fact_1 = c.requires.fact_2; fact_2 = (on c).pla
 pub returns-then-is_between : goal.returns-then-is_between
 unfolding map_stage_to_clip
 returns-then-is_between c =
-    let o = c in
-    let s = o in
-    let a = s.args in
+    let a = c.args in
     ap clip
     (c.clip_time.ensures
     ∙ ap (λ (q : Segment). on_segment q.a q.b a.t.0) c.segment_at.ensures
-    ∙ on-segment a.xs.now a.ys.now s.requires.fact_1 s.requires.fact_2 a.t.0 (held (goal.at.returns-then-is_between s).Start) a.knot (on (goal.at.returns-then-is_between o).Then-is_between))
+    ∙ on-segment a.xs.now a.ys.now c.requires.fact_1 c.requires.fact_2 a.t.0 (held (goal.at.returns-then-is_between c).Start) a.knot (on (goal.at.returns-then-is_between c).Then-is_between))

@@ -7,13 +7,12 @@ use Rattle.definitions.specs.Timing.{last_at_most, map_stage_to_clip}
 use Rattle.window.specs.search.Windowed.{samples_in, window_source}
 use Rattle.value.proofs.windowed.source_in.Goals as goal
 
-pub returns-then-begin-end : goal.returns-then-begin-end
+pub returns-then-w : goal.returns-then-w
 unfolding window_source map_stage_to_clip
-returns-then-begin-end c =
-    let s = c in
-    let a = s.args in
-    rw (lt-ltb _ _ c.if-begin-end.true) (ap (sample a.w.clip) (c.last_at_most_near-place.ensures ∙ ap (λ (x : ClipTime). last_at_most (samples_in a.times.now a.w) x.0) c.clip_time-c.ensures))
+returns-then-w c =
+    let a = c.args in
+    rw (lt-ltb _ _ c.if-w.true) (ap (sample a.w.clip) (c.last_at_most_near-place.ensures ∙ ap (λ (x : ClipTime). last_at_most (samples_in a.times.now a.w) x.0) c.clip_time-c.ensures))
 
 pub returns : goal.returns
 unfolding window_source
-returns c = rw (le-ltb _ _ c.if-begin-end.false)
+returns c = rw (le-ltb _ _ c.if-w.false)

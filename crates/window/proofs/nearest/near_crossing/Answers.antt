@@ -5,14 +5,12 @@ use Rattle.window.proofs.nearest.near_crossing.Goals as goal
 
 pub returns-then-n-eq0 : goal.returns-then-n-eq0
 returns-then-n-eq0 c =
-    let s = c in
-    let a = s.args in
-    turn-searched a.t a.w s.requires.fact_3 (a.s.a, a.s.b) s.requires.fact_1 a.cs.now s.requires.fact_2 a.n s.requires.fact_4
+    let a = c.args in
+    turn-searched a.t a.w c.requires.fact_3 (a.s.a, a.s.b) c.requires.fact_1 a.cs.now c.requires.fact_2 a.n c.requires.fact_4
     (before-none a.t a.w a.known a.cs.now (a.s.a, a.s.b) a.n c.if-n-eq0.true) c.near_sample.ensures
 
 pub returns : goal.returns
 returns c =
-    let s = c in
-    let a = s.args in
-    turn-searched a.t a.w s.requires.fact_3 (a.s.a, a.s.b) s.requires.fact_1 a.cs.now s.requires.fact_2 a.n s.requires.fact_4
+    let a = c.args in
+    turn-searched a.t a.w c.requires.fact_3 (a.s.a, a.s.b) c.requires.fact_1 a.cs.now c.requires.fact_2 a.n c.requires.fact_4
     (before_here a.t a.w a.known a.cs.now (a.s.a, a.s.b) a.n (omega arith) c.near_sample-before.ensures) c.near_sample-2.ensures

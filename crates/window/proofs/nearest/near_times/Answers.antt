@@ -12,13 +12,11 @@ use Rattle.window.proofs.nearest.near_times.Goals as goal
 
 pub overflow_add-i : goal.overflow_add-i
 overflow_add-i c =
-    let s = c in
-    omega (arith, s.requires.fact_4, last-small s.args.xs.now s.requires.fact_1 s.args.t s.requires.fact_2.fitting)
+    omega (arith, c.requires.fact_4, last-small c.args.xs.now c.requires.fact_1 c.args.t c.requires.fact_2.fitting)
 
 pub returns : goal.returns
 returns c =
-    let s = c in
-    let a = s.args in
+    let a = c.args in
     subst (λ (n : Neighbours). Searched a.t (keep (inside a.w) a.xs.now) a.known n)
     (sym (c.near_place.ensures ∙ ap (λ (h : Neighbours). with_place a.w a.t a.xs.now h (a.i + 1)) c.near_place-here.ensures))
-    (beside-searched a.t a.w a.xs.now s.requires.fact_3 s.requires.fact_2 s.requires.fact_1 a.i s.requires.fact_4 a.known)
+    (beside-searched a.t a.w a.xs.now c.requires.fact_3 c.requires.fact_2 c.requires.fact_1 a.i c.requires.fact_4 a.known)

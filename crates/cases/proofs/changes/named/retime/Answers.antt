@@ -1,7 +1,6 @@
 -- `cases::changes::named::retime` hands on what the operation promises of the fields that were read. Assumes nothing.
 use Rattle.cases.specs.Named.{retime}
-use Rattle.cases.proofs.Dispatched.{called}
 use Rattle.cases.proofs.changes.named.retime.Goals as goal
 
 pub returns : goal.returns
-returns c = called (retime _ _ c.retime-number.ensures) c.retime-number.ensures.made
+returns c = record { said = retime _ _ c.retime-told.ensures; made = c.retime-told.ensures.made }

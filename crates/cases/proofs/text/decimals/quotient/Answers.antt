@@ -6,6 +6,5 @@ use Rattle.cases.proofs.text.decimals.quotient.Goals as goal
 
 pub returns : goal.returns
 returns c =
-    let s = c in
-    let e : div binary64 c.nearest_u64_to_f64.result c.nearest_u64_to_f64-2.result ≡ div binary64 (of_int binary64 (pos s.args.digits)) (of_int binary64 (pos (10 ^ s.args.scale))) = cc in
-    e ∙ quotient-rounds s.args.digits s.args.scale s.requires.fact_1 s.requires.fact_2
+    let e : div binary64 c.nearest_u64_to_f64.result c.nearest_u64_to_f64-2.result ≡ div binary64 (of_int binary64 (pos c.args.digits)) (of_int binary64 (pos (10 ^ c.args.scale))) = cc in
+    e ∙ quotient-rounds c.args.digits c.args.scale c.requires.fact_1 c.requires.fact_2

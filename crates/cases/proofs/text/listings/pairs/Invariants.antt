@@ -1,9 +1,6 @@
--- `cases::text::listings::pairs` is safe and ends: each turn fills a place of the lent list. Assumes nothing.
-use Rattle.std.proofs.Common.{◌≡◌, ◌-◌, length}
+-- `cases::text::listings::pairs` is safe: each turn fills one slot. Assumes nothing.
+use Rattle.std.proofs.Common.{◌≤◌}
 use Rattle.cases.proofs.text.listings.pairs.Given as goal
 
-abbrev pub invariant-loop-i : goal.invariant-loop-i
-invariant-loop-i l = length l.out ≡ length l.initial.out
-
-abbrev pub decreases-loop-i : goal.decreases-loop-i
-decreases-loop-i l = length l.initial.out - l.i
+abbrev pub invariant-loop-slot : goal.invariant-loop-slot
+invariant-loop-slot l = l.count ≤ l.slot-index

@@ -27,18 +27,16 @@ run c =
 
 inside : (c : After-clip_end-b) → (c.clip_begin-a.result ≤ c.clip_end-b.result) × (c.clip_end-b.result ≤ length c.args.times.now) × (c.clip_end-b.result ≤ length c.args.values.now) × (c.clip_end-b.result ≤ length c.args.marks.now)
 inside c =
-    let t = c in
-    let a = t.args in
-    cut_inside a.times.now a.values.now a.marks.now a.ends.now t.in-Reading.clip c.clip_begin-a.result c.clip_end-b.result c.clip_begin-a.ensures c.clip_end-b.ensures t.in-Reading.line a.k a.hi (run (goal.at.After-clip_end-b t).In-Reading)
+    let a = c.args in
+    cut_inside a.times.now a.values.now a.marks.now a.ends.now c.in-Reading.clip c.clip_begin-a.result c.clip_end-b.result c.clip_begin-a.ensures c.clip_end-b.ensures c.in-Reading.line a.k a.hi (run (goal.at.After-clip_end-b c).In-Reading)
 
 pub returns-in_default : goal.returns-in_default
 returns-in_default c =
-    let b = c in
-    let a = b.args in
+    let a = c.args in
     let o = outputs a.outtimes.now a.outvalues.now a.outmarks.now in
     let w : ℕ → Entry = λ j. entry_is a.here in
     subst (λ (d : Cell). Walked (entry_on a.times.now a.values.now a.marks.now a.ends.now d (entry_is a.here)) a.k a.hi a.room a.n o o (record { key = a.hi; last = a.here; count = a.n; done = true }))
-    (sym c.in_default.is) (walked_all (stands-level w a.k a.room a.n o b.requires.room (stands-first w a.k a.room a.n o b.requires.room (entry_is a.here) refl) b.requires.keys.order (λ j x y. refl)) refl)
+    (sym c.in_default.is) (walked_all (stands-level w a.k a.room a.n o c.requires.room (stands-first w a.k a.room a.n o c.requires.room (entry_is a.here) refl) c.requires.keys.order (λ j x y. refl)) refl)
 
 pub clip_begin-a-requires : goal.clip_begin-a-requires
 clip_begin-a-requires c = (run c).clip
@@ -81,22 +79,17 @@ slice_bounds-fill_changes-end-3 c = let h = inside (goal.at.slice_bounds-fill_ch
 
 pub fill_changes-requires : goal.fill_changes-requires
 fill_changes-requires c =
-    let e = c in
-    let t = e in
-    let a = t.args in
-    record { reads = cut-reads a.times.now a.values.now a.marks.now a.ends.now t.in-Reading.clip e.clip_begin-a.result e.clip_end-b.result e.clip_begin-a.ensures e.clip_end-b.ensures t.in-Reading.line a.k a.hi (run (goal.at.fill_changes-requires t).In-Reading); keys = t.requires.keys; left_once = cut-turns a.times.now a.values.now a.marks.now a.ends.now t.in-Reading.clip e.clip_begin-a.result e.clip_end-b.result e.clip_begin-a.ensures e.clip_end-b.ensures t.in-Reading.line a.k a.hi (run (goal.at.fill_changes-requires t).In-Reading); room = t.requires.room }
+    let a = c.args in
+    record { reads = cut-reads a.times.now a.values.now a.marks.now a.ends.now c.in-Reading.clip c.clip_begin-a.result c.clip_end-b.result c.clip_begin-a.ensures c.clip_end-b.ensures c.in-Reading.line a.k a.hi (run (goal.at.fill_changes-requires c).In-Reading); keys = c.requires.keys; left_once = cut-turns a.times.now a.values.now a.marks.now a.ends.now c.in-Reading.clip c.clip_begin-a.result c.clip_end-b.result c.clip_begin-a.ensures c.clip_end-b.ensures c.in-Reading.line a.k a.hi (run (goal.at.fill_changes-requires c).In-Reading); room = c.requires.room }
 
 pub returns : goal.returns
 returns c =
-    let f = c in
-    let e = f in
-    let t = e in
-    let a = t.args in
-    let r = f.fill_changes.result in
+    let a = c.args in
+    let r = c.fill_changes.result in
     let p = outputs a.outtimes.now a.outvalues.now a.outmarks.now in
-    let q = outputs f.fill_changes.new.outtimes f.fill_changes.new.outvalues f.fill_changes.new.outmarks in
+    let q = outputs c.fill_changes.new.outtimes c.fill_changes.new.outvalues c.fill_changes.new.outmarks in
     subst (λ (d : Cell). Walked (entry_on a.times.now a.values.now a.marks.now a.ends.now d (entry_is a.here)) a.k a.hi a.room a.n p q r)
-    (sym t.in-Reading.is)
-    (uncut a.times.now a.values.now a.marks.now a.ends.now t.in-Reading.clip e.clip_begin-a.result e.clip_end-b.result e.clip_begin-a.ensures e.clip_end-b.ensures
-    (λ (ts vs : List Float) (ms : List ℕ). Walked (reading_at ts vs ms t.in-Reading.line) a.k a.hi a.room a.n p q r)
-    f.fill_changes.ensures)
+    (sym c.in-Reading.is)
+    (uncut a.times.now a.values.now a.marks.now a.ends.now c.in-Reading.clip c.clip_begin-a.result c.clip_end-b.result c.clip_begin-a.ensures c.clip_end-b.ensures
+    (λ (ts vs : List Float) (ms : List ℕ). Walked (reading_at ts vs ms c.in-Reading.line) a.k a.hi a.room a.n p q r)
+    c.fill_changes.ensures)

@@ -44,17 +44,14 @@ inside c =
 -- in the slices that were cut out
 passing : (e : After-clip_end-b) → Passing (cut e.args.times.now e.clip_begin-a.result e.clip_end-b.result) (cut e.args.values.now e.clip_begin-a.result e.clip_end-b.result) (cut e.args.marks.now e.clip_begin-a.result e.clip_end-b.result) (pair (goal.at.After-clip_end-b e).In-ByRun) (floor (goal.at.After-clip_end-b e).In-ByRun) (entry_is e.args.s.here) e.args.k e.args.s.hi
 passing e =
-    let t = e in
-    let a = t.args in
-    recut a.times.now a.values.now a.marks.now a.ends.now (clip (goal.at.After-clip_end-b t).In-ByRun) e.clip_begin-a.result e.clip_end-b.result e.clip_begin-a.ensures e.clip_end-b.ensures
-    (λ (ts vs : List Float) (ms : List ℕ). Passing ts vs ms (pair (goal.at.After-clip_end-b t).In-ByRun) (floor (goal.at.After-clip_end-b t).In-ByRun) (entry_is a.s.here) a.k a.s.hi) (run (goal.at.After-clip_end-b t).In-ByRun).passing
+    let a = e.args in
+    recut a.times.now a.values.now a.marks.now a.ends.now (clip (goal.at.After-clip_end-b e).In-ByRun) e.clip_begin-a.result e.clip_end-b.result e.clip_begin-a.ensures e.clip_end-b.ensures
+    (λ (ts vs : List Float) (ms : List ℕ). Passing ts vs ms (pair (goal.at.After-clip_end-b e).In-ByRun) (floor (goal.at.After-clip_end-b e).In-ByRun) (entry_is a.s.here) a.k a.s.hi) (run (goal.at.After-clip_end-b e).In-ByRun).passing
 
 pub fill_cell-requires : goal.fill_cell-requires
 fill_cell-requires c =
-    let t = c in
-    let s = t in
-    let a = s.args in
-    record { keys = s.requires.keys; runs = subst (λ (d : ReadBy). SpanIs a.times.now a.values.now a.marks.now a.ends.now d (entry_is a.s.here) a.k a.s.hi) t.in-ByCell.is s.requires.span_is; room = s.requires.room }
+    let a = c.args in
+    record { keys = c.requires.keys; runs = subst (λ (d : ReadBy). SpanIs a.times.now a.values.now a.marks.now a.ends.now d (entry_is a.s.here) a.k a.s.hi) c.in-ByCell.is c.requires.span_is; room = c.requires.room }
 
 pub clip_begin-a-requires : goal.clip_begin-a-requires
 clip_begin-a-requires c = (run c).clip
@@ -97,29 +94,22 @@ slice_bounds-fill_run-end-in-ByRun-2 c = let h = inside (goal.at.slice_bounds-fi
 
 pub fill_run-requires : goal.fill_run-requires
 fill_run-requires c =
-    let e = c in
-    let t = e in
-    let a = t.args in record { passing_on = record { floor = floor (goal.at.fill_run-requires t).In-ByRun; passing = passing (goal.at.fill_run-requires e).After-clip_end-b }; room = t.requires.room }
+    let a = c.args in record { passing_on = record { floor = floor (goal.at.fill_run-requires c).In-ByRun; passing = passing (goal.at.fill_run-requires c).After-clip_end-b }; room = c.requires.room }
 
 pub returns-in-ByCell : goal.returns-in-ByCell
 returns-in-ByCell c =
-    let f = c in
-    let t = f in
-    let a = t.args in
-    subst (λ (d : ReadBy). Walked (entry_by a.times.now a.values.now a.marks.now a.ends.now d (entry_is a.s.here)) a.k a.s.hi a.room a.n (outputs a.outtimes.now a.outvalues.now a.outmarks.now) (outputs f.fill_cell.new.outtimes f.fill_cell.new.outvalues f.fill_cell.new.outmarks) f.fill_cell.result)
-    (sym t.in-ByCell.is) f.fill_cell.ensures
+    let a = c.args in
+    subst (λ (d : ReadBy). Walked (entry_by a.times.now a.values.now a.marks.now a.ends.now d (entry_is a.s.here)) a.k a.s.hi a.room a.n (outputs a.outtimes.now a.outvalues.now a.outmarks.now) (outputs c.fill_cell.new.outtimes c.fill_cell.new.outvalues c.fill_cell.new.outmarks) c.fill_cell.result)
+    (sym c.in-ByCell.is) c.fill_cell.ensures
 
 pub returns-in-ByRun : goal.returns-in-ByRun
 returns-in-ByRun c =
-    let f = c in
-    let e = f in
-    let t = e in
-    let a = t.args in
-    let r = f.fill_run.result in
+    let a = c.args in
+    let r = c.fill_run.result in
     let p = outputs a.outtimes.now a.outvalues.now a.outmarks.now in
-    let q = outputs f.fill_run.new.outtimes f.fill_run.new.outvalues f.fill_run.new.outmarks in
+    let q = outputs c.fill_run.new.outtimes c.fill_run.new.outvalues c.fill_run.new.outmarks in
     subst (λ (d : ReadBy). Walked (entry_by a.times.now a.values.now a.marks.now a.ends.now d (entry_is a.s.here)) a.k a.s.hi a.room a.n p q r)
-    (sym t.in-ByRun.is)
-    (uncut a.times.now a.values.now a.marks.now a.ends.now (clip (goal.at.returns-in-ByRun t).In-ByRun) e.clip_begin-a.result e.clip_end-b.result e.clip_begin-a.ensures e.clip_end-b.ensures
-    (λ (ts vs : List Float) (ms : List ℕ). Walked (passing_at ts vs ms (pair (goal.at.returns-in-ByRun t).In-ByRun) (floor (goal.at.returns-in-ByRun t).In-ByRun)) a.k a.s.hi a.room a.n p q r)
-    (f.fill_run.ensures (floor (goal.at.returns-in-ByRun t).In-ByRun) (passing (goal.at.returns-in-ByRun e).After-clip_end-b)))
+    (sym c.in-ByRun.is)
+    (uncut a.times.now a.values.now a.marks.now a.ends.now (clip (goal.at.returns-in-ByRun c).In-ByRun) c.clip_begin-a.result c.clip_end-b.result c.clip_begin-a.ensures c.clip_end-b.ensures
+    (λ (ts vs : List Float) (ms : List ℕ). Walked (passing_at ts vs ms (pair (goal.at.returns-in-ByRun c).In-ByRun) (floor (goal.at.returns-in-ByRun c).In-ByRun)) a.k a.s.hi a.room a.n p q r)
+    (c.fill_run.ensures (floor (goal.at.returns-in-ByRun c).In-ByRun) (passing (goal.at.returns-in-ByRun c).After-clip_end-b)))

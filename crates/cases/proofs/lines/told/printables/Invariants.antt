@@ -1,9 +1,0 @@
--- `cases::lines::told::printables` is safe and ends: each turn fills a place of the lent list. Assumes nothing.
-use Rattle.std.proofs.Common.{◌≡◌, ◌-◌, length}
-use Rattle.cases.proofs.lines.told.printables.Given as goal
-
-abbrev pub invariant-loop-i : goal.invariant-loop-i
-invariant-loop-i l = length l.shown ≡ length l.initial.shown
-
-abbrev pub decreases-loop-i : goal.decreases-loop-i
-decreases-loop-i l = l.n - l.i

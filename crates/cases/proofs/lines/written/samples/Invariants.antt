@@ -1,6 +1,0 @@
--- `cases::lines::written::samples` is safe and ends: each turn writes one entry. Assumes nothing.
-use Rattle.std.proofs.Common.{◌-◌}
-use Rattle.cases.proofs.lines.written.samples.Given as goal
-
-abbrev pub decreases-loop-i : goal.decreases-loop-i
-decreases-loop-i l = l.shown - l.i

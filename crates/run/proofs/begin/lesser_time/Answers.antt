@@ -1,8 +1,0 @@
--- `run::begin::lesser_time` meets its contract. Assumes nothing.
-use Rattle.run.proofs.begin.lesser_time.Goals as goal
-
-pub returns-then-a-b : goal.returns-then-a-b
-returns-then-a-b c = rw c.if-a-b.true
-
-pub returns : goal.returns
-returns c = rw c.if-a-b.false
