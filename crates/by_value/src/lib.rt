@@ -2,6 +2,7 @@
 
 #![tactic(auto)]
 
+ghost use Rattle.std.specs.Prelude.{◌≡◌};
 ghost use Rattle.definitions.specs.Moments.{outputs};
 ghost use Rattle.definitions.specs.Refusals.{number_in};
 ghost use Rattle.laws.specs.cell.Lent.{samples_of};
@@ -113,21 +114,25 @@ pub fn retime(resolver: Resolver, o: LayerOffset) -> Result<Resolver, Refusal>
     Ok(install(resolver, moved))
 }
 
+// What of the resolver is no list: the questions that follow lend it beside the lists.
+fn shape_of(resolver: Resolver) -> Shape
+    ensures { result ≡ record { stands = resolver.stands; clips = resolver.set.clips; counts = resolver.set.counts; manifest = resolver.set.manifest } }
+{
+    Shape {
+        stands: resolver.stands,
+        clips: resolver.set.clips,
+        counts: resolver.set.counts,
+        manifest: resolver.set.manifest,
+    }
+}
+
 // The clip time at a stage time, by the standing set's knots.
 pub fn clip_time(resolver: Resolver, t: StageTime) -> Result<ClipTime, Refusal>
     requires { Made resolver }
     ensures { TellsTime resolver t result }
 {
-    let counts = resolver.set.counts;
-    let manifest = resolver.set.manifest;
-    let shape = Shape {
-        stands: resolver.stands,
-        clips: resolver.set.clips,
-        counts,
-        manifest,
-    };
     lent_questions::clip_time(
-        shape,
+        shape_of(resolver),
         &resolver.set.starts,
         &resolver.set.numbers,
         &resolver.set.xs,
@@ -142,16 +147,8 @@ pub fn active_clip(resolver: Resolver, t: StageTime) -> Result<Option<u64>, Refu
     requires { Made resolver }
     ensures { TellsClip resolver t result }
 {
-    let counts = resolver.set.counts;
-    let manifest = resolver.set.manifest;
-    let shape = Shape {
-        stands: resolver.stands,
-        clips: resolver.set.clips,
-        counts,
-        manifest,
-    };
     lent_questions::active_clip(
-        shape,
+        shape_of(resolver),
         &resolver.set.starts,
         &resolver.set.numbers,
         &resolver.set.xs,
@@ -173,16 +170,8 @@ pub fn value(
     requires { Made resolver }
     ensures { TellsValue resolver (samples_of times.now values.now marks.now ends.now) t result }
 {
-    let counts = resolver.set.counts;
-    let manifest = resolver.set.manifest;
-    let shape = Shape {
-        stands: resolver.stands,
-        clips: resolver.set.clips,
-        counts,
-        manifest,
-    };
     lent_questions::value(
-        shape,
+        shape_of(resolver),
         &resolver.set.starts,
         &resolver.set.numbers,
         &resolver.set.xs,
@@ -207,16 +196,8 @@ pub fn untimed(
     requires { Made resolver }
     ensures { TellsUntimed resolver (samples_of times.now values.now marks.now ends.now) result }
 {
-    let counts = resolver.set.counts;
-    let manifest = resolver.set.manifest;
-    let shape = Shape {
-        stands: resolver.stands,
-        clips: resolver.set.clips,
-        counts,
-        manifest,
-    };
     lent_questions::untimed(
-        shape,
+        shape_of(resolver),
         &resolver.set.starts,
         &resolver.set.numbers,
         &resolver.set.xs,
@@ -241,16 +222,8 @@ pub fn stage_sample_times(
     requires { Made resolver }
     ensures { TellsTimes resolver (samples_of times.now values.now marks.now ends.now) out.old out.new result }
 {
-    let counts = resolver.set.counts;
-    let manifest = resolver.set.manifest;
-    let shape = Shape {
-        stands: resolver.stands,
-        clips: resolver.set.clips,
-        counts,
-        manifest,
-    };
     lent_questions::stage_sample_times(
-        shape,
+        shape_of(resolver),
         &resolver.set.starts,
         &resolver.set.numbers,
         &resolver.set.xs,
@@ -277,16 +250,8 @@ pub fn stage_samples(
     requires { Made resolver }
     ensures { TellsSamples resolver (samples_of times.now values.now marks.now ends.now) outtimes.old outtimes.new outmarks.old outmarks.new result }
 {
-    let counts = resolver.set.counts;
-    let manifest = resolver.set.manifest;
-    let shape = Shape {
-        stands: resolver.stands,
-        clips: resolver.set.clips,
-        counts,
-        manifest,
-    };
     lent_questions::stage_samples(
-        shape,
+        shape_of(resolver),
         &resolver.set.starts,
         &resolver.set.numbers,
         &resolver.set.xs,
@@ -312,16 +277,8 @@ pub fn stage_sample_count(
     requires { Made resolver }
     ensures { TellsSampleCount resolver (samples_of times.now values.now marks.now ends.now) result }
 {
-    let counts = resolver.set.counts;
-    let manifest = resolver.set.manifest;
-    let shape = Shape {
-        stands: resolver.stands,
-        clips: resolver.set.clips,
-        counts,
-        manifest,
-    };
     lent_questions::stage_sample_count(
-        shape,
+        shape_of(resolver),
         &resolver.set.starts,
         &resolver.set.numbers,
         &resolver.set.xs,
@@ -345,16 +302,8 @@ pub fn change_count(
     requires { Made resolver }
     ensures { TellsChangeCount resolver (samples_of times.now values.now marks.now ends.now) result }
 {
-    let counts = resolver.set.counts;
-    let manifest = resolver.set.manifest;
-    let shape = Shape {
-        stands: resolver.stands,
-        clips: resolver.set.clips,
-        counts,
-        manifest,
-    };
     lent_questions::change_count(
-        shape,
+        shape_of(resolver),
         &resolver.set.starts,
         &resolver.set.numbers,
         &resolver.set.xs,
@@ -381,16 +330,8 @@ pub fn bake(
     requires { Made resolver }
     ensures { BakesTrack resolver (samples_of times.now values.now marks.now ends.now) (outputs outtimes.old outvalues.old outmarks.old) result (outputs outtimes.new outvalues.new outmarks.new) }
 {
-    let counts = resolver.set.counts;
-    let manifest = resolver.set.manifest;
-    let shape = Shape {
-        stands: resolver.stands,
-        clips: resolver.set.clips,
-        counts,
-        manifest,
-    };
     lent_questions::bake(
-        shape,
+        shape_of(resolver),
         &resolver.set.starts,
         &resolver.set.numbers,
         &resolver.set.xs,

@@ -52,9 +52,13 @@ closing_some line from n = cond (n.at == from) None (closing line n)
 unfoldable pub read_decimal : List ℕ → ℕ → Option (Read ℕ)
 read_decimal line at = option_and_then (closing_some line (scanned line at Word)) (decimals_at line (scanned line at Word))
 
+-- a number of at most so much
+abbrev pub at_most : ℕ → Option (Read ℕ) → Option (Read ℕ)
+at_most most r = option_and_then (λ n. cond (nat_lt most n.value) None (Some n)) r
+
 -- a number that a byte holds
 abbrev pub byte_of : Option (Read ℕ) → Option (Read ℕ)
-byte_of r = option_and_then (λ n. cond (nat_lt 255 n.value) None (Some n)) r
+byte_of r = at_most 255 r
 
 -- the next word, a double's bits
 unfoldable pub read_bits : List ℕ → ℕ → Option (Read ℕ)

@@ -67,11 +67,11 @@ pub(crate) fn read_explicit(
     ended(line, manifest.at)?;
     Some(ExplicitRead {
         clips: clips.value,
-        starts: st.count,
-        numbers: sc.count,
-        xs: kx.count,
-        ys: ky.count,
-        blocks: bl.count,
+        starts: st.value,
+        numbers: sc.value,
+        xs: kx.value,
+        ys: ky.value,
+        blocks: bl.value,
         manifest: manifest.value,
     })
 }
@@ -145,10 +145,10 @@ pub(crate) fn read_template(
     let manifest = read_manifest(line, bl.at)?;
     ended(line, manifest.at)?;
     Some(TemplateRead {
-        bytes: b.count,
+        bytes: b.value,
         times: numbers.times,
         offset: numbers.offset,
-        blocks: bl.count,
+        blocks: bl.value,
         manifest: manifest.value,
     })
 }

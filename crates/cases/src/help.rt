@@ -67,10 +67,8 @@ pub(crate) fn has_argument(rt: &impl Env, i: usize) -> bool {
 // The first argument is `--help`.
 fn asks_help(rt: &impl Env) -> bool {
     let mut word = [0u8; 64];
-    match rt.arg(1, &mut word) {
-        Ok(n) => &word[..n] == b"--help".as_slice(),
-        Err(_) => false,
-    }
+    rt.arg(1, &mut word)
+        .is_ok_and(|n| &word[..n] == b"--help".as_slice())
 }
 
 // Answers the arguments behind the program's name. A write that fails is passed over.

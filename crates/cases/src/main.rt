@@ -327,6 +327,7 @@ fn install(
     Some(Held { session, slots })
 }
 
+// Of `[0; LINE]` itself, without the parameter, the check did not come to an end in 70 seconds.
 fn zeros<const N: usize>() -> [u8; N]
     ensures { N ≡ length result }
 {

@@ -3,7 +3,7 @@ ghost use Rattle.std.specs.Prelude.{◌<◌, IfSome};
 ghost use Rattle.clip.specs.Preparing.{MadeSet};
 ghost use Rattle.cases.specs.Prepared.{MadeSlots, NoneHeld, Puts, Gets};
 
-use crate::text::{Read, read_decimal};
+use crate::text::{Read, read_at_most};
 use clip::ClipSet;
 
 pub(crate) const COUNT: usize = 4;
@@ -45,12 +45,5 @@ pub(crate) fn get(slots: Slots, slot: usize) -> Option<ClipSet>
 pub(crate) fn slot_at(line: &[u8], at: usize) -> Option<Read<usize>>
     ensures { IfSome result (λ n. n.value < 4) }
 {
-    let n = read_decimal(line, at)?;
-    if n.value >= COUNT as u64 {
-        return None;
-    }
-    Some(Read {
-        at: n.at,
-        value: n.value as usize,
-    })
+    read_at_most(line, at, COUNT - 1)
 }

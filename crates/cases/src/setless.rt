@@ -18,9 +18,9 @@ pub(crate) fn name(line: &[u8], at: usize, out: &mut Replies) -> Option<()> {
     let t = read_double(line, b.at)?;
     let s = slots(line, t.at, 400, BYTES)?;
     ended(line, s.at)?;
-    let room = s.count.min(BYTES);
+    let room = s.value.min(BYTES);
     match names::name(
-        first(&template, b.count),
+        first(&template, b.value),
         ClipTime(t.value),
         &mut written[..room],
     ) {
@@ -96,15 +96,15 @@ pub(crate) fn normalize(line: &[u8], at: usize, out: &mut Replies) -> Option<()>
     let m = marks_after(line, v.at, b"m", &mut marks)?;
     let s = slots(line, m.at, SLOTS, SLOTS)?;
     ended(line, s.at)?;
-    let patterns = first(&patterns, v.count);
-    let marks = first(&marks, m.count);
+    let patterns = first(&patterns, v.value);
+    let marks = first(&marks, m.value);
     values::lend(patterns, marks, &mut lent);
     normalized(
-        first(&times, t.count),
-        first(&lent, v.count),
+        first(&times, t.value),
+        first(&lent, v.value),
         marks,
         patterns,
-        s.count,
+        s.value,
         out,
     );
     Some(())
@@ -124,7 +124,7 @@ pub(crate) fn clip_times(line: &[u8], at: usize, out: &mut Replies) -> Option<()
     let numbers = template_numbers::read(line, at)?;
     let s = slots(line, numbers.at, SLOTS, SLOTS)?;
     ended(line, s.at)?;
-    clip_times_in(numbers, s.count, &mut [0.0f64; SLOTS], out);
+    clip_times_in(numbers, s.value, &mut [0.0f64; SLOTS], out);
     Some(())
 }
 

@@ -6,11 +6,12 @@ mod output;
 mod words;
 
 pub(crate) use listings::{
-    Listed, copy, doubles_after, first, marks_after, numbers_after, part, part_from,
-    patterns_after, read_bytes,
+    copy, doubles_after, first, marks_after, numbers_after, part, part_from, patterns_after,
+    read_bytes,
 };
 pub(crate) use numbers::{
-    Read, bits_of, double_of, read_byte, read_decimal, read_double, read_flag, read_pattern,
+    Read, bits_of, double_of, read_at_most, read_byte, read_decimal, read_double, read_flag,
+    read_pattern,
 };
 pub(crate) use output::Replies;
 pub(crate) use words::{

@@ -6,13 +6,14 @@ mod retiming;
 pub mod storage;
 pub mod storing;
 
-ghost use Rattle.clip.specs.Holding.{EmptySet};
+ghost use Rattle.std.specs.Prelude.{◌≡◌};
+ghost use Rattle.clip.specs.Holding.{EmptySet, manifest_of};
 ghost use Rattle.clip.specs.Preparing.{MadeSet};
 ghost use Rattle.clip.specs.Retiming.{Retimes};
 
 use definitions::limits::{BLOCKS, KNOTS, STARTS};
 use definitions::refusal::Refusal;
-use definitions::{Default, LayerOffset};
+use definitions::{Default, LayerOffset, Missing};
 use storage::{Active, Blocks, Knots};
 
 #[repr(C)]
@@ -48,6 +49,16 @@ pub fn empty() -> ClipSet
 }
 
 impl ClipSet {
+    // What stands in for a missing sample of the set.
+    pub fn manifest(&self) -> Missing
+        ensures { result ≡ manifest_of self.now }
+    {
+        Missing {
+            default: self.default,
+            interpolate: self.interpolate,
+        }
+    }
+
     // The set with its stage times moved, unless 2, 4 or 5 refuses that; the caller still has the one that went in.
     pub fn retime_stage_times(self, o: LayerOffset) -> Result<ClipSet, Refusal>
         requires { MadeSet self }

@@ -8,27 +8,21 @@ ghost use Rattle.clip.specs.Storing.{Stores};
 ghost use Rattle.clip.specs.Retiming.{RoomForAll, active_turned, knots_turned, moved_and_sorted};
 
 use crate::{ClipSet, storage, storing};
+use definitions::LayerOffset;
 use definitions::refusal::Refusal;
-use definitions::{LayerOffset, Missing};
 
-// 2: both of a retiming's numbers are finite.
+// Both of a retiming's numbers are finite: 2 refuses one that is not.
 pub fn is_finite(o: LayerOffset) -> bool
     ensures { result ≡ (finite o.offset && finite o.scale) }
 {
-    if gf::is_finite(o.offset) {
-        return gf::is_finite(o.scale);
-    }
-    false
+    gf::is_finite(o.offset) && gf::is_finite(o.scale)
 }
 
 // Tested, since to apply it would make 0.0 of -0.0.
 pub fn is_identity(o: LayerOffset) -> bool
     ensures { result ≡ is_identity o }
 {
-    if o.offset == 0.0 {
-        return o.scale == 1.0;
-    }
-    false
+    o.offset == 0.0 && o.scale == 1.0
 }
 
 // The lists of a set, their stage times moved.
@@ -45,12 +39,9 @@ fn unpack_moved(
     requires fact_2 { RoomForAll set times.old numbers.old xs.old ys.old blocks.old }
     ensures { set_of set.clips times.new numbers.new xs.new ys.new blocks.new (manifest_of set) ≡ moved o (clip_set_of set) }
 {
-    let active = set.active;
-    let knots = set.knots;
-    let held = set.blocks;
-    storage::unpack_active(active, times, numbers);
-    storage::unpack_knots(knots, xs, ys);
-    storage::unpack_blocks(held, blocks);
+    storage::unpack_active(set.active, times, numbers);
+    storage::unpack_knots(set.knots, xs, ys);
+    storage::unpack_blocks(set.blocks, blocks);
     lists::writing::move_times(times, o);
     lists::writing::move_times(xs, o);
     lists::writing::move_times(blocks, o);
@@ -85,11 +76,6 @@ pub fn retime_lists(
 {
     unpack_moved(set, o, times, numbers, xs, ys, blocks);
     sort_turned(o.scale, times, numbers, xs, ys);
-    let default = set.default;
-    storing::check_lists(times, xs, blocks, default)?;
-    let manifest = Missing {
-        default,
-        interpolate: set.interpolate,
-    };
-    Ok(storing::store(set.clips, times, numbers, xs, ys, blocks, manifest))
+    storing::check_lists(times, xs, blocks, set.default)?;
+    Ok(storing::store(set.clips, times, numbers, xs, ys, blocks, set.manifest()))
 }

@@ -15,10 +15,7 @@ use definitions::{Default, Missing};
 pub fn is_nan_default(default: Default) -> bool
     ensures { result ≡ nan_default default }
 {
-    if default.mark == 0 {
-        return default.value != default.value;
-    }
-    false
+    default.mark == 0 && default.value.is_nan()
 }
 
 pub fn check_lists(
@@ -63,7 +60,6 @@ pub fn store(
     requires { Fitting times.now numbers.now xs.now ys.now blocks.now }
     ensures { IsHeld (set_of clips times.now numbers.now xs.now ys.now blocks.now manifest) result }
 {
-    let default = manifest.default;
     let active = storage::pack_active(times, numbers);
     let knots = storage::pack_knots(xs, ys);
     let blocks = storage::pack_blocks(blocks);
@@ -72,7 +68,7 @@ pub fn store(
         active,
         knots,
         blocks,
-        default,
+        default: manifest.default,
         interpolate: manifest.interpolate,
     }
 }

@@ -3,8 +3,10 @@ ghost use Rattle.std.specs.Prelude.{◌≡◌};
 ghost use Rattle.codes.specs.PlacedCodes.{placed_code, placed_bake_code};
 
 use crate::{BakedCode, ValueCode};
+use definitions::ValueRead;
 use definitions::refusal::Refusal;
-use set_questions::{PlacedBake, PlacedRead};
+use set_questions::Placed;
+use track::bake::Baked;
 
 #[repr(C)]
 #[derive(Clone, Copy)]
@@ -22,13 +24,13 @@ pub struct PlacedBakeCode {
     pub set: u64,
 }
 
-impl From<Result<PlacedRead, Refusal>> for PlacedCode {
+impl From<Result<Placed<ValueRead>, Refusal>> for PlacedCode {
     ghost from_gives = { λ r c. c ≡ placed_code r };
 
-    fn from(r: Result<PlacedRead, Refusal>) -> PlacedCode {
+    fn from(r: Result<Placed<ValueRead>, Refusal>) -> PlacedCode {
         match r {
             Ok(x) => PlacedCode {
-                reply: ValueCode::from(Ok(x.read)),
+                reply: ValueCode::from(Ok(x.answer)),
                 placed: x.place.is_some(),
                 set: x.place.unwrap_or(0),
             },
@@ -41,13 +43,13 @@ impl From<Result<PlacedRead, Refusal>> for PlacedCode {
     }
 }
 
-impl From<Result<PlacedBake, Refusal>> for PlacedBakeCode {
+impl From<Result<Placed<Baked>, Refusal>> for PlacedBakeCode {
     ghost from_gives = { λ r c. c ≡ placed_bake_code r };
 
-    fn from(r: Result<PlacedBake, Refusal>) -> PlacedBakeCode {
+    fn from(r: Result<Placed<Baked>, Refusal>) -> PlacedBakeCode {
         match r {
             Ok(b) => PlacedBakeCode {
-                baked: BakedCode::from(Ok(b.baked)),
+                baked: BakedCode::from(Ok(b.answer)),
                 placed: b.place.is_some(),
                 set: b.place.unwrap_or(0),
             },

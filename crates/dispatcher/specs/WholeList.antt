@@ -11,7 +11,8 @@ use Rattle.dispatch.specs.DispatchCalls.{DispatchCall, explicit, template, insta
 use Rattle.clip.specs.declared.ClipSet as clip
 use Rattle.clip.specs.Holding.{clip_set_of}
 use Rattle.clip.specs.Preparing.{MadeSet}
-use Rattle.set_questions.specs.declared.PlacedBake.{PlacedBake}
+use Rattle.track.specs.declared.bake.Baked.{Baked}
+use Rattle.set_questions.specs.declared.Placed as code
 use Rattle.pages.specs.Pages.{Pages, model, Made}
 use Rattle.pages.specs.Placing.{Begins}
 use Rattle.set_changes.specs.Promises.{Accepts, Expands, Installs, Retimes}
@@ -28,7 +29,7 @@ Moves (bake order s o) p q = p ≡ q
 
 -- A bake with the arguments a, given p and the lists o, replies r and leaves the lists w.
 abbrev pub Replies : Pages → BakeArguments → Outputs → Reply (Placed calls.Baked) → Outputs → Type 0
-Replies p a o r w = (b : Result PlacedBake Refusal) × (Made p → BakesTrack p a o b w) × (track_reply b ≡ r)
+Replies p a o r w = (b : Result (code.Placed Baked) Refusal) × (Made p → BakesTrack p a o b w) × (track_reply b ≡ r)
 
 -- What calls lead to, in whatever number and order: pages "that an operation made", so that the next call may be given them, and the plain dispatcher's sets in them.
 abbrev pub LeadsOn : Type 0

@@ -64,19 +64,12 @@ pub fn check_fields(
     ) {
         return Err(Refusal::Misshapen);
     }
-    if lists::any_unstorable(starts) {
-        return Err(Refusal::Unstorable);
-    }
-    if lists::any_unstorable(xs) {
-        return Err(Refusal::Unstorable);
-    }
-    if lists::any_unstorable(ys) {
-        return Err(Refusal::Unstorable);
-    }
-    if lists::any_unstorable(blocks) {
-        return Err(Refusal::Unstorable);
-    }
-    if storing::is_nan_default(manifest.default) {
+    if lists::any_unstorable(starts)
+        || lists::any_unstorable(xs)
+        || lists::any_unstorable(ys)
+        || lists::any_unstorable(blocks)
+        || storing::is_nan_default(manifest.default)
+    {
         return Err(Refusal::Unstorable);
     }
     if any_not_clip(numbers, clips) {

@@ -119,16 +119,11 @@ pub fn install(
     ensures { Installs (lent_state shape starts.old numbers.old xs.old ys.old blocks.old) set (lent_state result starts.new numbers.new xs.new ys.new blocks.new) }
 {
     let counts = standing::unpacked(set, starts, numbers, xs, ys, blocks);
-    let default = set.default;
-    let manifest = Missing {
-        default,
-        interpolate: set.interpolate,
-    };
     Shape {
         stands: true,
         clips: set.clips,
         counts,
-        manifest,
+        manifest: set.manifest(),
     }
 }
 

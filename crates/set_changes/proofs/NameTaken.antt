@@ -2,7 +2,7 @@
 use Prim.Native.Nat.{ℕ, suc, ◌≤◌, ◌<◌}
 use native.Mathlib.Omega.{arith}
 use mathlib.Core.Path.{◌≡◌, refl, sym, ap, ◌∙◌}
-use mathlib.Core.Bool.{Bool, true, false, ◌||◌, cond}
+use mathlib.Core.Bool.{Bool, true, false, ◌||◌, cond, true≢false}
 use mathlib.Core.List.{List, [], ◌∷◌}
 use mathlib.Core.Option.{none, some}
 use lib.Dec.{leb}
@@ -12,7 +12,8 @@ use Rattle.laws.proofs.list.Tests.{or-false, passed}
 use Rattle.definitions.specs.Lists.{◌if◌else◌, any}
 use Rattle.dispatch.specs.SetOrder.{max_name, too_long, same_name, number_from, set_number}
 use Rattle.dispatch.specs.NamedSets.{NamedSet, max_sets, names_of, has_name}
-use Rattle.set_names.specs.Pages.{names_in}
+use Rattle.std.specs.Prelude as Prelude
+use Rattle.set_names.specs.Pages.{names_in, number_of}
 use Rattle.set_changes.specs.Promises.{name_number}
 
 some-other : {A : Type 0} → ◌≡◌ {A = ℕ} 0 1 → A
@@ -52,17 +53,19 @@ module _ (counts bytes name : List ℕ) where
       last false true = refl
       last false false = refl
 
-  pub taken : (i : ℕ) → some i ≡ set_number name (names_in bytes sets) → 23 ≡ name_number counts bytes name
+  pub taken : (r : Prelude.Option ℕ) → Prelude.is_some r ≡ true → number_of r ≡ set_number name (names_in bytes sets) → 23 ≡ name_number counts bytes name
   unfolding set_number
-  taken i e = sym (ap (λ (b : Bool). 23 if leb max_sets sets || b || too_long name else 0) (any_of 0 name (names_in bytes sets) i e) ∙ second (leb max_sets sets))
+  taken Prelude.None f e = absurd (true≢false (sym f))
+  taken (Prelude.Some i) f e = sym (ap (λ (b : Bool). 23 if leb max_sets sets || b || too_long name else 0) (any_of 0 name (names_in bytes sets) i e) ∙ second (leb max_sets sets))
     where
       second : (a : Bool) → (23 if a || true || too_long name else 0) ≡ 23
       second true = refl
       second false = refl
 
-  pub free : sets < max_sets → length name ≤ max_name → none ≡ set_number name (names_in bytes sets) → 0 ≡ name_number counts bytes name
+  pub free : sets < max_sets → length name ≤ max_name → (r : Prelude.Option ℕ) → Prelude.is_some r ≡ false → number_of r ≡ set_number name (names_in bytes sets) → 0 ≡ name_number counts bytes name
   unfolding set_number
-  free h k e = sym (rw (lt-leb max_sets sets h, none_of 0 name (names_in bytes sets) e, le-ltb max_name (length name) k) refl)
+  free h k (Prelude.Some i) f e = absurd (true≢false f)
+  free h k Prelude.None f e = sym (rw (lt-leb max_sets sets h, none_of 0 name (names_in bytes sets) e, le-ltb max_name (length name) k) refl)
 
   -- what 0 tells
   pub room : name_number counts bytes name ≡ 0 → (sets < max_sets) × (length name ≤ max_name)

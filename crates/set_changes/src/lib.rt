@@ -29,11 +29,10 @@ fn check_name(counts: &[u64], bytes: &[u8], name: &[u8]) -> Result<(), Refusal>
     if NAME_BYTES < name.len() {
         return Err(Refusal::NotTaken);
     }
-    let found = set_names::find(bytes, n, name);
-    match found {
-        Some(_) => Err(Refusal::NotTaken),
-        None => Ok(()),
+    if set_names::find(bytes, n, name).is_some() {
+        return Err(Refusal::NotTaken);
     }
+    Ok(())
 }
 
 // The set on the page behind the last.
@@ -203,11 +202,10 @@ pub fn retime(
     ensures { Retimes (pages starts.old numbers.old xs.old ys.old blocks.old defaults.old counts.old bytes.old) name.now o (number_in result) (pages starts.new numbers.new xs.new ys.new blocks.new defaults.new counts.new bytes.new) }
 {
     let n = counts[0] as usize;
-    let found = set_names::find(bytes, n, name);
-    match found {
-        Some(i) => retime_at(
-            starts, numbers, xs, ys, blocks, defaults, counts, bytes, i, o,
-        ),
-        None => Err(Refusal::NoSet),
-    }
+    let Some(i) = set_names::find(bytes, n, name) else {
+        return Err(Refusal::NoSet);
+    };
+    retime_at(
+        starts, numbers, xs, ys, blocks, defaults, counts, bytes, i, o,
+    )
 }

@@ -54,17 +54,11 @@ fn any_too_long(bytes: &[u8], ends: &[u64]) -> bool
     false
 }
 
-// Whether the list is one that can be taken: refused by 23.
+// 23 where the list is none that can be taken.
 pub fn check_order(bytes: &[u8], ends: &[u64]) -> Result<(), Refusal>
     ensures { number_in result ≡ order_number (some (lent_list bytes.now ends.now)) }
 {
-    if LISTED < ends.len() {
-        return Err(Refusal::NotTaken);
-    }
-    if !ends_close(ends, bytes.len()) {
-        return Err(Refusal::NotTaken);
-    }
-    if any_too_long(bytes, ends) {
+    if LISTED < ends.len() || !ends_close(ends, bytes.len()) || any_too_long(bytes, ends) {
         return Err(Refusal::NotTaken);
     }
     Ok(())

@@ -134,9 +134,9 @@ module _ (p : Pages) (M : Made p) (order : Option OrderList) where
           ap₂ (λ (m : ℕ) (a : Option Answering). reply m (reading a)) (k ∙ is-passed (stage_time_number t) z) (sym (answers-is r q))
 
       pub tells-set : asks p order s ≡ 0 → finite t.0 ≡ true → (a : AnsweringSet) → AnswersOf p.counts p.bytes order (Some a)
-          → (x : ValueRead) → x ≡ value_read (set_in (state_at p a.number).set) (samples_at (part 1 (set_count p) p.counts) s a.number) t → TellsValue p order s t (Ok (record { place = Some a.place; read = x }))
+          → (x : ValueRead) → x ≡ value_read (set_in (state_at p a.number).set) (samples_at (part 1 (set_count p) p.counts) s a.number) t → TellsValue p order s t (Ok (record { place = Some a.place; answer = x }))
       tells-set z f a q x g =
-          ap (λ (y : ValueRead). read_reply (Ok (record { place = Some a.place; read = y })))
+          ap (λ (y : ValueRead). read_reply (Ok (record { place = Some a.place; answer = y })))
           (g ∙ ap (λ (l : List ℕ). value_read (set_in (state_at p a.number).set) (samples_at l s a.number) t) (sym (clips-of p M))
           ∙ ap (λ (o : Option NamedSet). read_in o (model p) s a.number t) (sym (set_at p a.number (answers-below a q))))
           ∙ tells z f (Some a) q

@@ -25,8 +25,7 @@ use Rattle.set_names.specs.Pages.{names_in}
 use Rattle.set_order.specs.declared.AnsweringSet.{AnsweringSet}
 use Rattle.set_order.specs.Answered.{lent_list, fit_in, answered}
 use Rattle.set_samples.specs.Parting.{FewClips}
-use Rattle.set_questions.specs.declared.PlacedRead.{PlacedRead}
-use Rattle.set_questions.specs.declared.PlacedBake.{PlacedBake}
+use Rattle.set_questions.specs.declared.Placed as code
 use Rattle.pages.specs.Pages.{Pages, part, Names, model}
 
 -- "If given, an order list": where it is not, its lists are not looked at
@@ -70,30 +69,30 @@ abbrev pub place_in : Prelude.Option ℕ → Option ℕ
 place_in Prelude.None = none
 place_in (Prelude.Some k) = some k
 
-abbrev pub read_reply : Result PlacedRead Refusal → Reply (Placed ValueRead)
-read_reply (Ok x) = replied (record { answer = x.read; place = place_in x.place })
+abbrev pub read_reply : Result (code.Placed ValueRead) Refusal → Reply (Placed ValueRead)
+read_reply (Ok x) = replied (record { answer = x.answer; place = place_in x.place })
 read_reply (Err r) = refused (number_of r)
 
-abbrev pub track_reply : Result PlacedBake Refusal → Reply (Placed calls.Baked)
-track_reply (Ok x) = replied (record { answer = record { initial = record { value = x.baked.value; mark = x.baked.mark }; count = x.baked.count }; place = place_in x.place })
+abbrev pub track_reply : Result (code.Placed Baked) Refusal → Reply (Placed calls.Baked)
+track_reply (Ok x) = replied (record { answer = record { initial = record { value = x.answer.value; mark = x.answer.mark }; count = x.answer.count }; place = place_in x.place })
 track_reply (Err r) = refused (number_of r)
 
 -- what is replied to where no set qualifies
-abbrev pub nobody_read : PlacedRead
-nobody_read = record { place = Prelude.None; read = nothing_read }
+abbrev pub nobody_read : code.Placed ValueRead
+nobody_read = record { place = Prelude.None; answer = nothing_read }
 
-abbrev pub no_track : PlacedBake
-no_track = record { place = Prelude.None; baked = record { mark = 2; value = 0·0; count = 0 } }
+abbrev pub no_track : code.Placed Baked
+no_track = record { place = Prelude.None; answer = record { mark = 2; value = 0·0; count = 0 } }
 
 -- ---- the questions
 
 -- 23, 1, 2, 9, 10
-abbrev pub TellsValue : Pages → Option OrderList → SetSamples → StageTime → Result PlacedRead Refusal → Type 0
+abbrev pub TellsValue : Pages → Option OrderList → SetSamples → StageTime → Result (code.Placed ValueRead) Refusal → Type 0
 TellsValue p order s t r = read_reply r ≡ dispatch_value (model p) order s t
 
 abbrev pub bake_arguments : Option OrderList → SetSamples → BakeArguments
 bake_arguments order s = record { order = order; samples = s }
 
 -- 23, 1, 2, 9, 22, the place, the head and the count, and every lent list after it
-abbrev pub BakesTrack : Pages → BakeArguments → Outputs → Result PlacedBake Refusal → Outputs → Type 0
+abbrev pub BakesTrack : Pages → BakeArguments → Outputs → Result (code.Placed Baked) Refusal → Outputs → Type 0
 BakesTrack p a before r now = DispatchBakes (model p) a before (track_reply r) now

@@ -24,18 +24,11 @@ use set_order::AnsweringSet;
 use set_samples::Own;
 use track::bake::Baked;
 
-// What the value question replies: the place of the answering set in the order in force, if one qualifies, and the value.
+// What a question replies: the place of the answering set in the order in force, if one qualifies, and the answer.
 #[derive(Clone, Copy)]
-pub struct PlacedRead {
+pub struct Placed<T> {
     pub place: Option<u64>,
-    pub read: ValueRead,
-}
-
-// What a bake replies: the place of the answering set, if one qualifies, and the bake's reply.
-#[derive(Clone, Copy)]
-pub struct PlacedBake {
-    pub place: Option<u64>,
-    pub baked: Baked,
+    pub answer: T,
 }
 
 // Whether the order list, if one is given, and the samples are accepted: refused by 23, then by 1, 2 or 9 of the samples of any set.
@@ -318,7 +311,7 @@ pub fn value<'a>(
     values: &[f64],
     marks: &[u8],
     t: StageTime,
-) -> Result<PlacedRead, Refusal>
+) -> Result<Placed<ValueRead>, Refusal>
     requires { Made (pages starts.now numbers.now xs.now ys.now blocks.now defaults.now counts.now bytes.now) }
     ensures { TellsValue (pages starts.now numbers.now xs.now ys.now blocks.now defaults.now counts.now bytes.now) (order_of given listed.now nameends.now) (lent_samples lens.now ends.now times.now values.now marks.now) t result }
 {
@@ -328,28 +321,30 @@ pub fn value<'a>(
     if !gf::is_finite(t.0) {
         return Err(Refusal::TimeNotFinite);
     }
-    let by = answering(counts, bytes, given, listed, nameends);
-    match by {
+    match answering(counts, bytes, given, listed, nameends) {
         Some(set) => {
-            let read = read_own(
+            let answer = read_own(
                 starts, numbers, xs, ys, blocks, defaults, counts, bytes, set.number, lens, ends,
                 times, values, marks, t,
             );
             let place = Some(set.place as u64);
-            Ok(PlacedRead { place, read })
+            Ok(Placed { place, answer })
         }
         None => Ok(nobody_reads()),
     }
 }
 
-fn nobody_reads() -> PlacedRead
+fn nobody_reads() -> Placed<ValueRead>
     ensures { result ≡ nobody_read }
 {
-    let read = ValueRead {
+    let answer = ValueRead {
         answer: Answer::Absent,
         sample: None,
     };
-    PlacedRead { place: None, read }
+    Placed {
+        place: None,
+        answer,
+    }
 }
 
 // The track of the set that answers and its place: the head and the count, and the changes written to the lent lists.
@@ -373,23 +368,22 @@ pub fn bake<'a>(
     outtimes: &mut [f64],
     outvalues: &mut [f64],
     outmarks: &mut [u8],
-) -> Result<PlacedBake, Refusal>
+) -> Result<Placed<Baked>, Refusal>
     requires { Made (pages starts.now numbers.now xs.now ys.now blocks.now defaults.now counts.now bytes.now) }
     ensures { BakesTrack (pages starts.now numbers.now xs.now ys.now blocks.now defaults.now counts.now bytes.now) (bake_arguments (order_of given listed.now nameends.now) (lent_samples lens.now ends.now times.now values.now marks.now)) (outputs outtimes.old outvalues.old outmarks.old) result (outputs outtimes.new outvalues.new outmarks.new) }
 {
     check_question(
         counts, given, listed, nameends, lens, ends, times, values, marks,
     )?;
-    let by = answering(counts, bytes, given, listed, nameends);
-    match by {
+    match answering(counts, bytes, given, listed, nameends) {
         Some(set) => {
-            let baked = bake_own(
+            let answer = bake_own(
                 starts, numbers, xs, ys, blocks, defaults, counts, bytes, set.number, lens, ends,
                 times, values, marks, outtimes, outvalues, outmarks,
             )?;
-            Ok(PlacedBake {
+            Ok(Placed {
                 place: Some(set.place as u64),
-                baked,
+                answer,
             })
         }
         None => Ok(no_track()),
@@ -397,13 +391,16 @@ pub fn bake<'a>(
 }
 
 // An absent head, no change, and no set's place.
-fn no_track() -> PlacedBake
+fn no_track() -> Placed<Baked>
     ensures { result ≡ no_track }
 {
-    let baked = Baked {
+    let answer = Baked {
         mark: 2,
         value: 0.0,
         count: 0,
     };
-    PlacedBake { place: None, baked }
+    Placed {
+        place: None,
+        answer,
+    }
 }

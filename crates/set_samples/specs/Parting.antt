@@ -1,5 +1,7 @@
 -- The samples of all sets as they are lent, parted among the sets. Assumes nothing.
-use Rattle.std.specs.Prelude.{ℕ, ◌-◌, ◌≤◌, ◌≡◌, Bool, true, false, cond, List, eqb, ltb, length, get_or, take, drop, Option, Some, None, Float}
+use Rattle.std.specs.Prelude.{ℕ, ◌-◌, ◌≤◌, ◌≡◌, Bool, true, false, cond, List, eqb, ltb, length, get_or, take, drop, Result, Ok, Err, Float}
+use Rattle.definitions.specs.declared.refusal.Refusal.{Refusal}
+use Rattle.definitions.specs.declared.refusal.Refusal.TheVariants.{Misshapen}
 use Rattle.definitions.specs.Lists.{any}
 use Rattle.definitions.specs.ClipSet.{ClipSet, max_clips, max_samples}
 use Rattle.definitions.specs.Samples.{Samples, samples_number}
@@ -25,10 +27,10 @@ earlier two nine n = cond two 2 (cond (eqb n 2) 2 (cond nine 9 (cond (eqb n 9) 9
 abbrev pub Parted : List ℕ → SetSamples → Type 0
 Parted clips s = sets1 clips s ≡ false
 
--- the sum, or that a count is above its limit
-abbrev pub Totals : List ℕ → Option ℕ → Type 0
-Totals counts (Some n) = (any (λ (c : ℕ). ltb max_samples c) counts ≡ false) × (n ≡ sum counts)
-Totals counts None = any (λ (c : ℕ). ltb max_samples c) counts ≡ true
+-- the sum, or 1 where a count is above its limit
+abbrev pub Totals : List ℕ → Result ℕ Refusal → Type 0
+Totals counts (Ok n) = (any (λ (c : ℕ). ltb max_samples c) counts ≡ false) × (n ≡ sum counts)
+Totals counts (Err r) = (any (λ (c : ℕ). ltb max_samples c) counts ≡ true) × (r ≡ Misshapen)
 
 -- the samples between two places, and the ends between two others
 abbrev pub between : SetSamples → Own → Samples

@@ -31,7 +31,7 @@ fn first_of(w: Result<(), Refusal>, n: Result<(), Refusal>) -> Result<(), Refusa
     }
 }
 
-// Whether the samples of each set are accepted, of lists that can be parted: refused by 2 or 9.
+// 2 or 9 where the samples of a set are refused, of lists that can be parted.
 fn check_parts(
     clips: &[u64],
     counts: &[u64],
@@ -64,8 +64,8 @@ fn check_parts(
     w
 }
 
-// How many samples the sets have, or nothing where one has more than the limit.
-fn total_samples(counts: &[u64]) -> Option<usize>
+// How many samples the sets have. 1 where one has more than the limit.
+fn total_samples(counts: &[u64]) -> Result<usize, Refusal>
     requires { length counts.now ≤ max_sets }
     ensures { Totals counts.now result }
 {
@@ -73,11 +73,11 @@ fn total_samples(counts: &[u64]) -> Option<usize>
     for count in counts {
         let count = *count as usize;
         if SAMPLES < count {
-            return None;
+            return Err(Refusal::Misshapen);
         }
         sum += count;
     }
-    Some(sum)
+    Ok(sum)
 }
 
 fn total_clips(clips: &[u64]) -> usize
@@ -87,7 +87,7 @@ fn total_clips(clips: &[u64]) -> usize
     clips.iter().map(|c| *c as usize).sum()
 }
 
-// Whether the samples lent for all sets are accepted for each: refused by 1, 2 or 9. The sets have `clips` clips.
+// 1, 2 or 9 where the samples lent for all sets are refused. The sets have `clips` clips.
 pub fn check_samples(
     clips: &[u64],
     counts: &[u64],
@@ -99,23 +99,10 @@ pub fn check_samples(
     requires { FewClips clips.now }
     ensures { number_in result ≡ set_samples_number clips.now (lent_samples counts.now ends.now times.now values.now marks.now) }
 {
-    if values.len() != times.len() {
+    if values.len() != times.len() || marks.len() != times.len() || counts.len() != clips.len() {
         return Err(Refusal::Misshapen);
     }
-    if marks.len() != times.len() {
-        return Err(Refusal::Misshapen);
-    }
-    if counts.len() != clips.len() {
-        return Err(Refusal::Misshapen);
-    }
-    let all = total_samples(counts);
-    let Some(samples) = all else {
-        return Err(Refusal::Misshapen);
-    };
-    if samples != times.len() {
-        return Err(Refusal::Misshapen);
-    }
-    if ends.len() != total_clips(clips) {
+    if total_samples(counts)? != times.len() || ends.len() != total_clips(clips) {
         return Err(Refusal::Misshapen);
     }
     check_parts(clips, counts, ends, times, values, marks)

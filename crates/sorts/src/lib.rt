@@ -15,10 +15,7 @@ use lists::sorting;
 fn sortable(n: usize, m: usize) -> bool
     ensures { result ≡ sortable n m }
 {
-    if n != m {
-        return false;
-    }
-    n <= KNOTS
+    n == m && n <= KNOTS
 }
 
 #[unsafe(no_mangle)]

@@ -8,17 +8,13 @@ use lib.Seq.{length-take-le, take-append_seam}
 use lib.Ieee.{Float}
 use Rattle.definitions.specs.declared.Knot.{Knot}
 use Rattle.definitions.specs.declared.Start.{Start}
-use Rattle.definitions.specs.declared.Missing.{Missing}
 use Rattle.definitions.specs.ClipSet.{active_times, knot_times, max_active, max_knots, max_blocks}
 use Rattle.laws.specs.set.Sound.{knot_values}
 use Rattle.laws.specs.cell.Lent.{active_of, knots_of, set_of}
 use Rattle.clip.specs.declared.ClipSet.{ClipSet}
-use Rattle.clip.specs.declared.storage.Active.{Active}
-use Rattle.clip.specs.declared.storage.Knots.{Knots}
-use Rattle.clip.specs.declared.storage.Blocks.{Blocks}
-use Rattle.clip.specs.Holding.{Room, Holds, ArraysWhole, active_in, active_clips, knots_in, blocks_in}
+use Rattle.clip.specs.Holding.{Room, ArraysWhole, active_in, active_clips, knots_in, blocks_in}
 use Rattle.standing.specs.declared.Counts.{Counts}
-use Rattle.standing.specs.Standing.{Lengths, lent_set, Unpacked, Packed}
+use Rattle.standing.specs.Standing.{Lengths, Unpacked}
 
 -- ---- the entries of an array that count
 
@@ -104,19 +100,3 @@ module _ (set : ClipSet) (H : ArraysWhole set) (o-starts : List Float) (o-number
         interpolate_missing = set.interpolate;
       };
     }
-
--- ---- the arrays are packed again
-
--- what packing asks of two paired lists
-pub paired-fronts : {A B : Type 0} {most n : ℕ} {l : List A} {m : List B} → Room most l n → Room most m n → (length (take n l) ≡ length (take n m)) × (length (take n l) ≤ most)
-paired-fronts {most = most} {n = n} {l = l} {m = m} r s = (sym (front r) ∙ front s, subst (λ (x : ℕ). x ≤ most) (front r) r.few)
-
-pub packed-is : (clips : ℕ) (c : Counts) (starts : List Float) (numbers : List ℕ) (xs ys blocks : List Float) (m : Missing) (a : Active) (k : Knots) (b : Blocks)
-    → Holds max_active a.items a.count (active_of (take c.starts starts) (take c.starts numbers))
-    → Holds max_knots k.items k.count (knots_of (take c.knots xs) (take c.knots ys))
-    → Holds max_blocks b.items b.count (take c.blocks blocks)
-    → Packed (lent_set clips c starts numbers xs ys blocks m) (record { clips = clips; active = a; knots = k; blocks = b; default = m.default; interpolate = m.interpolate })
-packed-is clips c starts numbers xs ys blocks m a k b p q r = record {
-  held = record { active = p.room; knots = q.room; blocks = r.room };
-  is = unfold set_of in λ i. record { clips = clips; active = p.list i; knots = q.list i; blocks = r.list i; default = m.default; interpolate_missing = m.interpolate };
-}

@@ -3,7 +3,6 @@ use Rattle.std.specs.Prelude.{ℕ, min, ◌≡◌, List, length, Float, Result, 
 use Rattle.definitions.specs.Questions.{reply, room_number}
 use Rattle.definitions.specs.StageSamples.{StageSample}
 use Rattle.definitions.specs.declared.refusal.Refusal.{Refusal}
-use Rattle.definitions.specs.declared.refusal.Refusal.TheVariants as Refusal
 use Rattle.definitions.specs.Refusals.{reply_of}
 use Rattle.sdf.specs.Counted.{counted, listed, itself}
 

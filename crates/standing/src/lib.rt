@@ -7,7 +7,7 @@ pub mod questions;
 ghost use Rattle.clip.specs.Holding.{ArraysWhole};
 ghost use Rattle.standing.specs.Standing.{Arrays, Lengths, lent_set, Installed, Unpacked, Packed};
 
-use clip::{ClipSet, storage};
+use clip::{ClipSet, storage, storing};
 use definitions::Missing;
 use definitions::limits::{BLOCKS, KNOTS, STARTS};
 
@@ -52,11 +52,6 @@ pub fn installed(set: ClipSet) -> StandingSet
         &mut ys,
         &mut blocks,
     );
-    let default = set.default;
-    let manifest = Missing {
-        default,
-        interpolate: set.interpolate,
-    };
     StandingSet {
         clips: set.clips,
         counts,
@@ -65,7 +60,7 @@ pub fn installed(set: ClipSet) -> StandingSet
         xs,
         ys,
         blocks,
-        manifest,
+        manifest: set.manifest(),
     }
 }
 
@@ -112,16 +107,13 @@ pub fn packed<'a>(
     let n = counts.starts;
     let k = counts.knots;
     let b = counts.blocks;
-    let active = storage::pack_active(&starts[..n], &numbers[..n]);
-    let knots = storage::pack_knots(&xs[..k], &ys[..k]);
-    let held = storage::pack_blocks(&blocks[..b]);
-    let default = m.default;
-    ClipSet {
+    storing::store(
         clips,
-        active,
-        knots,
-        blocks: held,
-        default,
-        interpolate: m.interpolate,
-    }
+        &starts[..n],
+        &numbers[..n],
+        &xs[..k],
+        &ys[..k],
+        &blocks[..b],
+        m,
+    )
 }

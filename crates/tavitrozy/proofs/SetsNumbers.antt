@@ -13,8 +13,8 @@ use Rattle.dispatch.specs.DispatchCalls.{placed_track}
 use Rattle.dispatch.specs.DispatchNumbers.{AskedByNone, NamedGivenByNone}
 use Rattle.dispatch.proofs.DispatchNumbers.{twenty-one-is-not-named, twenty-is-not-asked}
 use Rattle.pages.specs.Pages.{model}
-use Rattle.set_questions.specs.declared.PlacedBake.{PlacedBake}
-use Rattle.set_questions.specs.declared.PlacedRead.{PlacedRead}
+use Rattle.track.specs.declared.bake.Baked.{Baked}
+use Rattle.set_questions.specs.declared.Placed as code
 use Rattle.set_questions.specs.Asking.{read_reply, track_reply}
 use Rattle.codes.specs.declared.placed.PlacedCode.{PlacedCode}
 use Rattle.codes.specs.declared.placed.PlacedBakeCode.{PlacedBakeCode}
@@ -22,11 +22,11 @@ use Rattle.codes.specs.PlacedCodes.{placed_code, placed_bake_code}
 use Rattle.tavitrozy.specs.SetsNumbers.{SetsToldByNone, SetsRepliedByNone, TwentyOneIsNotRepliedOfSets, TwentyIsNotToldOfSets}
 use Rattle.tavitrozy.proofs.Numbers.{answer-number, reply-number}
 
-read_number : (r : Result PlacedRead Refusal) → number_of (read_reply r) ≡ (placed_code r).reply.number
-read_number (Ok x) = answer-number x.read.answer x.read.sample
+read_number : (r : Result (code.Placed ValueRead) Refusal) → number_of (read_reply r) ≡ (placed_code r).reply.number
+read_number (Ok x) = answer-number x.answer.answer x.answer.sample
 read_number (Err r) = refl
 
-track-number : (r : Result PlacedBake Refusal) → number_of (track_reply r) ≡ (placed_bake_code r).baked.number
+track-number : (r : Result (code.Placed Baked) Refusal) → number_of (track_reply r) ≡ (placed_bake_code r).baked.number
 track-number (Ok x) = refl
 track-number (Err r) = refl
 

@@ -12,6 +12,8 @@ use Rattle.gf.specs.Doubles.{◌⊕◌, ◌⊗◌, 0·5, 10000·0}
 use Rattle.definitions.specs.declared.TemplateTimes.{TemplateTimes}
 use Rattle.definitions.specs.ClipSet.{max_clips}
 use Rattle.definitions.specs.Template.{repeated, promoted}
+use Rattle.std.specs.Prelude.{Ok, Err}
+use Rattle.definitions.specs.declared.refusal.Refusal.TheVariants.{TooManyClips}
 use Rattle.template.specs.Expanding.{Promotes}
 
 module _ (t s b : Float) where
@@ -79,6 +81,10 @@ module _ (t₀ s b : Float) where
 abbrev all : TemplateTimes → List Float
 all x = repeated 257 (x.start ⊗ 10000·0) (x.stride ⊗ 10000·0) (x.end ⊗ 10000·0 ⊕ 0·5)
 
-pub promotes : (x : TemplateTimes) (items : List Float) (n : ℕ) → length items ≡ max_clips → n ≡ length (all x) → (n ≤ max_clips → take n items ≡ all x) → Promotes x (record { items = items; count = n })
+pub promotes : (x : TemplateTimes) (items : List Float) (n : ℕ) → length items ≡ max_clips → n ≤ max_clips → n ≡ length (all x) → take n items ≡ all x → Promotes x (Ok (record { items = items; count = n }))
 unfolding promoted
-promotes x items n e c l = record { long = e; count = c; list = l }
+promotes x items n e f c l = record { long = e; few = f; count = c; list = l }
+
+pub promotes-none : (x : TemplateTimes) → 257 ≡ length (all x) → Promotes x (Err TooManyClips)
+unfolding promoted
+promotes-none x c = (omega (arith, c), refl)

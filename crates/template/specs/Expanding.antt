@@ -1,5 +1,5 @@
 -- What a template acceptance replies. Assumes nothing.
-use Rattle.std.specs.Prelude.{ℕ, suc, ◌+◌, ◌≤◌, ◌≡◌, Bool, cond, List, [], ◌∷◌, ◌++◌, map, length, take, Float, Result}
+use Rattle.std.specs.Prelude.{ℕ, suc, ◌+◌, ◌≤◌, ◌≡◌, Bool, cond, List, [], ◌∷◌, ◌++◌, map, length, take, Float, Result, Ok, Err, ◌<◌}
 use Rattle.std.proofs.Math.Option.{Option, none, some}
 use Rattle.gf.specs.Doubles.{◌⊕◌, ◌⊖◌, ◌⊘◌, 10000·0, abs}
 use Rattle.definitions.specs.declared.Missing.{Missing}
@@ -9,8 +9,9 @@ use Rattle.definitions.specs.ClipSet as Definitions
 use Rattle.definitions.specs.ClipSet.{max_clips, max_blocks, sort_active, sort_knots}
 use Rattle.definitions.specs.Template.{TemplateFields, promoted, activations, clip_knots, with_bounds, template1, template2, template7, template6}
 use Rattle.definitions.specs.declared.refusal.Refusal.{Refusal}
+use Rattle.definitions.specs.declared.refusal.Refusal.TheVariants.{TooManyClips}
 use Rattle.definitions.specs.Refusals.{reply_of}
-use Rattle.definitions.specs.Questions.{Reply, refused, replied, ask_clip_times}
+use Rattle.definitions.specs.Questions.{ask_clip_times}
 use Rattle.sdf.specs.Counted.{counted, listed, itself}
 use Rattle.template.specs.declared.expanding.Promoted.{Promoted}
 
@@ -36,11 +37,17 @@ template_fields_number f =
     6 if template6 f else
     0
 
--- the times t of the clips, if there are not too many
-pub record Promotes (x : TemplateTimes) (r : Promoted) : Type 0 where
+-- the times t of the clips
+pub record Times (x : TemplateTimes) (r : Promoted) : Type 0 where
   pub long : length r.items ≡ max_clips
+  pub few : r.count ≤ max_clips
   pub count : r.count ≡ length (promoted x)
-  pub list : r.count ≤ max_clips → take r.count r.items ≡ promoted x
+  pub list : take r.count r.items ≡ promoted x
+
+-- the times, or 8 where there are too many
+abbrev pub Promotes : TemplateTimes → Result Promoted Refusal → Type 0
+Promotes x (Ok r) = Times x r
+Promotes x (Err e) = (max_clips < length (promoted x)) × (e ≡ TooManyClips)
 
 -- ---- the clip times that are asked for
 

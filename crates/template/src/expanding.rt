@@ -10,15 +10,15 @@ use definitions::limits::CLIPS;
 use definitions::refusal::Refusal;
 use definitions::{Missing, TemplateTimes};
 
-// The times t and their number; of a 257th only the number tells.
+// The times t and their number.
 #[derive(Clone, Copy)]
 pub struct Promoted {
     pub items: [f64; CLIPS],
     pub count: usize,
 }
 
-// By repeated addition. A stride too small to move t ends with the 257th.
-pub fn promote(times: TemplateTimes) -> Promoted
+// By repeated addition, and 8 at a 257th: a stride too small to move t ends there.
+pub fn promote(times: TemplateTimes) -> Result<Promoted, Refusal>
     ensures { Promotes times result }
 {
     let mut items = [0.0; CLIPS];
@@ -30,16 +30,16 @@ pub fn promote(times: TemplateTimes) -> Promoted
             items[i] = t;
             t += stride;
         } else {
-            return Promoted { items, count: i };
+            return Ok(Promoted { items, count: i });
         }
     }
     if t <= bound {
-        return Promoted { items, count: 257 };
+        return Err(Refusal::TooManyClips);
     }
-    Promoted {
+    Ok(Promoted {
         items,
         count: CLIPS,
-    }
+    })
 }
 
 fn stage_time(t: f64, times: TemplateTimes, offset: bool) -> f64

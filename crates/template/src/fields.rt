@@ -40,19 +40,13 @@ pub fn check_fields(
 ) -> Result<(), Refusal>
     ensures { number_in result ≡ template_fields_number (template_fields template.now times offset blocks.now manifest) }
 {
-    if TEMPLATE_BYTES < template.len() {
+    if TEMPLATE_BYTES < template.len() || BLOCKS < blocks.len() {
         return Err(Refusal::Misshapen);
     }
-    if BLOCKS < blocks.len() {
-        return Err(Refusal::Misshapen);
-    }
-    if is_unstorable(times, offset) {
-        return Err(Refusal::Unstorable);
-    }
-    if lists::any_unstorable(blocks) {
-        return Err(Refusal::Unstorable);
-    }
-    if storing::is_nan_default(manifest.default) {
+    if is_unstorable(times, offset)
+        || lists::any_unstorable(blocks)
+        || storing::is_nan_default(manifest.default)
+    {
         return Err(Refusal::Unstorable);
     }
     if is_disordered(times, offset) {

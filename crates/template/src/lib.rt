@@ -11,7 +11,7 @@ ghost use Rattle.clip.specs.Preparing.{Examines};
 ghost use Rattle.template.specs.Expanding.{offset_of, template_fields, SaysClipTimes};
 
 use clip::ClipSet;
-use definitions::limits::{CLIPS, KNOTS, STARTS};
+use definitions::limits::{KNOTS, STARTS};
 use definitions::refusal::Refusal;
 use definitions::{Default, Missing, TemplateTimes};
 
@@ -31,11 +31,8 @@ pub fn expand_template(
         interpolate,
     };
     fields::check_fields(template, times, offset, blocks, manifest)?;
-    let promoted = expanding::promote(times);
+    let promoted = expanding::promote(times)?;
     let n = promoted.count;
-    if CLIPS < n {
-        return Err(Refusal::TooManyClips);
-    }
     let m = expanding::knot_count(n, offset);
     let ts = promoted.items;
     let mut starts = [0.0; STARTS];
@@ -65,11 +62,8 @@ pub fn clip_times(times: TemplateTimes, offset: bool, out: &mut [f64]) -> Result
     if fields::is_disordered(times, offset) {
         return Err(Refusal::DisorderedTemplate);
     }
-    let promoted = expanding::promote(times);
+    let promoted = expanding::promote(times)?;
     let count = promoted.count;
-    if CLIPS < count {
-        return Err(Refusal::TooManyClips);
-    }
     if out.len() < count {
         return Err(Refusal::NoRoom);
     }

@@ -228,7 +228,7 @@ fn retime(
         defaults,
         counts,
         bytes,
-        first(&name, named.count),
+        first(&name, named.value),
         o,
     );
     Some(Said::Replied(told))

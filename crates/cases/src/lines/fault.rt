@@ -8,23 +8,9 @@ use crate::lines::calls::{Call, Change, Question, Slotted, call_of, slotted_of};
 use crate::lines::limits::{BLOCKS, BYTES, ENDS, KNOTS, LISTED, NAME, SAMPLES, SLOTS, STARTS};
 use crate::prepared;
 use crate::text::{
-    Read, after, is_end, read_byte, read_bytes, read_decimal, read_double, read_flag, skip_blanks,
-    word_end,
+    Read, after, is_end, read_at_most, read_byte, read_bytes, read_decimal, read_double, read_flag,
+    skip_blanks, word_end,
 };
-
-// What a word is read as.
-#[derive(Clone, Copy)]
-enum Kind {
-    Double,
-    Number,
-    Byte,
-    Flag,
-    Bytes,
-    SetName,
-    Listed,
-    Offset,
-    Name,
-}
 
 // Hex pairs of at most so many bytes.
 fn bytes_end<const MOST: usize>(line: &[u8], at: usize) -> Option<usize>
@@ -39,10 +25,7 @@ fn double_end(line: &[u8], at: usize) -> Option<usize> {
 }
 
 fn offset_end(line: &[u8], at: usize) -> Option<usize> {
-    match after(line, at, b"none") {
-        Some(absent) => Some(absent),
-        None => double_end(line, at),
-    }
+    after(line, at, b"none").or_else(|| double_end(line, at))
 }
 
 fn name_end(line: &[u8], at: usize) -> Option<usize> {
@@ -53,23 +36,27 @@ fn name_end(line: &[u8], at: usize) -> Option<usize> {
     None
 }
 
-// The place behind the next word, read as such.
-fn word_behind(line: &[u8], at: usize, kind: Kind) -> Option<usize> {
-    match kind {
-        Kind::Double => double_end(line, at),
-        Kind::Number => Some(read_decimal(line, at)?.at),
-        Kind::Byte => Some(read_byte(line, at)?.at),
-        Kind::Flag => Some(read_flag(line, at)?.at),
-        Kind::Bytes => bytes_end::<BYTES>(line, at),
-        Kind::SetName => bytes_end::<NAME>(line, at),
-        Kind::Listed => bytes_end::<LISTED>(line, at),
-        Kind::Offset => offset_end(line, at),
-        Kind::Name => name_end(line, at),
-    }
+fn number_end(line: &[u8], at: usize) -> Option<usize> {
+    Some(read_decimal(line, at)?.at)
 }
 
-fn step(line: &[u8], at: usize, kind: Kind) -> Result<usize, usize> {
-    word_behind(line, at, kind).ok_or(at)
+fn byte_end(line: &[u8], at: usize) -> Option<usize> {
+    Some(read_byte(line, at)?.at)
+}
+
+fn flag_end(line: &[u8], at: usize) -> Option<usize> {
+    Some(read_flag(line, at)?.at)
+}
+
+// The place that `end` finds behind the next word, if it can be read as such.
+fn step<F: Fn(&[u8], usize) -> Option<usize>>(
+    line: &[u8],
+    at: usize,
+    end: F,
+) -> Result<usize, usize>
+    requires { F.IsAlwaysCallable end }
+{
+    end(line, at).ok_or(at)
 }
 
 fn past(line: &[u8], at: usize, word: &[u8]) -> Result<usize, usize> {
@@ -77,19 +64,24 @@ fn past(line: &[u8], at: usize, word: &[u8]) -> Result<usize, usize> {
 }
 
 // A number of at most `most`.
-fn at_most(line: &[u8], at: usize, most: usize) -> Result<Read<u64>, usize> {
-    match read_decimal(line, at) {
-        Some(n) if n.value <= most as u64 => Ok(n),
-        _ => Err(at),
-    }
+fn at_most(line: &[u8], at: usize, most: usize) -> Result<Read<usize>, usize> {
+    read_at_most(line, at, most).ok_or(at)
 }
 
 // A word, a count of at most `most`, and that many words.
-fn list(line: &[u8], at: usize, word: &[u8], kind: Kind, most: usize) -> Result<usize, usize> {
+fn list<F: Fn(&[u8], usize) -> Option<usize>>(
+    line: &[u8],
+    at: usize,
+    word: &[u8],
+    end: F,
+    most: usize,
+) -> Result<usize, usize>
+    requires { F.IsAlwaysCallable end }
+{
     let n = at_most(line, past(line, at, word)?, most)?;
     let mut at = n.at;
     for _ in 0..n.value {
-        at = step(line, at, kind)?;
+        at = end(line, at).ok_or(at)?;
     }
     Ok(at)
 }
@@ -104,38 +96,38 @@ fn slots(line: &[u8], at: usize, most: usize) -> Result<usize, usize> {
 
 fn filling(line: &[u8], at: usize) -> Result<usize, usize> {
     let at = past(line, at, b"def")?;
-    let at = step(line, at, Kind::Byte)?;
-    let at = step(line, at, Kind::Double)?;
+    let at = step(line, at, byte_end)?;
+    let at = step(line, at, double_end)?;
     let at = past(line, at, b"flag")?;
-    step(line, at, Kind::Flag)
+    step(line, at, flag_end)
 }
 
 fn explicit(line: &[u8], at: usize) -> Result<usize, usize> {
-    let at = step(line, at, Kind::Number)?;
-    let at = list(line, at, b"st", Kind::Double, STARTS)?;
-    let at = list(line, at, b"sc", Kind::Double, STARTS)?;
-    let at = list(line, at, b"kx", Kind::Double, KNOTS)?;
-    let at = list(line, at, b"ky", Kind::Double, KNOTS)?;
-    let at = list(line, at, b"bl", Kind::Double, BLOCKS)?;
+    let at = step(line, at, number_end)?;
+    let at = list(line, at, b"st", double_end, STARTS)?;
+    let at = list(line, at, b"sc", double_end, STARTS)?;
+    let at = list(line, at, b"kx", double_end, KNOTS)?;
+    let at = list(line, at, b"ky", double_end, KNOTS)?;
+    let at = list(line, at, b"bl", double_end, BLOCKS)?;
     filling(line, at)
 }
 
 fn template_numbers(line: &[u8], at: usize) -> Result<usize, usize> {
     let at = two_doubles(line, at)?;
-    let at = step(line, at, Kind::Double)?;
-    step(line, at, Kind::Offset)
+    let at = step(line, at, double_end)?;
+    step(line, at, offset_end)
 }
 
 fn template(line: &[u8], at: usize) -> Result<usize, usize> {
-    let at = step(line, at, Kind::Bytes)?;
+    let at = step(line, at, bytes_end::<BYTES>)?;
     let at = template_numbers(line, at)?;
-    let at = list(line, at, b"bl", Kind::Double, BLOCKS)?;
+    let at = list(line, at, b"bl", double_end, BLOCKS)?;
     filling(line, at)
 }
 
 fn two_doubles(line: &[u8], at: usize) -> Result<usize, usize> {
-    let at = step(line, at, Kind::Double)?;
-    step(line, at, Kind::Double)
+    let at = step(line, at, double_end)?;
+    step(line, at, double_end)
 }
 
 fn changing(kind: Change, line: &[u8], at: usize) -> Result<usize, usize> {
@@ -148,19 +140,17 @@ fn changing(kind: Change, line: &[u8], at: usize) -> Result<usize, usize> {
 
 // Times, values and marks.
 fn samples(line: &[u8], at: usize, most: usize) -> Result<usize, usize> {
-    let at = list(line, at, b"t", Kind::Double, most)?;
-    let at = list(line, at, b"v", Kind::Double, most)?;
-    list(line, at, b"m", Kind::Byte, most)
+    let at = list(line, at, b"t", double_end, most)?;
+    let at = list(line, at, b"v", double_end, most)?;
+    list(line, at, b"m", byte_end, most)
 }
 
 fn asking(kind: Question, line: &[u8], at: usize) -> Result<usize, usize> {
     match kind {
-        Question::Value(_) | Question::Active | Question::ClipTime => {
-            step(line, at, Kind::Double)
-        }
+        Question::Value(_) | Question::Active | Question::ClipTime => { step(line, at, double_end) }
         Question::Name => {
-            let at = step(line, at, Kind::Bytes)?;
-            slots(line, step(line, at, Kind::Double)?, BYTES)
+            let at = step(line, at, bytes_end::<BYTES>)?;
+            slots(line, step(line, at, double_end)?, BYTES)
         }
         Question::Normalize => slots(line, samples(line, at, SAMPLES)?, SLOTS),
         Question::ClipTimes => slots(line, template_numbers(line, at)?, SLOTS),
@@ -173,7 +163,7 @@ fn asking(kind: Question, line: &[u8], at: usize) -> Result<usize, usize> {
 // No call's word, unless it is a case whose name is not one word.
 fn unknown(line: &[u8]) -> Result<usize, usize> {
     let at = past(line, 0, b"case")?;
-    step(line, at, Kind::Name)
+    step(line, at, name_end)
 }
 
 fn slot(line: &[u8], at: usize) -> Result<usize, usize> {
@@ -193,8 +183,8 @@ fn called(line: &[u8]) -> Result<usize, usize> {
     match call_of(line) {
         Call::Nothing => Ok(0),
         Call::Unreadable => unknown(line),
-        Call::Case(at) => step(line, at, Kind::Name),
-        Call::Samples(at) => samples(line, list(line, at, b"ends", Kind::Number, ENDS)?, SAMPLES),
+        Call::Case(at) => step(line, at, name_end),
+        Call::Samples(at) => samples(line, list(line, at, b"ends", number_end, ENDS)?, SAMPLES),
         Call::Order(at) => named::order(line, at),
         Call::Parted(at) => named::parted(line, at),
         Call::Changing(kind, at) => changing(kind, line, at),

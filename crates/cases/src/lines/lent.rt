@@ -45,10 +45,10 @@ fn read_into(
     let m = marks_after(line, v.at, b"m", marks)?;
     ended(line, m.at)?;
     Some(Lent {
-        ends: e.count,
-        times: t.count,
-        values: v.count,
-        marks: m.count,
+        ends: e.value,
+        times: t.value,
+        values: v.value,
+        marks: m.value,
         ..before
     })
 }

@@ -14,7 +14,7 @@ pub(crate) fn read(line: &[u8], at: usize, name: &mut [u8]) -> Option<Naming> {
     let flag = read_flag(line, read.at)?;
     Some(Naming {
         at: flag.at,
-        count: read.count,
+        count: read.value,
         declares: flag.value,
     })
 }

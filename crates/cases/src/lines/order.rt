@@ -23,8 +23,8 @@ fn read_into(line: &[u8], at: usize, ends: &mut [u64], bytes: &mut [u8]) -> Opti
     let b = read_bytes(line, after(line, e.at, b"bytes")?, bytes)?;
     ended(line, b.at)?;
     Some(Some(Order {
-        ends: e.count,
-        bytes: b.count,
+        ends: e.value,
+        bytes: b.value,
     }))
 }
 

@@ -43,11 +43,11 @@ fn read_into(
     let m = marks_after(line, v.at, b"m", marks)?;
     ended(line, m.at)?;
     Some(Parted {
-        counts: n.count,
-        ends: e.count,
-        times: t.count,
-        values: v.count,
-        marks: m.count,
+        counts: n.value,
+        ends: e.value,
+        times: t.value,
+        values: v.value,
+        marks: m.value,
     })
 }
 

@@ -34,7 +34,7 @@ pub(crate) fn read(line: &[u8], at: usize) -> Option<TemplateNumbers> {
             start: start.value,
             end: end.value,
             stride: stride.value,
-            offset: offset.value.unwrap_or(0.0 / 0.0),
+            offset: offset.value.unwrap_or(f64::NAN),
         },
         offset: offset.value.is_some(),
     })

@@ -23,7 +23,11 @@ fn begin(to: Stderr, number: u64) {
 
 // A byte of printable ASCII as it stands.
 fn printable(b: u8) -> u8 {
-    if (32..=126).contains(&b) { b } else { b'?' }
+    if b == b' ' || b.is_ascii_graphic() {
+        b
+    } else {
+        b'?'
+    }
 }
 
 // The first bytes of a word.

@@ -4,8 +4,8 @@ ghost use Rattle.pages.specs.Pages.{pages, Made};
 use crate::lines::limits::SLOTS;
 use crate::lines::slots::slots;
 use crate::text::{Replies, ended, read_double};
-use definitions::StageTime;
-use set_questions::PlacedRead;
+use definitions::{StageTime, ValueRead};
+use set_questions::Placed;
 
 impl Replies {
     // The place, behind the word of the call.
@@ -18,7 +18,7 @@ impl Replies {
     }
 
     // `dread` says the sample too, `dvalue` the answer alone.
-    fn placed(&mut self, r: PlacedRead, sample: bool) {
+    fn placed(&mut self, r: Placed<ValueRead>, sample: bool) {
         self.place(
             if sample {
                 b"dread".as_slice()
@@ -27,9 +27,9 @@ impl Replies {
             },
             r.place,
         );
-        self.answer(b"", r.read.answer);
+        self.answer(b"", r.answer.answer);
         if sample {
-            self.sample(r.read.sample);
+            self.sample(r.answer.sample);
         }
         self.put_byte(b'\n');
     }
@@ -141,8 +141,8 @@ fn track_in<'a>(
     match told {
         Ok(r) => {
             out.place(b"dtrack", r.place);
-            out.head(b"", r.baked.mark, r.baked.value);
-            out.changes(r.baked.count, outtimes, outvalues, outmarks);
+            out.head(b"", r.answer.mark, r.answer.value);
+            out.changes(r.answer.count, outtimes, outvalues, outmarks);
         }
         Err(why) => out.refused(why),
     }
@@ -174,7 +174,7 @@ pub(super) fn track<'a>(
     let s = slots(line, at, SLOTS, SLOTS)?;
     ended(line, s.at)?;
     track_in(
-        s.count,
+        s.value,
         starts,
         numbers,
         xs,

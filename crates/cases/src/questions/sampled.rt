@@ -136,7 +136,7 @@ pub(super) fn stage_sample_times(
     let s = slots(line, at, SLOTS, SLOTS)?;
     ended(line, s.at)?;
     times_in(
-        s.count,
+        s.value,
         resolver,
         ends,
         times,
@@ -193,7 +193,7 @@ pub(super) fn stage_samples(
     let s = slots(line, at, SLOTS, SLOTS)?;
     ended(line, s.at)?;
     samples_in(
-        s.count,
+        s.value,
         resolver,
         ends,
         times,
@@ -259,7 +259,7 @@ pub(super) fn track(
     let s = slots(line, at, SLOTS, SLOTS)?;
     ended(line, s.at)?;
     track_in(
-        s.count,
+        s.value,
         resolver,
         ends,
         times,

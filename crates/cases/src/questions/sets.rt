@@ -89,7 +89,7 @@ pub(super) fn dump(
     let read = read_bytes(line, at, &mut name)?;
     ended(line, read.at)?;
     let n = counts[0] as usize;
-    match set_names::find(bytes, n, first(&name, read.count)) {
+    match set_names::find(bytes, n, first(&name, read.value)) {
         Some(i) => dump_at(
             i, starts, numbers, xs, ys, blocks, defaults, counts, bytes, out,
         ),

@@ -1,28 +1,12 @@
-// Lists of a line, read into a list that the caller lends. A list that is longer than that is not readable.
-ghost use Rattle.std.specs.Prelude.{◌≡◌, ◌≤◌, IfSome, length, take, drop};
+// Lists of a line, read into a list that the caller lends: how many entries were read, and the place behind them. A list that
+// is longer than that is not readable.
+ghost use Rattle.std.specs.Prelude.{◌≡◌, take, drop};
 ghost use Rattle.cases.specs.Text.{part_of};
 
-use crate::text::numbers::{Read, hex_digits, read_byte, read_decimal, read_double, read_pattern};
+use crate::text::numbers::{
+    Read, hex_digits, read_at_most, read_byte, read_decimal, read_double, read_pattern,
+};
 use crate::text::words::{after, closed, skip_blanks};
-
-// How many entries were read, and the place behind them.
-#[derive(Clone, Copy)]
-pub(crate) struct Listed {
-    pub at: usize,
-    pub count: usize,
-}
-
-// The next word, a count of at most `most`.
-fn counted(line: &[u8], at: usize, most: usize) -> Option<Listed>
-    ensures { IfSome result (λ n. n.count ≤ most) }
-{
-    let n = read_decimal(line, at)?;
-    let count = n.value as usize;
-    if count > most {
-        return None;
-    }
-    Some(Listed { at: n.at, count })
-}
 
 // A word, a count, and that many entries, each read by `read`.
 fn list_after<T: Copy, F: Fn(&[u8], usize) -> Option<Read<T>>>(
@@ -31,19 +15,19 @@ fn list_after<T: Copy, F: Fn(&[u8], usize) -> Option<Read<T>>>(
     word: &[u8],
     out: &mut [T],
     read: F,
-) -> Option<Listed>
+) -> Option<Read<usize>>
     requires { F.IsAlwaysCallable read }
 {
-    let n = counted(line, after(line, at, word)?, out.len())?;
+    let n = read_at_most(line, after(line, at, word)?, out.len())?;
     let mut place = n.at;
-    for slot in out[..n.count].iter_mut() {
+    for slot in out[..n.value].iter_mut() {
         let d = read(line, place)?;
         *slot = d.value;
         place = d.at;
     }
-    Some(Listed {
+    Some(Read {
         at: place,
-        count: n.count,
+        value: n.value,
     })
 }
 
@@ -52,8 +36,8 @@ pub(crate) fn doubles_after(
     at: usize,
     word: &[u8],
     out: &mut [f64],
-) -> Option<Listed> {
-    list_after(line, at, word, out, |l, p| read_double(l, p))
+) -> Option<Read<usize>> {
+    list_after(line, at, word, out, read_double)
 }
 
 // Doubles, their bits alone.
@@ -62,8 +46,8 @@ pub(crate) fn patterns_after(
     at: usize,
     word: &[u8],
     out: &mut [u64],
-) -> Option<Listed> {
-    list_after(line, at, word, out, |l, p| read_pattern(l, p))
+) -> Option<Read<usize>> {
+    list_after(line, at, word, out, read_pattern)
 }
 
 pub(crate) fn numbers_after(
@@ -71,18 +55,23 @@ pub(crate) fn numbers_after(
     at: usize,
     word: &[u8],
     out: &mut [u64],
-) -> Option<Listed> {
-    list_after(line, at, word, out, |l, p| read_decimal(l, p))
+) -> Option<Read<usize>> {
+    list_after(line, at, word, out, read_decimal)
 }
 
-pub(crate) fn marks_after(line: &[u8], at: usize, word: &[u8], out: &mut [u8]) -> Option<Listed> {
-    list_after(line, at, word, out, |l, p| read_byte(l, p))
+pub(crate) fn marks_after(
+    line: &[u8],
+    at: usize,
+    word: &[u8],
+    out: &mut [u8],
+) -> Option<Read<usize>> {
+    list_after(line, at, word, out, read_byte)
 }
 
 // The next word, bytes as hex pairs, or `-` for none.
-pub(crate) fn read_bytes(line: &[u8], at: usize, out: &mut [u8]) -> Option<Listed> {
+pub(crate) fn read_bytes(line: &[u8], at: usize, out: &mut [u8]) -> Option<Read<usize>> {
     if let Some(at) = after(line, at, b"-") {
-        return Some(Listed { at, count: 0 });
+        return Some(Read { at, value: 0 });
     }
     let from = skip_blanks(line, at);
     if from >= line.len() {
@@ -92,7 +81,7 @@ pub(crate) fn read_bytes(line: &[u8], at: usize, out: &mut [u8]) -> Option<Liste
 }
 
 // Hex pairs up to the word's end.
-fn pairs(line: &[u8], at: usize, out: &mut [u8]) -> Option<Listed> {
+fn pairs(line: &[u8], at: usize, out: &mut [u8]) -> Option<Read<usize>> {
     let mut place = at;
     let mut count: usize = 0;
     for slot in out.iter_mut() {
@@ -103,9 +92,9 @@ fn pairs(line: &[u8], at: usize, out: &mut [u8]) -> Option<Listed> {
         place = n.at;
         count += 1;
     }
-    Some(Listed {
+    Some(Read {
         at: closed(line, place)?,
-        count,
+        value: count,
     })
 }
 
@@ -127,10 +116,7 @@ pub(crate) fn rest<T>(list: &[T], at: usize) -> &[T]
 pub(crate) fn part(list: &[u8], from: usize, to: usize) -> &[u8]
     ensures { result.now ≡ part_of list.now from to }
 {
-    if from > to || to > list.len() {
-        return &list[0..0];
-    }
-    &list[from..to]
+    list.get(from..to).unwrap_or(&[])
 }
 
 // `count` entries from the place `at` on, as many as there are.

@@ -1,7 +1,7 @@
 // Numbers of a line: decimal counts, and doubles.
-ghost use Rattle.std.specs.Prelude.{◌≡◌, ◌≤◌, drop, from_bits, to_bits};
+ghost use Rattle.std.specs.Prelude.{◌≡◌, ◌≤◌, ◌<◌, None, IfSome, drop, from_bits, to_bits};
 ghost use Rattle.std.specs.Float.{binary64};
-ghost use Rattle.cases.specs.Numbers.{digit_of, decimals, hexes_at, read_decimal, read_bits, byte_of};
+ghost use Rattle.cases.specs.Numbers.{digit_of, decimals, hexes_at, read_decimal, read_bits, at_most, byte_of};
 ghost use Rattle.cases.specs.Doubles.{read_double, read_pattern};
 
 use crate::text::decimals::read_written;
@@ -15,17 +15,20 @@ pub(crate) struct Read<T> {
     pub value: T,
 }
 
-// The digit that the byte is, 16 for a byte that is none.
+// The digit below `base` that the byte is.
 #[tactic(auto, unfolding(crate::specs::Numbers::digit_of))]
-fn digit(b: u8) -> u64
-    ensures { (result ≡ digit_of b) × (result ≤ 16) }
+fn digit(b: u8, base: u64) -> Option<u64>
+    requires { base ≤ 16 }
+    ensures some { IfSome result (λ d. (d ≡ digit_of b) × (d < base)) }
+    ensures none { result ≡ None → base ≤ digit_of b }
 {
-    match b {
+    let d = match b {
         b'0'..=b'9' => u64::from(b - b'0'),
         b'A'..=b'F' => u64::from(b - b'A' + 10),
         b'a'..=b'f' => u64::from(b - b'a' + 10),
-        _ => 16,
-    }
+        _ => return None,
+    };
+    (d < base).then_some(d)
 }
 
 // The decimal digits from `at` on, behind those of the number `head`, if all of them write a number of at most 64 bits.
@@ -36,10 +39,9 @@ pub(crate) fn digits_from(line: &[u8], at: usize, head: u64) -> Option<Read<u64>
     let line = rest(line, at);
     let mut value = head;
     for (n, b) in line.iter().enumerate() {
-        let d = digit(*b);
-        if d >= 10 {
+        let Some(d) = digit(*b, 10) else {
             return Some(Read { at: at + n, value });
-        }
+        };
         value = value.checked_mul(10)?.checked_add(d)?;
     }
     Some(Read {
@@ -64,14 +66,26 @@ pub(crate) fn read_decimal(line: &[u8], at: usize) -> Option<Read<u64>>
     })
 }
 
+// The next word, a decimal number of at most `most`.
+pub(crate) fn read_at_most(line: &[u8], at: usize, most: usize) -> Option<Read<usize>>
+    ensures is { result ≡ at_most most (read_decimal line.now at) }
+    ensures small { IfSome result (λ n. n.value ≤ most) }
+{
+    let n = read_decimal(line, at)?;
+    if n.value > most as u64 {
+        return None;
+    }
+    Some(Read {
+        at: n.at,
+        value: n.value as usize,
+    })
+}
+
 // The next word, a decimal number that a byte holds.
 pub(crate) fn read_byte(line: &[u8], at: usize) -> Option<Read<u8>>
     ensures { result ≡ byte_of (read_decimal line.now at) }
 {
-    let n = read_decimal(line, at)?;
-    if n.value > 255 {
-        return None;
-    }
+    let n = read_at_most(line, at, 255)?;
     Some(Read {
         at: n.at,
         value: n.value as u8,
@@ -80,10 +94,7 @@ pub(crate) fn read_byte(line: &[u8], at: usize) -> Option<Read<u8>>
 
 // The next word, 0 or 1.
 pub(crate) fn read_flag(line: &[u8], at: usize) -> Option<Read<bool>> {
-    let n = read_byte(line, at)?;
-    if n.value > 1 {
-        return None;
-    }
+    let n = read_at_most(line, at, 1)?;
     Some(Read {
         at: n.at,
         value: n.value == 1,
@@ -98,10 +109,7 @@ pub(crate) fn hex_digits(line: &[u8], at: usize, count: usize) -> Option<Read<u6
     let digits = rest(line, at).get(..count)?;
     let mut value: u64 = 0;
     for b in digits {
-        let d = digit(*b);
-        if d > 15 {
-            return None;
-        }
+        let d = digit(*b, 16)?;
         value = value.checked_mul(16)?.checked_add(d)?;
     }
     Some(Read {
@@ -115,7 +123,7 @@ pub(crate) fn double_of(bits: u64) -> f64
     ensures { result ≡ from_bits binary64 bits }
 {
     if bits % 0x8000_0000_0000_0000 > 0x7ff0_0000_0000_0000 {
-        return 0.0 / 0.0;
+        return f64::NAN;
     }
     f64::from_bits(bits)
 }
@@ -124,7 +132,7 @@ pub(crate) fn double_of(bits: u64) -> f64
 pub(crate) fn bits_of(x: f64) -> u64
     ensures { result ≡ to_bits binary64 x }
 {
-    if x != x {
+    if x.is_nan() {
         return 0x7ff8_0000_0000_0000;
     }
     f64::to_bits(x)

@@ -86,7 +86,7 @@ pub(crate) fn is_end(line: &[u8], at: usize) -> bool
 pub(crate) fn ended(line: &[u8], at: usize) -> Option<()>
     ensures { IsSome result ↔ (scanned line.now at Word ≡ length line.now) }
 {
-    if is_end(line, at) { Some(()) } else { None }
+    is_end(line, at).then_some(())
 }
 
 // The place itself, if no word goes on there.

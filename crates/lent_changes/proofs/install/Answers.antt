@@ -14,7 +14,4 @@ unpacked-counts-requires c =
     record { fact_1 = c.requires.made_set.held; fact_2 = record { of-starts = w.in-starts.long; of-numbers = w.in-numbers.long; of-xs = w.in-xs.long; of-ys = w.in_ys.long; of_blocks = w.in_blocks.long } }
 
 pub returns : goal.returns
-returns c =
-    let k = c in
-    let s = k in
-    unpacks (state (goal.at.returns s).Start) s.args.set s.requires.made_set k.unpacked-counts.ensures
+returns c = rw c.manifest.ensures (unpacks (state (goal.at.returns c).Start) c.args.set c.requires.made_set c.unpacked-counts.ensures)

@@ -1,7 +1,8 @@
 -- `set_questions::bake` meets its contract: the order list's number, the samples', else the track of the set that answers. Assumes nothing.
 use mathlib.Core.Path.{◌≡◌, sym, subst}
 use Rattle.std.specs.Prelude.{Ok, Err}
-use Rattle.set_questions.specs.declared.PlacedBake.{PlacedBake}
+use Rattle.track.specs.declared.bake.Baked.{Baked}
+use Rattle.set_questions.specs.declared.Placed.{Placed}
 use mathlib.Core.Option.{Option}
 use Rattle.definitions.specs.Track.{Outputs}
 use Rattle.definitions.specs.Moments.{outputs}
@@ -43,10 +44,10 @@ returns-in_err-check_question c =
     rw (p.1, p.2)
     (bakes-number (sets s) c.requires (order s) (lent s) _ c.in_err-check_question.ensures (before s))
 
-pub answering-by-requires : goal.answering-by-requires
-answering-by-requires c =
+pub answering-requires : goal.answering-requires
+answering-requires c =
     let s = c in
-    record { fact_1 = names-sorted (sets (goal.at.answering-by-requires s).Start) s.requires; fact_2 = (then-none (order_number (order (goal.at.answering-by-requires s).Start)) _ (passed c)).0 }
+    record { fact_1 = names-sorted (sets (goal.at.answering-requires s).Start) s.requires; fact_2 = (then-none (order_number (order (goal.at.answering-requires s).Start)) _ (passed c)).0 }
 
 pub bake_own-requires : goal.bake_own-requires
 bake_own-requires c =
@@ -56,23 +57,23 @@ bake_own-requires c =
       fact_3 = (then-none (order_number (order s)) _ (passed (goal.at.bake_own-requires c).In_ok-check_question)).1;
     }
 
-pub returns-in_err-baked-in-Some : goal.returns-in_err-baked-in-Some
-returns-in_err-baked-in-Some c =
-    let s = (goal.at.returns-in_err-baked-in-Some c).Start in
-    let p = err_from_is_err_and c.from_residual-in_err-baked-in-Some.result c.from_residual-in_err-baked-in-Some.ensures.1 in
+pub returns-in_err-answer-in-Some : goal.returns-in_err-answer-in-Some
+returns-in_err-answer-in-Some c =
+    let s = (goal.at.returns-in_err-answer-in-Some c).Start in
+    let p = err_from_is_err_and c.from_residual-in_err-answer-in-Some.result c.from_residual-in_err-answer-in-Some.ensures.1 in
     rw (p.1, p.2)
-    (bakes-set (sets s) c.requires (order s) (lent s) (passed (goal.at.returns-in_err-baked-in-Some c).In_ok-check_question)
-    c.in-Some.set c.in-Some.ensures _ _ (Err _) c.in_err-baked-in-Some.ensures)
+    (bakes-set (sets s) c.requires (order s) (lent s) (passed (goal.at.returns-in_err-answer-in-Some c).In_ok-check_question)
+    c.in-Some.set c.in-Some.ensures _ _ (Err _) c.in_err-answer-in-Some.ensures)
 
-pub returns-in_ok-baked-in-Some : goal.returns-in_ok-baked-in-Some
-returns-in_ok-baked-in-Some c =
-    let s = (goal.at.returns-in_ok-baked-in-Some c).Start in
-    bakes-set (sets s) c.requires (order s) (lent s) (passed (goal.at.returns-in_ok-baked-in-Some c).In_ok-check_question)
-    c.in-Some.set c.in-Some.ensures _ _ (Ok _) c.in_ok-baked-in-Some.ensures
+pub returns-in_ok-answer-in-Some : goal.returns-in_ok-answer-in-Some
+returns-in_ok-answer-in-Some c =
+    let s = (goal.at.returns-in_ok-answer-in-Some c).Start in
+    bakes-set (sets s) c.requires (order s) (lent s) (passed (goal.at.returns-in_ok-answer-in-Some c).In_ok-check_question)
+    c.in-Some.set c.in-Some.ensures _ _ (Ok _) c.in_ok-answer-in-Some.ensures
 
 pub returns-in-None : goal.returns-in-None
 returns-in-None c =
     let s = (goal.at.returns-in-None c).Start in
     let z = passed (goal.at.returns-in-None c).In_ok-check_question in
-    subst (λ (x : PlacedBake). BakesTrack (sets s) (bake_arguments (order s) (lent s)) (before s) (Ok x) (before s)) (sym c.no_track.ensures)
+    subst (λ (x : Placed Baked). BakesTrack (sets s) (bake_arguments (order s) (lent s)) (before s) (Ok x) (before s)) (sym c.no_track.ensures)
     (bakes-nobody (sets s) c.requires (order s) (lent s) z c.in-None.ensures (before s))

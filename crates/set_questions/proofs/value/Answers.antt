@@ -1,7 +1,8 @@
 -- `set_questions::value` meets its contract: the order list's number, the samples', 10, else the value of the set that answers. Assumes nothing.
 use mathlib.Core.Path.{◌≡◌, sym, ap, ◌∙◌, subst}
 use Rattle.std.specs.Prelude.{Ok}
-use Rattle.set_questions.specs.declared.PlacedRead.{PlacedRead}
+use Rattle.definitions.specs.declared.ValueRead.{ValueRead}
+use Rattle.set_questions.specs.declared.Placed.{Placed}
 use mathlib.Core.Option.{Option}
 use mathlib.Core.Bool.{true}
 use lib.Dec.{T}
@@ -48,32 +49,32 @@ returns-then-not-is_finite c =
     let s = l in
     tells-10 (sets (goal.at.returns-then-not-is_finite s).Start) s.requires (order (goal.at.returns-then-not-is_finite s).Start) (lent (goal.at.returns-then-not-is_finite s).Start) s.args.t (passed (goal.at.returns-then-not-is_finite l).In_ok-check_question) (sym c.is_finite.ensures ∙ c.if-not-is_finite.true)
 
-pub answering-by-requires : goal.answering-by-requires
-answering-by-requires c =
+pub answering-requires : goal.answering-requires
+answering-requires c =
     let l = c in
     let s = l in
-    record { fact_1 = names-sorted (sets (goal.at.answering-by-requires s).Start) s.requires; fact_2 = (then-none (order_number (order (goal.at.answering-by-requires s).Start)) _ (passed (goal.at.answering-by-requires l).In_ok-check_question)).0 }
+    record { fact_1 = names-sorted (sets (goal.at.answering-requires s).Start) s.requires; fact_2 = (then-none (order_number (order (goal.at.answering-requires s).Start)) _ (passed (goal.at.answering-requires l).In_ok-check_question)).0 }
 
 finitely : (c : Else-not-is_finite) → finite c.args.t.0 ≡ true
 finitely c = sym c.is_finite.ensures ∙ c.if-not-is_finite.false
 
-pub read_own-read-requires : goal.read_own-read-requires
-read_own-read-requires c =
-    let s = (goal.at.read_own-read-requires c).Start in record {
+pub read_own-answer-requires : goal.read_own-answer-requires
+read_own-answer-requires c =
+    let s = (goal.at.read_own-answer-requires c).Start in record {
       fact_1 = c.requires;
       fact_2 = answers-below (sets s) c.requires (order s) c.in-Some.set c.in-Some.ensures;
-      fact_3 = (then-none (order_number (order s)) _ (passed (goal.at.read_own-read-requires c).In_ok-check_question)).1;
-      fact_4 = subst T (sym (finitely (goal.at.read_own-read-requires c).Else-not-is_finite)) tt;
+      fact_3 = (then-none (order_number (order s)) _ (passed (goal.at.read_own-answer-requires c).In_ok-check_question)).1;
+      fact_4 = subst T (sym (finitely (goal.at.read_own-answer-requires c).Else-not-is_finite)) tt;
     }
 
 pub returns-in-Some : goal.returns-in-Some
 returns-in-Some c =
     let s = (goal.at.returns-in-Some c).Start in
     tells-set (sets s) c.requires (order s) (lent s) c.args.t (passed (goal.at.returns-in-Some c).In_ok-check_question) (finitely (goal.at.returns-in-Some c).Else-not-is_finite)
-    c.in-Some.set c.in-Some.ensures c.read_own-read.result c.read_own-read.ensures
+    c.in-Some.set c.in-Some.ensures c.read_own-answer.result c.read_own-answer.ensures
 
 pub returns-in-None : goal.returns-in-None
 returns-in-None c =
     let s = (goal.at.returns-in-None c).Start in
-    ap (λ (x : PlacedRead). read_reply (Ok x)) c.nobody_reads.ensures
+    ap (λ (x : Placed ValueRead). read_reply (Ok x)) c.nobody_reads.ensures
     ∙ tells-nobody (sets s) c.requires (order s) (lent s) c.args.t (passed (goal.at.returns-in-None c).In_ok-check_question) (finitely (goal.at.returns-in-None c).Else-not-is_finite) c.in-None.ensures

@@ -1,5 +1,6 @@
 -- `set_samples::total_samples` meets its contract: the counts up to the index are added. Assumes nothing.
 use native.Mathlib.Omega.{arith}
+use mathlib.Core.Path.{refl}
 use Rattle.set_samples.proofs.Sums.{adding, add-next, add-above, added}
 use Rattle.set_samples.proofs.total_samples.Goals as goal
 
@@ -7,7 +8,7 @@ pub loop-count-init : goal.loop-count-init
 loop-count-init c = adding _
 
 pub returns-then-count-gt-SAMPLES : goal.returns-then-count-gt-SAMPLES
-returns-then-count-gt-SAMPLES c = let k = c.loop-count in add-above _ k.count-index k.sum k.invariant (omega arith) c.if-count-gt-SAMPLES.true
+returns-then-count-gt-SAMPLES c = let k = c.loop-count in (add-above _ k.count-index k.sum k.invariant (omega arith) c.if-count-gt-SAMPLES.true, refl)
 
 pub overflow_add-sum : goal.overflow_add-sum
 overflow_add-sum c = let k = c.loop-count in omega (arith, k.invariant.low, c.if-count-gt-SAMPLES.false, c.requires)

@@ -5,8 +5,8 @@ use Rattle.sorts.proofs.sortable.Goals as goal
 
 pub returns-then-n-m : goal.returns-then-n-m
 unfolding sortable
-returns-then-n-m c = simp (ne_eqb _ _ c.if-n-m.true)
+returns-then-n-m c = simp (eq-eqb _ _ c.if-n-m.true)
 
-pub returns : goal.returns
+pub returns-else-n-m : goal.returns-else-n-m
 unfolding sortable
-returns c = simp (eq-eqb _ _ c.if-n-m.false)
+returns-else-n-m c = simp (ne_eqb _ _ c.if-n-m.false)

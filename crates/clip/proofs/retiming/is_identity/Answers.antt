@@ -7,6 +7,6 @@ pub returns-then-o : goal.returns-then-o
 unfolding is_identity of_bits
 returns-then-o c = rw c.if-o.true
 
-pub returns : goal.returns
+pub returns-else-o : goal.returns-else-o
 unfolding is_identity of_bits
-returns c = rw c.if-o.false
+returns-else-o c = rw c.if-o.false

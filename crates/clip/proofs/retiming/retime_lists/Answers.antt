@@ -1,6 +1,7 @@
 -- `clip::retiming::retime_lists` meets its contract. Assumes nothing.
 use mathlib.Core.Path.{◌≡◌, sym, ap, subst, ◌∙◌}
 use native.Mathlib.Omega.{arith}
+use Rattle.definitions.specs.declared.Missing.{Missing}
 use Rattle.definitions.specs.ClipSet as Definitions
 use Rattle.laws.specs.cell.Lent.{set_of}
 use Rattle.clip.specs.Holding.{IsHeld, clip_set_of, manifest_of}
@@ -66,5 +67,9 @@ shape_of-blocks c = c.unpack_moved.auto.blocks
 pub returns : goal.returns
 returns c =
     let r = retimed (goal.at.returns c).Start in
-    hands (clip_set_of c.args.set) r c.store.result (settle_number r) (c.in_ok-check_lists.ensures ∙ number_is (goal.at.returns c).After-sort_turned)
-    (subst (λ (set : Definitions.ClipSet). IsHeld set c.store.result) (lists-are (goal.at.returns c).After-sort_turned) c.store.ensures)
+    let sorted = (goal.at.returns c).After-sort_turned in
+    let u = c.unpack_moved in
+    let t = c.sort_turned in
+    let stored = ap (λ (m : Missing). set_of c.args.set.clips t.new.times t.new.numbers t.new.xs t.new.ys u.new.blocks m) c.manifest.ensures in
+    hands (clip_set_of c.args.set) r c.store.result (settle_number r) (c.in_ok-check_lists.ensures ∙ number_is sorted)
+    (subst (λ (set : Definitions.ClipSet). IsHeld set c.store.result) (stored ∙ lists-are sorted) c.store.ensures)

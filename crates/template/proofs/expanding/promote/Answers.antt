@@ -5,7 +5,7 @@ use native.Mathlib.Omega.{arith}
 use lib.ListN.{take, replicate}
 use lib.Ieee.{of_bits}
 use Rattle.gf.specs.Doubles.{◌⊕◌, ◌⊗◌, 0·0, 0·5, 10000·0}
-use Rattle.template.proofs.Promotion.{promote-start, promote-next, promote-ends, promote-length, promote-more, promotes}
+use Rattle.template.proofs.Promotion.{promote-start, promote-next, promote-ends, promote-length, promote-more, promotes, promotes-none}
 use Rattle.template.proofs.expanding.promote.Goals as goal
 
 pub loop-i-init : goal.loop-i-init
@@ -26,14 +26,14 @@ unfolding of_bits
 returns-else-t-bound c =
     let k = c.loop-i in
     let x = c.args.times in
-    promotes x k.items k.i k.invariant.long (promote-length (x.start ⊗ 10000·0) (x.stride ⊗ 10000·0) (x.end ⊗ 10000·0 ⊕ 0·5) k.items k.t k.i k.invariant c.if-t-bound.false) (λ h. promote-ends (x.start ⊗ 10000·0) (x.stride ⊗ 10000·0) (x.end ⊗ 10000·0 ⊕ 0·5) k.items k.t k.i k.invariant c.if-t-bound.false)
+    promotes x k.items k.i k.invariant.long k.invariant.within (promote-length (x.start ⊗ 10000·0) (x.stride ⊗ 10000·0) (x.end ⊗ 10000·0 ⊕ 0·5) k.items k.t k.i k.invariant c.if-t-bound.false) (promote-ends (x.start ⊗ 10000·0) (x.stride ⊗ 10000·0) (x.end ⊗ 10000·0 ⊕ 0·5) k.items k.t k.i k.invariant c.if-t-bound.false)
 
 pub returns-then-t-bound-2 : goal.returns-then-t-bound-2
 unfolding of_bits
 returns-then-t-bound-2 c =
     let k = c.loop-i in
     let x = c.args.times in
-    promotes x k.items 257 k.invariant.long (promote-more (x.start ⊗ 10000·0) (x.stride ⊗ 10000·0) (x.end ⊗ 10000·0 ⊕ 0·5) k.items k.t k.i k.invariant (omega arith) c.if-t-bound-2.true) (λ h. absurd (omega arith))
+    promotes-none x (promote-more (x.start ⊗ 10000·0) (x.stride ⊗ 10000·0) (x.end ⊗ 10000·0 ⊕ 0·5) k.items k.t k.i k.invariant (omega arith) c.if-t-bound-2.true)
 
 pub returns : goal.returns
 unfolding of_bits
@@ -41,4 +41,4 @@ returns c =
     let k = c.loop-i in
     let x = c.args.times in
     let n : k.i ≡ 256 = omega arith in
-    promotes x k.items 256 k.invariant.long (sym n ∙ promote-length (x.start ⊗ 10000·0) (x.stride ⊗ 10000·0) (x.end ⊗ 10000·0 ⊕ 0·5) k.items k.t k.i k.invariant c.if-t-bound-2.false) (λ h. ap (λ (m : ℕ). take m k.items) (sym n) ∙ promote-ends (x.start ⊗ 10000·0) (x.stride ⊗ 10000·0) (x.end ⊗ 10000·0 ⊕ 0·5) k.items k.t k.i k.invariant c.if-t-bound-2.false)
+    promotes x k.items 256 k.invariant.long (omega arith) (sym n ∙ promote-length (x.start ⊗ 10000·0) (x.stride ⊗ 10000·0) (x.end ⊗ 10000·0 ⊕ 0·5) k.items k.t k.i k.invariant c.if-t-bound-2.false) (ap (λ (m : ℕ). take m k.items) (sym n) ∙ promote-ends (x.start ⊗ 10000·0) (x.stride ⊗ 10000·0) (x.end ⊗ 10000·0 ⊕ 0·5) k.items k.t k.i k.invariant c.if-t-bound-2.false)
