@@ -1,4 +1,5 @@
-// What a reply is to callers in other languages: each Result as a struct of numbers, in which a refusal has its number and 0 or false in every other field.
+// What a reply is to callers in other languages: each Result as a struct of numbers, in which a refusal has its number and 0 or false in every other field. Those of
+// `changed` say what stands beside it instead.
 
 #![tactic(auto)]
 

@@ -1,20 +1,17 @@
 -- Demand 3 from the operations' promises: the sets that stand, by the pages, are those that stand by the calls, the pages are made each time, and a bake's promise is what is due.
 -- Assumes nothing.
-use Prim.Native.Nat.{ℕ, zero, suc}
-use mathlib.Core.Path.{◌≡◌, refl, sym, ap, ◌∙◌, subst}
+use mathlib.Core.Path.{refl, subst}
 use mathlib.Core.Bool.{true}
 use mathlib.Core.List.{List, []}
-use mathlib.Core.Option.{Option, none, some}
-use lib.ListN.{length}
 use Rattle.definitions.specs.ClipSet as definitions
-use Rattle.definitions.specs.Questions.{Reply, reply}
-use Rattle.definitions.specs.Track.{Outputs, slots}
+use Rattle.definitions.specs.Questions.{Reply}
+use Rattle.definitions.specs.Track.{Outputs}
 use Rattle.definitions.specs.Calls.{Baked}
 use Rattle.definitions.proofs.WholeList as any
 use Rattle.definitions.proofs.WholeList.{left_is, whole-list}
-use Rattle.dispatch.specs.NamedSets.{NamedSet, answering}
-use Rattle.dispatch.specs.Dispatch.{Placed, place_of, dispatch_bake_number}
-use Rattle.dispatch.specs.DispatchCalls.{DispatchCall, explicit, template, install, retime, bake, BakeArguments, dispatch_step, placed_track, DispatchBakes, DispatchDue}
+use Rattle.dispatch.specs.NamedSets.{NamedSet}
+use Rattle.dispatch.specs.Dispatch.{Placed}
+use Rattle.dispatch.specs.DispatchCalls.{DispatchCall, explicit, template, install, retime, bake, BakeArguments, dispatch_step, DispatchBakes, DispatchDue}
 use Rattle.dispatch.proofs.Due.{due}
 use Rattle.pages.specs.Pages.{Pages, model, Made}
 use Rattle.pages.specs.Placing.{Begins}

@@ -6,7 +6,7 @@ use lib.ListN.{length}
 use lib.Ieee.{Float}
 use Rattle.gf.specs.Doubles.{0·0}
 use Rattle.definitions.specs.Examining.{Fields, explicitly, by_template, Examined, examine}
-use Rattle.definitions.specs.Questions.{Reply, refused, replied, reply, number_of, ask_stage_sample_times, ask_stage_samples, ask_stage_sample_count, ask_clip_times}
+use Rattle.definitions.specs.Questions.{Reply, refused, replied, reply, number_of, ask_stage_sample_times, ask_stage_samples, ask_clip_times}
 use Rattle.definitions.specs.Track.{slots, bake_number}
 use Rattle.definitions.specs.Calls.{baked_of}
 use Rattle.definitions.specs.Names.{name, name_number}

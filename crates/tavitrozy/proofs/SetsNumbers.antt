@@ -1,5 +1,5 @@
 -- The number that a call to a dispatcher replies is the definition's, so that one which no definition gives is never replied. Assumes nothing.
-use Prim.Native.Nat.{ℕ, zero, suc}
+use Prim.Native.Nat.{ℕ}
 use mathlib.Core.Path.{◌≡◌, refl, sym, ap, ◌∙◌}
 use lib.ListN.{length}
 use Rattle.definitions.specs.declared.ValueRead.{ValueRead}
