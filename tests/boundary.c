@@ -473,6 +473,25 @@ static void refused_retimings(void) {
   CHECK(tavitrozy_retime(r, moving(-5, 1)) == 0 && r->starts[0] == -20 && r->starts[1] == 0);
 }
 
+/* A number that is not finite is refused, and none of the processor's flags is raised. */
+static void refused_without_a_flag(void) {
+  const double odd[] = {INFINITY, -INFINITY, NAN};
+  static samples s;
+  set_up(&s);
+  tavitrozy_resolver *r = &here.resolver;
+  for (int i = 0; i < 3; i++) {
+    feclearexcept(FE_ALL_EXCEPT);
+    CHECK(refuses(10, tavitrozy_active_clip(r, at(odd[i])).number));
+    CHECK(refuses(10, tavitrozy_clip_time(r, at(odd[i])).number));
+    CHECK(refuses(10, tavitrozy_value(r, LENT(&s), at(odd[i])).number));
+    CHECK(refuses(2, tavitrozy_retime(r, moving(odd[i], 1))));
+    CHECK(refuses(2, tavitrozy_retime(r, moving(0, odd[i]))));
+    CHECK(refuses(2, template_of(r, "f.#.usd", stepping(1, 3, odd[i], 0), false)));
+    CHECK(refuses(2, template_of(r, "f.#.usd", stepping(1, 3, 1, odd[i]), true)));
+    CHECK(fetestexcept(FE_ALL_EXCEPT) == 0);
+  }
+}
+
 static void refused_without_set(void) {
   memset(&here, 0xA5, sizeof here);
   tavitrozy_fresh(&here.resolver);
@@ -1579,7 +1598,7 @@ int main(void) {
   active_clips(), equal_entries(), clip_times(), templates(), held(), missing(), falling(), zero_head(), zero_changes(), zero_default();
   retimed_again(), identity_again(), baked_after_two();
   places(), clip_and_not_start(), read_at_another_start(), read_for_a_missing_one(), read_where_it_is_held_from(), read_from_no_sample(), as_the_lists_have_it();
-  refused_acceptances(), refused_retimings(), refused_without_set(), refused_samples(), refused_for_room_or_time(), refused_values(), refused_fields();
+  refused_acceptances(), refused_retimings(), refused_without_a_flag(), refused_without_set(), refused_samples(), refused_for_room_or_time(), refused_values(), refused_fields();
   nothing_lent(), limits_of_sets(), limits_of_templates(), limits_of_samples();
   examined_sets(), examined_with_faults(), installed_again(), nothing_stays(), empty_set(), examined_at_the_limits(), previewed();
   ordered_by_list(), ordered_by_name(), as_on_a_desk(), installed_under_names();

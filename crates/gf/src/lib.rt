@@ -14,6 +14,7 @@ ghost use Rattle.std.specs.Prelude.{◌≡◌, ◌≤◌, not, T, is_nan};
 ghost use Rattle.std.specs.Float.Ieee.Scale.{finite};
 ghost use Rattle.gf.specs.Doubles as Doubles;
 
+use crate::class::{Class, classify};
 use crate::magnitude::without_sign;
 use std::num::f64_to_bits_with_nan;
 
@@ -65,11 +66,12 @@ pub fn is_storable(x: f64) -> bool
     !x.is_nan() && without_sign(x) <= MOST_STORED
 }
 
-// Neither a NaN nor an infinity.
+// Neither a NaN nor an infinity. Told by the pattern, since of a number that is neither a subtraction, as in std's test, or a comparison by size
+// may raise the processor's flag for an invalid operation.
 pub fn is_finite(x: f64) -> bool
     ensures { result ≡ finite x }
 {
-    x.is_finite()
+    !matches!(classify(x), Class::NotFinite)
 }
 
 // A number whose order is that of `f64::total_cmp`, which places -0.0 before 0.0. One pattern stands for every NaN.

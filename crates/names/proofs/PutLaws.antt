@@ -7,7 +7,6 @@ use native.Mathlib.Nat.{add-zero, zero-add, add_assoc}
 use native.Mathlib.Numerals.{add-one}
 use native.Mathlib.Omega.{arith}
 use lib.ListN.{length, take, drop, set, length-append, length-drop, take-append-drop}
-use borrow.Rule.Slice.PartMut.{put_mid}
 use lib.Seq.{length-take-le, take_at, drop_at, take-append-le, take-take, drop-drop, set_split}
 use Rattle.definitions.specs.Lists.{written_over}
 use Rattle.names.specs.Put.{put}
@@ -75,16 +74,6 @@ put-before out at a b room =
 
 pub put_byte : (out : List ℕ) (at b : ℕ) (rest : List ℕ) → at < length out → put (set out at b) (at + 1) rest ≡ put out at (b ∷ rest)
 put_byte out at b rest h = ap (λ (l : List ℕ). put l (at + 1) rest) (put-set out at b h) ∙ put-append out at (b ∷ []) (omega arith) rest
-
--- what a write to a part of a list leaves
-pub put-part : (out bytes : List ℕ) (at k : ℕ) → k ≡ length bytes → put_mid at k out bytes ≡ put out at bytes
-unfolding put
-put-part out bytes at k e =
-    ap (λ (l : List ℕ). take at out ++ (bytes ++ l)) (drop-drop k at out ∙ ap (λ (n : ℕ). drop (at + n) out) e)
-
-pub put-front-part : (out bytes : List ℕ) (k : ℕ) → k ≡ length bytes → bytes ++ drop k out ≡ put out 0 bytes
-unfolding put
-put-front-part out bytes k e = ap (λ (n : ℕ). bytes ++ drop n out) (e ∙ sym (zero-add (length bytes)))
 
 -- ---- three parts, one after the other
 

@@ -27,6 +27,16 @@ pub fn is_readable(template: &[u8]) -> bool
     pattern::is_readable(template, p)
 }
 
+// Writes the bytes from the slot `at` on. Not by std's copy, which allows that the two overlap and so needs C's `memmove`.
+fn put_bytes(bytes: &[u8], out: &mut [u8], at: usize)
+    requires { at + length bytes.now ≤ length out.old }
+    ensures { out.new ≡ put out.old at bytes.now }
+{
+    for (i, b) in bytes.iter().enumerate() {
+        out[at + i] = *b;
+    }
+}
+
 // Writes the prefix, the body and the suffix to the front of the lent bytes.
 fn put_name(template: &[u8], p: Pattern, b: Body, out: &mut [u8])
     requires first_le_suffix { (p.first ≤ p.suffix) × (p.suffix ≤ length template.now) }
@@ -34,11 +44,10 @@ fn put_name(template: &[u8], p: Pattern, b: Body, out: &mut [u8])
     requires b_len_bound { length (body_of b) ≤ 268 }
     ensures { out.new ≡ put out.old 0 (take p.first template.now ++ (body_of b ++ drop p.suffix template.now)) }
 {
-    let suffix = &template[p.suffix..];
     let rest = p.first + body::body_length(b);
-    out[..p.first].copy_from_slice(&template[..p.first]);
+    put_bytes(&template[..p.first], out, 0);
     body::put_body(b, out, p.first);
-    out[rest..rest + suffix.len()].copy_from_slice(suffix);
+    put_bytes(&template[p.suffix..], out, rest);
 }
 
 // The name of the template at a clip time, written to the front of the lent bytes: its length. Refused by 1, 2, 6, then 22.

@@ -7,6 +7,7 @@ ghost use Rattle.pages.specs.Placing.{ShapeStored, name_stored};
 
 use crate::layout;
 use definitions::{Default, Missing};
+use lists::writing::copy;
 use resolver::Shape;
 use set_names::PAGE;
 use standing::Counts;
@@ -93,7 +94,7 @@ pub fn store_name(name: &[u8], declares: bool, i: usize, bytes: &mut [u8])
     let at = i * PAGE;
     let begin = at + 1;
     let end = begin + name.len();
-    bytes[begin..end].copy_from_slice(name);
+    copy(name, &mut bytes[begin..end]);
     bytes[at] = name.len() as u8;
     bytes[layout::DECLARES + i] = u8::from(declares);
 }
