@@ -27,13 +27,30 @@ impl From<Result<ClipSet, Refusal>> for Prepared {
     ghost from_gives = { IsPrepared };
 
     fn from(r: Result<ClipSet, Refusal>) -> Prepared {
-        match r {
-            Ok(set) => Prepared { number: 0, set },
+        match &r {
+            Ok(set) => Prepared {
+                number: 0,
+                set: part_by_part(set),
+            },
             Err(e) => Prepared {
-                number: u8::from(e),
+                number: u8::from(*e),
                 set: clip::empty(),
             },
         }
+    }
+}
+
+// The same set. It is copied part by part: LLVM copies a whole one that stands behind a number at odd addresses, and twice.
+fn part_by_part(set: &ClipSet) -> ClipSet
+    ensures { result ≡ set.now }
+{
+    ClipSet {
+        clips: set.clips,
+        active: set.active,
+        knots: set.knots,
+        blocks: set.blocks,
+        default: set.default,
+        interpolate: set.interpolate,
     }
 }
 

@@ -70,8 +70,11 @@ pub fn accept(
         newblocks,
         default,
         interpolate,
-    )?;
-    Ok(install(shape, starts, numbers, xs, ys, blocks, prepared))
+    );
+    match &prepared {
+        Ok(set) => Ok(install(shape, starts, numbers, xs, ys, blocks, *set)),
+        Err(e) => Err(*e),
+    }
 }
 
 // The set that the template expands to takes the place of the standing one, unless a number refuses it.
@@ -100,8 +103,11 @@ pub fn accept_template(
         newblocks,
         default,
         interpolate,
-    )?;
-    Ok(install(shape, starts, numbers, xs, ys, blocks, expanded))
+    );
+    match &expanded {
+        Ok(set) => Ok(install(shape, starts, numbers, xs, ys, blocks, *set)),
+        Err(e) => Err(*e),
+    }
 }
 
 // The prepared set takes the place of the standing one. Nothing refuses it.
@@ -153,6 +159,9 @@ pub fn retime(
         shape.counts,
         shape.manifest,
     );
-    let moved = set.retime_stage_times(o)?;
-    Ok(install(shape, starts, numbers, xs, ys, blocks, moved))
+    let moved = set.retime_stage_times(o);
+    match &moved {
+        Ok(set) => Ok(install(shape, starts, numbers, xs, ys, blocks, *set)),
+        Err(e) => Err(*e),
+    }
 }

@@ -34,13 +34,12 @@ pub fn expand_template(
     let promoted = expanding::promote(times)?;
     let n = promoted.count;
     let m = expanding::knot_count(n, offset);
-    let ts = promoted.items;
     let mut starts = [0.0; STARTS];
     let mut numbers = [0u64; STARTS];
     let mut xs = [0.0; KNOTS];
     let mut ys = [0.0; KNOTS];
     expanding::expand_lists(
-        &ts[..n],
+        &promoted.items[..n],
         times,
         offset,
         blocks,
@@ -67,7 +66,6 @@ pub fn clip_times(times: TemplateTimes, offset: bool, out: &mut [f64]) -> Result
     if out.len() < count {
         return Err(Refusal::NoRoom);
     }
-    let ts = promoted.items;
-    expanding::write_clip_times(&ts[..count], &mut out[..count]);
+    expanding::write_clip_times(&promoted.items[..count], &mut out[..count]);
     Ok(count)
 }

@@ -1,17 +1,17 @@
 -- `lent_changes::accept_template` meets its contract: the examined set is installed, unless its number refuses it. Assumes nothing.
-use Rattle.std.specs.Prelude.{Result}
+use mathlib.Core.Path.{subst}
+use Rattle.std.specs.Prelude.{Result, Ok}
 use Rattle.definitions.specs.declared.refusal.Refusal.{Refusal}
-use Rattle.definitions.specs.Refusals.{number_in}
+use Rattle.definitions.specs.Examining.{by_template}
 use Rattle.definitions.specs.Template.{TemplateFields}
 use Rattle.clip.specs.Holding.{manifest}
-use Rattle.clip.proofs.Preparing.{by-reason}
+use Rattle.clip.specs.declared.ClipSet.{ClipSet}
+use Rattle.clip.specs.Preparing.{Examines}
 use Rattle.template.specs.Expanding.{template_fields}
 use Rattle.resolver.specs.declared.Resolver.{Resolver}
-use Rattle.resolver.specs.declared.Shape.{Shape}
-use Rattle.resolver.specs.State.{left, lent_state}
-use Rattle.resolver.specs.Promises.{Expands}
+use Rattle.resolver.specs.State.{lent_state}
 use Rattle.resolver.proofs.Laws.{expands, expands-not}
-use Rattle.lent_changes.proofs.accept_template.Goals.{Start as At-start}
+use Rattle.lent_changes.proofs.accept_template.Goals.{In-Ok, Start as At-start}
 use Rattle.lent_changes.proofs.accept_template.Goals as goal
 
 abbrev state : At-start → Resolver
@@ -20,14 +20,19 @@ state s = let a = s.args in lent_state a.shape a.starts.now a.numbers.now a.xs.n
 abbrev fields : At-start → TemplateFields
 fields s = let a = s.args in template_fields a.template.now a.times a.offset a.newblocks.now (manifest a.default a.interpolate)
 
-pub returns-in_err-expanded : goal.returns-in_err-expanded
-returns-in_err-expanded c =
-    let s = (goal.at.returns-in_err-expanded c).Start in
-    let a = c.args in
-    by-reason (λ (r : Result Shape Refusal). Expands (state s) (fields s) (number_in r) (lent_state (left a.shape r) a.starts.now a.numbers.now a.xs.now a.ys.now a.blocks.now)) _ _ c.from_residual.ensures.1
-    (expands-not (state s) (fields s) _ c.requires c.in_err-expanded.ensures)
+-- what the examining replied, in the arm where it made a set
+examined : (c : In-Ok) → Examines (by_template (fields (goal.at.In-Ok c).Start)) (Ok c.in-Ok.set)
+examined c = subst (λ (r : Result ClipSet Refusal). Examines (by_template (fields (goal.at.In-Ok c).Start)) r) c.in-Ok.is c.expand_template-expanded.ensures
 
-pub returns : goal.returns
-returns c =
-    let s = (goal.at.returns c).Start in
-    expands (state s) (fields s) _ _ c.in_ok-expanded.ensures c.install.ensures
+pub install-requires : goal.install-requires
+install-requires c = record { made = c.requires; made_set = (examined (goal.at.install-requires c).In-Ok).made }
+
+pub returns-in-Ok : goal.returns-in-Ok
+returns-in-Ok c =
+    let s = (goal.at.returns-in-Ok c).Start in
+    expands (state s) (fields s) _ _ (examined (goal.at.returns-in-Ok c).In-Ok) c.install.ensures
+
+pub returns-in-Err : goal.returns-in-Err
+returns-in-Err c =
+    let s = (goal.at.returns-in-Err c).Start in
+    expands-not (state s) (fields s) _ c.requires (subst (λ (r : Result ClipSet Refusal). Examines (by_template (fields s)) r) c.in-Err.is c.expand_template-expanded.ensures)

@@ -1,0 +1,2 @@
+-- What no one function's proof has alone.
+pub mod Examined
