@@ -13,8 +13,8 @@ mod setless;
 mod text;
 mod track_hash;
 
-ghost use Rattle.std.specs.Prelude.{◌≡◌, None, IfSome, length};
-ghost use Rattle.resolver.specs.State.{Made};
+ghost use Rattle.std.specs.Prelude.{◌≡◌, None, length};
+ghost use Rattle.resolver.specs.State.{Made, left};
 ghost use Rattle.cases.specs.Prepared.{MadeSlots, Looking, Installing};
 ghost use Rattle.cases.specs.Sessions.{Stays};
 
@@ -27,7 +27,8 @@ use crate::lines::lent::Lent;
 use crate::lines::limits::LINE;
 use crate::lines::{calls, input, lent, named_calls, order, parted, told};
 use crate::prepared::Slots;
-use crate::text::{Replies, ended, word};
+use crate::text::{Replies, word};
+use definitions::refusal::Refusal;
 use resolver::Resolver;
 use std::io::Stdin;
 
@@ -238,6 +239,14 @@ fn change(kind: Change, line: &[u8], at: usize, session: Session, out: &mut Repl
     let Some(told) = crate::changes::change(kind, line, at, session.resolver) else {
         return unreadable(line, session, out);
     };
+    changed(told, session, out)
+}
+
+// The reply is told. Where a number refuses the call, what stood still stands.
+fn changed(told: Result<Resolver, Refusal>, session: Session, out: &mut Replies) -> Session
+    ensures lent { result.lent ≡ session.lent }
+    ensures stands { result.resolver ≡ left session.resolver told }
+{
     out.changed(told.err());
     Session {
         resolver: told.unwrap_or(session.resolver),
@@ -251,72 +260,73 @@ fn with_slot(call: Slotted, line: &[u8], session: Session, slots: Slots, out: &m
     ensures { (Made result.session.resolver) × (MadeSlots result.slots) }
 {
     let session = counted(session);
-    let held = match call {
+    match call {
         Slotted::Examine(at) => examine(line, at, session, slots, out),
         Slotted::Prepared(at) => tell(line, at, session, slots, out),
         Slotted::Install(at) => install(line, at, session, slots, out),
-    };
-    match held {
-        Some(held) => held,
-        None => Held {
-            session: unreadable(line, session, out),
-            slots,
-        },
+    }
+}
+
+// A line with a slot that could not be read: it changes nothing, no slot either, and is told.
+fn not_read(line: &[u8], session: Session, slots: Slots, out: &mut Replies) -> Held
+    requires { Made session.resolver }
+    ensures { Stays session result.session × (result.slots ≡ slots) }
+{
+    Held {
+        session: unreadable(line, session, out),
+        slots,
     }
 }
 
 // The prepared set is put in the slot, unless it is refused; then the slot is as it was.
-fn examine(
-    line: &[u8],
-    at: usize,
-    session: Session,
-    slots: Slots,
-    out: &mut Replies,
-) -> Option<Held>
+fn examine(line: &[u8], at: usize, session: Session, slots: Slots, out: &mut Replies) -> Held
     requires { (Made session.resolver) × (MadeSlots slots) }
-    ensures { IfSome result (Looking session) }
+    ensures { Looking session result }
 {
-    let looked = examinings::examine(line, at)?;
-    out.changed(looked.prepared.err());
-    let Ok(set) = looked.prepared else {
-        return Some(Held { session, slots });
+    let Some(looked) = examinings::examine(line, at) else {
+        return not_read(line, session, slots, out);
     };
-    let slots = prepared::put(slots, looked.slot, set);
-    Some(Held { session, slots })
+    match looked.prepared {
+        Ok(set) => {
+            out.changed(None);
+            let slots = prepared::put(slots, looked.slot, set);
+            Held { session, slots }
+        }
+        Err(why) => {
+            out.changed(Some(why));
+            Held { session, slots }
+        }
+    }
 }
 
 // The set of a slot.
-fn tell(line: &[u8], at: usize, session: Session, slots: Slots, out: &mut Replies) -> Option<Held>
+fn tell(line: &[u8], at: usize, session: Session, slots: Slots, out: &mut Replies) -> Held
     requires fact_1 { Made session.resolver }
     requires fact_2 { MadeSlots slots }
-    ensures { IfSome result (Looking session) }
+    ensures { Looking session result }
 {
-    let slot = prepared::slot_at(line, at)?;
-    ended(line, slot.at)?;
-    match prepared::get(slots, slot.value) {
+    let Some(slot) = prepared::last_slot(line, at) else {
+        return not_read(line, session, slots, out);
+    };
+    match prepared::get(slots, slot) {
         Some(set) => out.put_set(&standing::installed(set)),
         None => out.empty(),
     }
-    Some(Held { session, slots })
+    Held { session, slots }
 }
 
 // The set of a slot takes the place of the standing one; where the slot has none, no call is made.
-fn install(
-    line: &[u8],
-    at: usize,
-    session: Session,
-    slots: Slots,
-    out: &mut Replies,
-) -> Option<Held>
+fn install(line: &[u8], at: usize, session: Session, slots: Slots, out: &mut Replies) -> Held
     requires fact_1 { Made session.resolver }
     requires fact_2 { MadeSlots slots }
-    ensures { IfSome result (Installing session slots) }
+    ensures { Installing session slots result }
 {
-    let slot = prepared::slot_at(line, at)?;
-    ended(line, slot.at)?;
-    let Some(set) = prepared::get(slots, slot.value) else {
+    let Some(slot) = prepared::last_slot(line, at) else {
+        return not_read(line, session, slots, out);
+    };
+    let Some(set) = prepared::get(slots, slot) else {
         out.empty();
-        return Some(Held { session, slots });
+        return Held { session, slots };
     };
     out.changed(None);
     let resolver = by_value::install(session.resolver, set);
@@ -324,7 +334,7 @@ fn install(
         resolver,
         ..session
     };
-    Some(Held { session, slots })
+    Held { session, slots }
 }
 
 // Of `[0; LINE]` itself, without the parameter, the check did not come to an end in 70 seconds.

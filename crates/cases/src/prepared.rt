@@ -3,7 +3,7 @@ ghost use Rattle.std.specs.Prelude.{◌<◌, IfSome};
 ghost use Rattle.clip.specs.Preparing.{MadeSet};
 ghost use Rattle.cases.specs.Prepared.{MadeSlots, NoneHeld, Puts, Gets};
 
-use crate::text::{Read, read_at_most};
+use crate::text::{Read, ended, read_at_most};
 use clip::ClipSet;
 
 pub(crate) const COUNT: usize = 4;
@@ -28,9 +28,9 @@ pub(crate) fn put(slots: Slots, slot: usize, set: ClipSet) -> Slots
     requires fact_3 { MadeSet set }
     ensures { Puts slots slot set result }
 {
-    let mut sets = slots.sets;
-    sets[slot] = Some(set);
-    Slots { sets }
+    let mut after = slots;
+    after.sets[slot] = Some(set);
+    after
 }
 
 pub(crate) fn get(slots: Slots, slot: usize) -> Option<ClipSet>
@@ -46,4 +46,13 @@ pub(crate) fn slot_at(line: &[u8], at: usize) -> Option<Read<usize>>
     ensures { IfSome result (λ n. n.value < 4) }
 {
     read_at_most(line, at, COUNT - 1)
+}
+
+// The same, and the line ends behind it.
+pub(crate) fn last_slot(line: &[u8], at: usize) -> Option<usize>
+    ensures { IfSome result (λ n. n < 4) }
+{
+    let slot = slot_at(line, at)?;
+    ended(line, slot.at)?;
+    Some(slot.value)
 }

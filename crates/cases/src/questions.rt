@@ -41,6 +41,8 @@ pub(crate) fn ask(
     )
 }
 
+// Apart from its caller: its lists take a megabyte of stack, which the other lines need not touch.
+#[inline(never)]
 fn answer(
     kind: Question,
     line: &[u8],

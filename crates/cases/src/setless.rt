@@ -65,6 +65,8 @@ fn normalized_in(
     }
 }
 
+// Built into its caller, whose other questions then have their lists at the same place of the stack.
+#[inline(always)]
 fn normalized(
     times: &[f64],
     lent: &[f64],

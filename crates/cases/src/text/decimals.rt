@@ -83,7 +83,8 @@ fn value_of(line: &[u8], negative: bool, d: Decimal) -> Option<Read<f64>>
     })
 }
 
-// The next word, a double that is written as a decimal.
+// The next word, a double that is written as a decimal. Built into its callers, what it reads stays in registers.
+#[inline(always)]
 #[tactic(auto, unfolding(crate::specs::Decimals::read_written))]
 pub(crate) fn read_written(line: &[u8], at: usize) -> Option<Read<f64>>
     ensures { result ≡ read_written line.now at }

@@ -56,7 +56,14 @@ impl Replies {
         self.full = at + 1;
     }
 
+    // In one piece where there is room for it.
     pub(crate) fn put(&mut self, text: &[u8]) {
+        let from = self.full;
+        if text.len() <= ROOM - from {
+            self.bytes[from..from + text.len()].copy_from_slice(text);
+            self.full = from + text.len();
+            return;
+        }
         for b in text {
             self.put_byte(*b);
         }
@@ -69,9 +76,12 @@ impl Replies {
 
     // The bits of a number, as 16 hex digits.
     pub(crate) fn put_bits(&mut self, value: u64) {
-        for b in value.to_be_bytes() {
-            self.put_pair(b);
+        let mut digits = [0u8; 16];
+        for (i, b) in value.to_be_bytes().iter().enumerate() {
+            digits[2 * i] = glyph(*b / 16);
+            digits[2 * i + 1] = glyph(*b);
         }
+        self.put(&digits);
     }
 
     // Bytes as hex pairs, `-` for none.
