@@ -105,7 +105,7 @@ impl From<Result<ClipTime, Refusal>> for TimeCode {
     }
 }
 
-fn sample_code(mark: u8, value: f64, sample: Option<(u64, u64)>) -> ValueCode
+pub fn sample_code(mark: u8, value: f64, sample: Option<(u64, u64)>) -> ValueCode
     ensures { result ≡ sample_code mark value sample }
 {
     match sample {
@@ -128,7 +128,7 @@ fn sample_code(mark: u8, value: f64, sample: Option<(u64, u64)>) -> ValueCode
     }
 }
 
-fn answer_code(answer: Answer, sample: Option<(u64, u64)>) -> ValueCode
+pub fn answer_code(answer: Answer, sample: Option<(u64, u64)>) -> ValueCode
     ensures { result ≡ answer_code answer sample }
 {
     match answer {
@@ -145,7 +145,7 @@ impl From<Result<ValueRead, Refusal>> for ValueCode {
         match r {
             Ok(read) => answer_code(read.answer, read.sample),
             Err(e) => ValueCode {
-                number: u8::from(e),
+                number: u8::from(e), // of a value: 20 or 23, 1, 2, 9, 10
                 mark: 0,
                 sampled: false,
                 value: 0.0,
@@ -176,7 +176,7 @@ impl From<Result<ValueState, Refusal>> for UntimedCode {
                 state: state_code(s),
             },
             Err(e) => UntimedCode {
-                number: u8::from(e),
+                number: u8::from(e), // untimed: 20, 1, 2, 9
                 state: 0,
             },
         }
@@ -209,7 +209,7 @@ impl From<Result<Baked, Refusal>> for BakedCode {
                 count: b.count,
             },
             Err(e) => BakedCode {
-                number: u8::from(e),
+                number: u8::from(e), // of a bake: 20 or 23, 1, 2, 9, 22
                 mark: 0,
                 value: 0.0,
                 count: 0,
