@@ -286,17 +286,12 @@ fn examine(line: &[u8], at: usize, session: Session, slots: Slots, out: &mut Rep
     let Some(looked) = examinings::examine(line, at) else {
         return not_read(line, session, slots, out);
     };
-    match looked.prepared {
-        Ok(set) => {
-            out.changed(None);
-            let slots = prepared::put(slots, looked.slot, set);
-            Held { session, slots }
-        }
-        Err(why) => {
-            out.changed(Some(why));
-            Held { session, slots }
-        }
-    }
+    out.changed(looked.prepared.err());
+    let Ok(set) = looked.prepared else {
+        return Held { session, slots };
+    };
+    let slots = prepared::put(slots, looked.slot, set);
+    Held { session, slots }
 }
 
 // The set of a slot.

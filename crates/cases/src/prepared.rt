@@ -28,9 +28,9 @@ pub(crate) fn put(slots: Slots, slot: usize, set: ClipSet) -> Slots
     requires fact_3 { MadeSet set }
     ensures { Puts slots slot set result }
 {
-    let mut after = slots;
-    after.sets[slot] = Some(set);
-    after
+    let mut sets = slots.sets;
+    sets[slot] = Some(set);
+    Slots { sets }
 }
 
 pub(crate) fn get(slots: Slots, slot: usize) -> Option<ClipSet>

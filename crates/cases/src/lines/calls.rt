@@ -1,5 +1,8 @@
 // Which call a line makes, and where its arguments begin. The calls with a slot stand apart, since they alone need the slots.
-use crate::text::{is_end, skip_blanks, word, word_end};
+use crate::text::{first, is_end, part, skip_blanks, word_end};
+
+// The letters of the longest call.
+const LONGEST: usize = 9;
 
 #[derive(Clone, Copy)]
 pub(crate) enum Change {
@@ -45,14 +48,16 @@ pub(crate) enum Slotted {
     Install(usize),
 }
 
-// The place behind the line's first word.
-pub(crate) fn behind_first(line: &[u8]) -> usize {
-    word_end(line, skip_blanks(line, 0))
+// The line's first word, and the place behind it. Of one that is too long for a call's name no more is looked at than tells that.
+pub(crate) fn first_word(line: &[u8]) -> (&[u8], usize) {
+    let from = skip_blanks(line, 0);
+    let at = word_end(first(line, from.saturating_add(LONGEST + 1)), from);
+    (part(line, from, at), at)
 }
 
 pub(crate) fn slotted_of(line: &[u8]) -> Option<Slotted> {
-    let at = behind_first(line);
-    match word(line, 0) {
+    let (name, at) = first_word(line);
+    match name {
         b"examine" => Some(Slotted::Examine(at)),
         b"prepared" => Some(Slotted::Prepared(at)),
         b"install" => Some(Slotted::Install(at)),
@@ -64,8 +69,8 @@ pub(crate) fn call_of(line: &[u8]) -> Call {
     if is_end(line, 0) {
         return Call::Nothing;
     }
-    let at = behind_first(line);
-    match word(line, 0) {
+    let (name, at) = first_word(line);
+    match name {
         b"samples" => Call::Samples(at),
         b"order" => Call::Order(at),
         b"dsamples" => Call::Parted(at),
@@ -73,7 +78,7 @@ pub(crate) fn call_of(line: &[u8]) -> Call {
         b"explicit" => Call::Changing(Change::Explicit, at),
         b"template" => Call::Changing(Change::Template, at),
         b"retime" => Call::Changing(Change::Retime, at),
-        name => match question_of(name) {
+        _ => match question_of(name) {
             Some(kind) => Call::Asking(kind, at),
             None => Call::Unreadable,
         },

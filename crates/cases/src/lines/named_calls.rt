@@ -1,6 +1,5 @@
 // Which call to the dispatcher a line makes, and where its arguments begin. They stand apart, since they alone need its lists.
-use crate::lines::calls::behind_first;
-use crate::text::word;
+use crate::lines::calls::first_word;
 
 #[derive(Clone, Copy)]
 pub(crate) enum NamedChange {
@@ -20,8 +19,8 @@ pub(crate) enum NamedQuestion {
 }
 
 pub(crate) fn change_of(line: &[u8]) -> Option<NamedChange> {
-    let at = behind_first(line);
-    match word(line, 0) {
+    let (name, at) = first_word(line);
+    match name {
         b"dexplicit" => Some(NamedChange::Explicit(at)),
         b"dtemplate" => Some(NamedChange::Template(at)),
         b"dretime" => Some(NamedChange::Retime(at)),
@@ -31,8 +30,8 @@ pub(crate) fn change_of(line: &[u8]) -> Option<NamedChange> {
 }
 
 pub(crate) fn question_of(line: &[u8]) -> Option<NamedQuestion> {
-    let at = behind_first(line);
-    match word(line, 0) {
+    let (name, at) = first_word(line);
+    match name {
         b"dvalue" => Some(NamedQuestion::Value(false, at)),
         b"dread" => Some(NamedQuestion::Value(true, at)),
         b"dtrack" => Some(NamedQuestion::Track(at)),
