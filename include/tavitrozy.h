@@ -45,12 +45,12 @@
  * Animation hosts and -ffast-math often set FTZ and DAZ; many tracks are then wrong. tavitrozy_environment_is_exact() tells, for the calling thread.
  *
  * STACK. Bytes of stack that a call needs at most, as tests/stack.c measures it with sets at the limits (make test holds the two together):
- *   fresh 256   accept 102400   accept_template 106496   examine 122624   examine_template 126720
- *   install 23040   retime 100352   active_clip 256   clip_time 256   value 1280
+ *   fresh 256   accept 88064   accept_template 92160   examine 108288   examine_template 112384
+ *   install 23040   retime 77824   active_clip 256   clip_time 256   value 1280
  *   untimed 512   stage_sample_count 5120   stage_sample_times 5120   stage_samples 5120   change_count 10496
  *   bake 11520   read 256   name 256   template_clip_times 6400   normalize 58368
  *   total_key 256   dispatcher_fresh 256   dispatcher_accept 79616   dispatcher_accept_template 83712   dispatcher_install 33280
- *   dispatcher_retime 100096   dispatcher_value 1280   dispatcher_bake 11776
+ *   dispatcher_retime 77568   dispatcher_value 1280   dispatcher_bake 11776
  */
 #ifndef TAVITROZY_H
 #define TAVITROZY_H
